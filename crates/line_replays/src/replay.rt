@@ -1,13 +1,14 @@
 //! A schedule, from the bytes in to the bytes out.
 
-ghost use Rattle.std.specs.Prelude.{◌≡◌, true, IfErr};
+ghost use Rattle.std.specs.Prelude.{◌≡◌, true, IfErr, IfOk};
 ghost use Rattle.transcripts.specs.Limits.{IsLineNumber};
-ghost use Rattle.line_replays.specs.Replayed.{Replayed};
+ghost use Rattle.line_players.specs.LineReplays.{IsNewReplay};
+ghost use Rattle.line_players.specs.Replayed.{Replayed};
 
-use crate::line_replay::LineReplay;
 use gate_core::{Core, Driver};
+use line_players::{LineReplay, Player, SessionPlayer};
 use schedule_lines::bytes::{ReplayFault, fault_after};
-use std::alloc::Global;
+use std::alloc::{AllocError, Global};
 use std::io::{Read, Write};
 use transcripts::no_memory;
 
@@ -43,7 +44,7 @@ pub struct Ended<D> {
     /// Whether all lines were done, or the fault.
     pub result: Result<(), ReplayFault>,
     /// The replay as it is then; None where there was no memory to begin it.
-    pub replay: Option<LineReplay<D>>,
+    pub replay: Option<LineReplay<SessionPlayer<D>>>,
 }
 
 /// Replays a schedule over whatever gates, to the first fault, and returns the replay as it is at its end.
@@ -56,7 +57,7 @@ pub fn replay_to_end<D: Driver, R: Read, W: Write>(
         Replayed (R.remaining reader.old) (R.remaining reader.new) (W.contents writer.old) (W.contents writer.new) result.result }
     ensures line { IfErr result.result (λ fault. IsLineNumber fault.line) }
 {
-    match LineReplay::<D>::new(alloc) {
+    match new_replay::<D>(alloc) {
         Ok(mut replay) => {
             let result = replay.do_lines(reader, writer);
             Ended {
@@ -69,4 +70,12 @@ pub fn replay_to_end<D: Driver, R: Read, W: Write>(
             replay: None,
         },
     }
+}
+
+/// A replay over whatever gates, before its first line.
+fn new_replay<D: Driver>(alloc: Global) -> Result<LineReplay<SessionPlayer<D>>, AllocError>
+    ensures { IfOk result (λ replay. IsNewReplay ⟦<SessionPlayer<D> as Player>⟧.plays replay) }
+{
+    let player = SessionPlayer::new(alloc)?;
+    LineReplay::new(alloc, player)
 }

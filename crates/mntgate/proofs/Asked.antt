@@ -18,7 +18,7 @@ use Rattle.program_replay.specs.Replays.{EndsReplayed, done_in, done_of, ending_
 use Rattle.program_races.specs.Outcomes.{EndsTold}
 use Rattle.mntgate.specs.Asking.{EndsAsked, EndsOutcomes, EndsRun, TellsSomePassed}
 use Rattle.schedule_lines.specs.declared.bytes.replay_faults.ReplayFault.{ReplayFault}
-use Rattle.line_replays.specs.Replayed.{Replayed}
+use Rattle.line_players.specs.Replayed.{Replayed}
 
 -- a file's replay never ends with `Done`
 never_of_file : (ending : ProgramEnding) → of_file ending ≡ Done → ⊥

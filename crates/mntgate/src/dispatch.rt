@@ -5,7 +5,7 @@ ghost use Rattle.command_line.specs.CommandLine.{MayAskPlainly, ask_plainly};
 ghost use Rattle.exit_status.specs.declared.ends.ProgramEnding.TheVariants.{Done, Passed, Ran};
 ghost use Rattle.program_replay.specs.Replays.{EndsReplayed};
 ghost use Rattle.mntgate.specs.Asking.{EndsAsked, EndsRun, TellsSomePassed, WasSomeRun};
-ghost use Rattle.line_replays.specs.Replayed.{Replayed};
+ghost use Rattle.line_players.specs.Replayed.{Replayed};
 
 use command_line::{Numbers, ProgramRequest, RunReport, read_words};
 use exit_status::{ProgramEnding, refused, text_told};

@@ -2,15 +2,16 @@
 
 ghost use Rattle.std.specs.Prelude.{◌≡◌, true, IfErr};
 ghost use Rattle.transcripts.specs.Limits.{IsLineNumber};
-ghost use Rattle.line_replays.specs.Replayed.{Replayed};
+ghost use Rattle.line_players.specs.Replayed.{Replayed};
 
 use diagnostics::{Context, Faulty, tell_faulty};
 use exit_status::fault_told;
 use gate_core::Driver;
+use line_players::LineReplay;
 use line_replays::replay_to_end;
 use schedule_lines::bytes::{ReplayFault, fault_after, write_out};
 use schedule_text::Output;
-use shown_events::{Form, Look, Show, html};
+use shown_events::{Form, Look, ScreenPlayer, html};
 use std::alloc::Global;
 use std::io::{Read, Write};
 use transcripts::{no_memory, settled};
@@ -55,8 +56,9 @@ pub fn show_told<D: Driver, R: Read, W: Write, E: Write>(
     writer: &mut W,
     errors: &mut E,
 ) -> Result<(), ReplayFault> {
-    let mut show = match Show::<D>::new(telling.alloc, look) {
-        Ok(show) => show,
+    let player = ScreenPlayer::<D>::new(telling.alloc, look);
+    let mut replay = match LineReplay::new(telling.alloc, player) {
+        Ok(replay) => replay,
         Err(error) => {
             let fault = fault_after(0, no_memory(error));
             tell(telling, fault, (&[], None), errors);
@@ -64,18 +66,18 @@ pub fn show_told<D: Driver, R: Read, W: Write, E: Write>(
         }
     };
     let ended = match look.form {
-        Form::Picture => show_page(&mut show, telling, reader, writer),
-        _ => show.do_lines(reader, writer),
+        Form::Picture => show_page(&mut replay, telling, reader, writer),
+        _ => replay.do_lines(reader, writer),
     };
     if let Err(fault) = ended {
-        tell(telling, fault, (show.rest(), show.tasks()), errors);
+        tell(telling, fault, (replay.rest(), replay.tasks()), errors);
     }
     ended
 }
 
 /// Shows a schedule on a page, which is whole also where the schedule has a fault.
 fn show_page<D: Driver, R: Read, W: Write>(
-    show: &mut Show<D>,
+    replay: &mut LineReplay<ScreenPlayer<D>>,
     telling: Telling<'_>,
     reader: &mut R,
     writer: &mut W,
@@ -84,7 +86,7 @@ fn show_page<D: Driver, R: Read, W: Write>(
     html::print_head(&mut out, telling.file.unwrap_or("A schedule"));
     out.text(b"<figure>\n");
     write_page(&mut out, writer)?;
-    let ended = show.do_lines(reader, writer);
+    let ended = replay.do_lines(reader, writer);
     out.text(b"</figure>\n");
     html::print_end(&mut out);
     let written = write_page(&mut out, writer);

@@ -1,6 +1,6 @@
 //! A schedule that can be seen: a replay that shows each step, also those of a `run`, with the call that it is of, what it does to the model
 //! and for whom it waits. What is seen is one trace of entries (`trace`), which each form prints in its way: as lines, in columns, as JSON, as a
-//! picture. What a replay without a form prints is `line_replays`'s; here are the same session and the same steps.
+//! picture. A replay without a form has another player (`line_players`); here are the same session and the same steps.
 #![tactic(auto)]
 
 mod columns;
@@ -18,11 +18,13 @@ mod reasons;
 pub mod records;
 mod rows;
 mod screen;
-pub mod show;
+pub mod screen_player;
+pub mod shown;
 mod terms;
 mod trace;
 mod values;
 mod waits;
 
 pub use forms::{Form, Look, Names, Style};
-pub use show::{Show, shown_of, with_waits};
+pub use screen_player::ScreenPlayer;
+pub use shown::{shown_of, with_waits};

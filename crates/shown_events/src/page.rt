@@ -1,26 +1,19 @@
 //! What is printed.
 
-use schedule_lines::bytes::write_out;
+ghost use Rattle.std.specs.Prelude.{◌≡◌, OnErr};
+
+use line_players::print_line;
 use schedule_text::{Fault, Output};
 use std::alloc::{AllocError, Global};
-use std::io::Write;
-use transcripts::settled;
 
-/// How many bytes are written out at once, at least, while there is more to do.
-const BLOCK: usize = 65_536;
-
-/// What was printed and not yet written out. What prints has no way out of its own: a fault is noted, as is memory that was refused, and where
-/// the line ends all of it is taken back.
+/// What a line prints, until it is done. What prints has no way out of its own: memory that was refused is noted, and then nothing of the line is
+/// printed.
 #[derive(Drop)]
 pub(crate) struct Page {
     pub(crate) alloc: Global,
     /// How many lines of the schedule are done.
     pub(crate) lines: u32,
     pub(crate) out: Output,
-    /// So many bytes are of lines that are done.
-    done: usize,
-    /// The fault of what was printed since.
-    fault: Option<Fault>,
 }
 
 impl Page {
@@ -30,8 +23,6 @@ impl Page {
             alloc,
             lines: 0,
             out: Output::new(alloc),
-            done: 0,
-            fault: None,
         }
     }
 
@@ -40,42 +31,27 @@ impl Page {
         self.out.bytes.len()
     }
 
-    /// Whether there are so many that they are to be written out.
-    pub(crate) fn is_full(&self) -> bool {
-        self.len() >= BLOCK
-    }
-
-    /// Writes out what was printed, and forgets it.
-    pub(crate) fn write_out<W: Write>(&mut self, writer: &mut W) -> Result<(), Fault> {
-        self.settle()?;
-        let written = write_out(writer, self.out.bytes.as_slice());
-        self.out.clear();
-        self.done = 0;
-        written
-    }
-
     /// Notes whether there was memory for something.
     pub(crate) fn note(&mut self, printed: Result<(), AllocError>) {
         self.out.is_whole &= printed.is_ok();
     }
 
-    /// Notes a fault.
-    pub(crate) fn fail(&mut self, fault: Fault) {
-        self.fault = Some(fault);
+    /// Prints on the output what was printed here, or nothing of it where there was no memory for all of it; forgets it then.
+    pub(crate) fn print(&mut self, output: &mut Output) -> Result<(), Fault>
+        ensures { OnErr result (output.new.bytes.items ≡ output.old.bytes.items) }
+    {
+        let printed = print_line(&self.out, output);
+        self.out.clear();
+        printed
     }
 
-    /// Ends what a line prints. Where it has a fault nothing of it stays.
-    pub(crate) fn settle(&mut self) -> Result<(), Fault> {
-        let ended = match self.fault.take() {
-            Some(fault) => Err(fault),
-            None => settled(&self.out),
-        };
-        if ended.is_err() {
-            self.out.bytes.truncate(self.done);
-            self.out.is_whole = true;
-        }
-        self.done = self.out.bytes.len();
-        ended
+    /// Ends a line: prints what it has printed on the output, and counts it.
+    pub(crate) fn end_line(&mut self, output: &mut Output) -> Result<(), Fault>
+        ensures { OnErr result (output.new.bytes.items ≡ output.old.bytes.items) }
+    {
+        self.print(output)?;
+        self.lines = self.lines.saturating_add(1);
+        Ok(())
     }
 
     /// Prints a text.

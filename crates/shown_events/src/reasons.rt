@@ -11,13 +11,22 @@ use transcripts::Session;
 /// How many accesses a task may hold at one mount.
 const MAX_ACCESSES: u16 = 1024;
 
+/// What a call names by a number.
+#[derive(Clone, Copy)]
+pub(crate) enum Numbered {
+    Mount,
+    Processor,
+    Level,
+    Node,
+}
+
 /// Why a task can't begin a call.
 #[derive(Clone, Copy)]
 pub(crate) enum Reason {
     /// This call of the task is under way.
     UnderWay(Op),
     /// There is no mount, processor, level or node of this number.
-    NoSuch(&'static str, u8),
+    NoSuch(Numbered, u8),
     /// A growth by no block.
     NoBlocks,
     /// The task is inside this level.
@@ -83,23 +92,23 @@ impl<'a, D: Driver> Asker<'a, D> {
     }
 
     fn no_mount(&self, mount: u8) -> Option<Reason> {
-        self.unless_word("mount", mount, WordName::MountFlags(mount))
+        self.unless_word(Numbered::Mount, mount, WordName::MountFlags(mount))
     }
 
     fn no_cpu(&self, cpu: u8) -> Option<Reason> {
-        self.unless_word("cpu", cpu, WordName::LevelCount(1, cpu))
+        self.unless_word(Numbered::Processor, cpu, WordName::LevelCount(1, cpu))
     }
 
     fn no_level(&self, level: u8) -> Option<Reason> {
-        self.unless_word("level", level, WordName::Block(level))
+        self.unless_word(Numbered::Level, level, WordName::Block(level))
     }
 
     fn no_node(&self, node: u8) -> Option<Reason> {
-        self.unless_word("node", node, WordName::Node(node))
+        self.unless_word(Numbered::Node, node, WordName::Node(node))
     }
 
     /// That there is no such thing, unless the gates have its word.
-    fn unless_word(&self, what: &'static str, number: u8, word: WordName) -> Option<Reason> {
+    fn unless_word(&self, what: Numbered, number: u8, word: WordName) -> Option<Reason> {
         match self.session.word(word) {
             Some(_) => None,
             None => Some(Reason::NoSuch(what, number)),
@@ -174,6 +183,18 @@ fn too_many(op: Op) -> Option<Reason> {
     }
 }
 
+impl Numbered {
+    /// Its name.
+    fn name(self) -> &'static str {
+        match self {
+            Numbered::Mount => "mount",
+            Numbered::Processor => "cpu",
+            Numbered::Level => "level",
+            Numbered::Node => "node",
+        }
+    }
+}
+
 impl Reason {
     /// Prints it, as `holds level 1`.
     pub(crate) fn print(self, out: &mut Output) {
@@ -184,7 +205,7 @@ impl Reason {
             }
             Reason::NoSuch(what, number) => {
                 out.text(b"there is no ");
-                out.text(what.as_bytes());
+                out.text(what.name().as_bytes());
                 out.numbered(b" ", u64::from(number));
             }
             Reason::NoBlocks => out.text(b"no block is asked for"),
@@ -208,7 +229,7 @@ impl Reason {
         match self {
             Reason::UnderWay(op) => Term::new("under way").word("call", call_term(op).name),
             Reason::NoSuch(what, number) => Term::new("no such number")
-                .word("of", what)
+                .word("of", what.name())
                 .index("number", number),
             Reason::NoBlocks => Term::new("no blocks"),
             Reason::Holds(level) => Term::new("holds level").index("level", level),

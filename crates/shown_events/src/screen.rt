@@ -12,7 +12,7 @@ use crate::waits::Wait;
 use cpu_words::{Event, WordName};
 use gate_schedules::{Driver, Progress, Step};
 use gate_world::Op;
-use schedule_text::{Fault, HookFailure, Line, Output, Request, TaskCommand};
+use schedule_text::{HookFailure, Output, Request, TaskCommand};
 use std::alloc::Global;
 use transcripts::Session;
 use transcripts::session::{EVENTS, JudgedStep};
@@ -48,8 +48,6 @@ type LastWaits = [Option<Wait>; TASKS];
 #[derive(Drop)]
 pub(crate) struct Screen {
     pub(crate) page: Page,
-    /// How many tasks there are, once there is a configuration.
-    pub(crate) tasks: Option<u8>,
     style: Style,
     printer: Printer,
     seen: [Seen; TASKS],
@@ -72,7 +70,6 @@ impl Screen {
         };
         Screen {
             page: Page::new(alloc),
-            tasks: None,
             style: look.style,
             printer,
             seen: [nothing; TASKS],
@@ -81,11 +78,9 @@ impl Screen {
 
     /// Begins to show a session.
     pub(crate) fn begin<D: Driver>(&mut self, session: &Session<D>) {
-        let tasks = session.tasks();
-        self.tasks = Some(tasks);
         match &mut self.printer {
-            Printer::Columns(columns) => columns.begin(tasks, &mut self.page),
-            Printer::Picture(picture) => picture.begin(tasks, session.model()),
+            Printer::Columns(columns) => columns.begin(session.tasks(), &mut self.page),
+            Printer::Picture(picture) => picture.begin(session.tasks(), session.model()),
             Printer::Events | Printer::Json | Printer::Waits(_) => {}
         }
     }
@@ -99,25 +94,8 @@ impl Screen {
         }
     }
 
-    /// Does what a line asks for and shows it, or sets a session up. A fault is noted on the page.
-    pub(crate) fn do_line<D: Driver>(&mut self, session: &mut Option<Session<D>>, line: Line) {
-        match line {
-            Line::Skipped => {}
-            Line::Config(config) => match Session::new(self.page.alloc, config) {
-                Ok(opened) => {
-                    self.begin(&opened);
-                    *session = Some(opened);
-                }
-                Err(fault) => self.page.fail(fault),
-            },
-            Line::Request(request) => match session {
-                Some(session) => self.do_request(session, request),
-                None => self.page.fail(Fault::ConfigExpected),
-            },
-        }
-    }
-
-    fn do_request<D: Driver>(&mut self, session: &mut Session<D>, request: Request) {
+    /// Does what is asked of the gates, and shows it.
+    pub(crate) fn do_request<D: Driver>(&mut self, session: &mut Session<D>, request: Request) {
         match request {
             Request::Words => self.list(session, ListingKind::Words),
             Request::Tree => self.list(session, ListingKind::Tree),

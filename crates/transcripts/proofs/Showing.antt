@@ -1,6 +1,6 @@
 -- Sessions after an entry: they show the play after it.
-use Rattle.std.proofs.Common.{◌≡◌, ℕ, refl, sym, ap, subst, ◌∙◌, List}
-use Rattle.std.specs.Prelude.{Option, Some, None, Result, Ok, Err, OnOk, IsOk, IsSome}
+use Rattle.std.proofs.Common.{◌≡◌, ℕ, sym, ap, subst, ◌∙◌, List}
+use Rattle.std.specs.Prelude.{Option, Some, None, Result, Ok, Err, OnOk, IsOk}
 use Rattle.access_model.specs.States.{Standing}
 use Rattle.access_model.specs.Actions.{IsAllowed}
 use Rattle.access_model.specs.Histories.{Done, end_of}
@@ -18,7 +18,7 @@ use Rattle.gate_schedules.specs.declared.steps.Progress.{Progress}
 use Rattle.gate_schedules.specs.declared.steps.Step.{Step}
 use Rattle.schedule_lines.specs.declared.faults.Fault.{Fault}
 use Rattle.transcripts.specs.Transcript.{ReplayState, played, after_event}
-use Rattle.transcripts.specs.Sessions.{ShowsPlay, ShowsPlayIfAny}
+use Rattle.transcripts.specs.Sessions.{ShowsPlay}
 use Rattle.transcripts.specs.declared.session.Session.{Session}
 use Rattle.transcripts.proofs.Playing.{reached_more, allowed, step_adds}
 
@@ -105,15 +105,3 @@ stands progress = Ok progress
 -- two answers that are the same are of the same progress
 pub same_progress : (progress answered : Progress) → stands progress ≡ stands answered → progress ≡ answered
 same_progress progress answered e = cc
-
--- with no session there is no play
-pub no_play : {D : Type 0} (shows : D → Config → World → Type 0) (s : Option (Session D)) (p : Option ReplayState) → ShowsPlayIfAny shows s p → s ≡ None → p ≡ None
-no_play shows None None h e = refl
-no_play shows None (Some p) h e = absurd h
-no_play shows (Some s) p h e = cc
-
--- with a session there is a play
-pub a_play : {D : Type 0} (shows : D → Config → World → Type 0) (s : Option (Session D)) (p : Option ReplayState) → ShowsPlayIfAny shows s p → IsSome s → IsSome p
-a_play shows None p h k = cc
-a_play shows (Some s) None h k = absurd h
-a_play shows (Some s) (Some p) h k = refl

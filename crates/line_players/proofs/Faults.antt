@@ -1,0 +1,323 @@
+-- Which faults are a schedule's own: all but those of a read, a write or a growth that failed.
+use Rattle.std.proofs.Common.{◌≡◌, ℕ, refl, subst, Bool, true, false, List, [], Option, Some, None, Result, Ok, Err}
+use Rattle.std.specs.Prelude.{IfErr, ok_or, if◌then◌else◌, ◌==◌, bytes_eq, codes, not}
+use Rattle.access_model.specs.declared.errors.GateError.TheVariants.{NoMemory, Invalid}
+use Rattle.schedule_text.specs.declared.commands.Line.{Line}
+use Rattle.schedule_text.specs.declared.commands.Line.TheVariants.{Skipped, Config as ConfigLine, Request as RequestLine}
+use Rattle.schedule_text.specs.declared.commands.Request.{Request}
+use Rattle.schedule_text.specs.declared.commands.Request.TheVariants.{Words, Tree, Model, Task}
+use Rattle.schedule_text.specs.declared.commands.TaskCommand.{TaskCommand}
+use Rattle.schedule_text.specs.declared.verbs.Verb.{Verb}
+use Rattle.schedule_text.specs.declared.verbs.Verb.TheVariants.{Want, TryWant, Drop, Start, TryStart, End, WantWrite, DropWrite, Change, TryChange, Remount, Callback, Freeze, Thaw, Create, Remove, Grow, Move, Fault as FaultVerb, Flush, Open, Close, TryClose, Snapshot, TrySnapshot, Step, Run}
+use Rattle.schedule_lines.specs.declared.faults.Fault.{Fault}
+use Rattle.schedule_lines.specs.declared.faults.Fault.TheVariants.{ConfigExpected, ConfigTwice, UnknownCommand, WrongNumberOfWords, NoSuchTask, BadNumber, BadWord, ReadFailed, WriteFailed, Refused}
+use Rattle.schedule_text.specs.Parsing.{◌>>=◌, expect, number_at, byte_at, code_at, hook_at, holder_at, holder_given, read_only_at, want_of, drop_of, start_of, end_of, want_write_of, drop_write_of, change_of, remount_of, callback_of, freeze_of, thaw_of, kind_at, create_of, remove_of, grow_of, move_of, fault_of, flush_of, open_of, close_of, step_of, run_of, arguments_of, task_line, alone, command_line, config_of, config_line, line_for, parsed, task_of}
+use Rattle.schedule_lines.specs.Words.{first_word, after_word, word_count}
+use Rattle.schedule_text.specs.Verbs.{takes, verb_of}
+use Rattle.schedule_lines.specs.Numbers.{is_digits}
+use Rattle.transcripts.specs.Limits.{is_config}
+use Rattle.line_players.specs.Replayed.{IsTranscript, EndsWhole, EndsBy}
+use Rattle.transcripts.specs.Transcript.{ReplayState, line_effect, config_effect}
+use Rattle.gate_world.specs.declared.config.Config.{Config}
+
+-- whether a fault is the schedule's own
+abbrev pub is_own : Fault → Bool
+is_own ReadFailed = false
+is_own WriteFailed = false
+is_own (Refused NoMemory) = false
+is_own _ = true
+
+-- a fault of the schedule ends a replay by the transcript
+pub ends_by_own : (input : Option (List ℕ)) (taken written : List ℕ) (line : ℕ) (fault : Fault) → is_own fault ≡ true →
+    IsTranscript input taken written (Some (line, fault)) → EndsWhole input taken written line fault
+ends_by_own input taken written line ReadFailed own h = cc
+ends_by_own input taken written line WriteFailed own h = cc
+ends_by_own input taken written line (Refused NoMemory) own h = cc
+ends_by_own input taken written line _ own h = h
+
+-- where all that was printed is written, a replay ends as its fault says
+pub ends_whole : (input : Option (List ℕ)) (taken written : List ℕ) (line : ℕ) (fault : Fault) →
+    EndsWhole input taken written line fault → EndsBy input taken written line fault
+ends_whole input taken written line WriteFailed h = absurd h
+ends_whole input taken written line _ h = h
+
+-- where this fails, it is by a fault of the schedule
+record FailsByOwn {A : Type 0} (r : Result A Fault) : Type 0 where
+  own : IfErr r (λ fault. is_own fault ≡ true)
+
+-- an answer is no failure
+ok_own : {A : Type 0} (x : A) → FailsByOwn (Ok x)
+ok_own x = record { own = tt }
+
+-- a fault of the schedule
+err_own : {A : Type 0} (fault : Fault) → is_own fault ≡ true → FailsByOwn {A = A} (Err fault)
+err_own fault h = record { own = h }
+
+-- one after the other
+then_own : {A B : Type 0} (r : Result A Fault) (f : A → Result B Fault) → FailsByOwn r → ((x : A) → FailsByOwn (f x)) →
+    FailsByOwn (r >>= f)
+then_own (Ok x) f h k = k x
+then_own (Err fault) f h k = err_own fault h.own
+
+-- an answer, or a fault of the schedule where there is none
+or_own : {A : Type 0} (o : Option A) (fault : Fault) → is_own fault ≡ true → FailsByOwn (ok_or o fault)
+or_own (Some x) fault h = ok_own x
+or_own None fault h = err_own fault h
+
+-- a test, or a fault of the schedule where it fails
+expect_own : (b : Bool) (fault : Fault) → is_own fault ≡ true → FailsByOwn (expect b fault)
+expect_own true fault h = ok_own tt
+expect_own false fault h = err_own fault h
+
+-- one or the other
+if_own : {A : Type 0} (b : Bool) (r s : Result A Fault) → FailsByOwn r → FailsByOwn s → FailsByOwn (if b then r else s)
+if_own true r s h k = h
+if_own false r s h k = k
+
+-- a number
+number_own : (text : List ℕ) → FailsByOwn (number_at text)
+unfolding number_at
+number_own text = or_own _ BadNumber refl
+
+-- a number that is handed over as a byte
+byte_own : (text : List ℕ) → FailsByOwn (byte_at text)
+unfolding byte_at
+byte_own text = then_own _ _ (number_own text) (λ (n : ℕ). ok_own _)
+
+-- the code of a hook
+code_own : (text : List ℕ) → FailsByOwn (code_at text)
+unfolding code_at
+code_own text = or_own _ BadNumber refl
+
+-- a hook
+hook_own : (text : List ℕ) → FailsByOwn (hook_at text)
+unfolding hook_at
+hook_own text = or_own _ BadWord refl
+
+-- `ro` or `rw`
+read_only_own : (text : List ℕ) → FailsByOwn (read_only_at text)
+unfolding read_only_at
+read_only_own text = or_own _ BadWord refl
+
+-- the arguments of a want
+want_own : (rest : List ℕ) (wait : Bool) → FailsByOwn (want_of rest wait)
+unfolding want_of
+want_own rest wait = then_own _ _ (byte_own rest) (λ (m : ℕ). then_own _ _ (byte_own (after_word rest)) (λ (c : ℕ). ok_own _))
+
+-- the arguments of a drop
+drop_own : (rest : List ℕ) → FailsByOwn (drop_of rest)
+unfolding drop_of
+drop_own rest = then_own _ _ (byte_own rest) (λ (m : ℕ). then_own _ _ (byte_own (after_word rest)) (λ (c : ℕ). ok_own _))
+
+-- the arguments of a start
+start_own : (rest : List ℕ) (wait : Bool) → FailsByOwn (start_of rest wait)
+unfolding start_of
+start_own rest wait = then_own _ _ (byte_own rest) (λ (i : ℕ). then_own _ _ (byte_own (after_word rest)) (λ (c : ℕ). ok_own _))
+
+-- the arguments of an end
+end_own : (rest : List ℕ) → FailsByOwn (end_of rest)
+unfolding end_of
+end_own rest = then_own _ _ (byte_own rest) (λ (i : ℕ). then_own _ _ (byte_own (after_word rest)) (λ (c : ℕ). ok_own _))
+
+-- the arguments of a taking of write access
+want_write_own : (rest : List ℕ) → FailsByOwn (want_write_of rest)
+unfolding want_write_of
+want_write_own rest = then_own _ _ (byte_own rest) (λ (m : ℕ). then_own _ _ (byte_own (after_word rest)) (λ (c : ℕ). ok_own _))
+
+-- the arguments of a return of write access
+drop_write_own : (rest : List ℕ) → FailsByOwn (drop_write_of rest)
+unfolding drop_write_of
+drop_write_own rest = then_own _ _ (byte_own rest) (λ (m : ℕ). then_own _ _ (byte_own (after_word rest)) (λ (c : ℕ). ok_own _))
+
+-- the arguments of a change
+change_own : (rest : List ℕ) (wait : Bool) → FailsByOwn (change_of rest wait)
+unfolding change_of
+change_own rest wait = then_own _ _ (byte_own rest) (λ (m : ℕ). then_own _ _ (read_only_own (after_word rest)) (λ (b : Bool). ok_own _))
+
+-- the argument of a remount
+remount_own : (rest : List ℕ) → FailsByOwn (remount_of rest)
+unfolding remount_of
+remount_own rest = then_own _ _ (read_only_own rest) (λ (b : Bool). ok_own _)
+
+-- the argument of a callback
+callback_own : (rest : List ℕ) → FailsByOwn (callback_of rest)
+unfolding callback_of
+callback_own rest = then_own _ _ (byte_own rest) (λ (i : ℕ). ok_own _)
+
+-- who holds a freeze
+holder_own : (text : List ℕ) → FailsByOwn (holder_at text)
+unfolding holder_at
+holder_own text = or_own _ BadWord refl
+
+-- the same, where it may be left out
+given_own : (rest : List ℕ) (words : ℕ) → FailsByOwn (holder_given rest words)
+unfolding holder_given
+given_own rest words = if_own _ _ _ (ok_own _) (holder_own rest)
+
+-- the argument of a freeze
+freeze_own : (rest : List ℕ) (words : ℕ) → FailsByOwn (freeze_of rest words)
+unfolding freeze_of
+freeze_own rest words = then_own _ _ (given_own rest words) (λ _. ok_own _)
+
+-- the argument of a thaw
+thaw_own : (rest : List ℕ) (words : ℕ) → FailsByOwn (thaw_of rest words)
+unfolding thaw_of
+thaw_own rest words = then_own _ _ (given_own rest words) (λ _. ok_own _)
+
+-- the kind of a node
+kind_own : (text : List ℕ) → FailsByOwn (kind_at text)
+unfolding kind_at
+kind_own text = or_own _ BadWord refl
+
+-- the arguments of a creation
+create_own : (rest : List ℕ) → FailsByOwn (create_of rest)
+unfolding create_of
+create_own rest = then_own _ _ (byte_own rest) (λ (d : ℕ). then_own _ _ (kind_own (after_word rest)) (λ _. ok_own _))
+
+-- the argument of a removal
+remove_own : (rest : List ℕ) → FailsByOwn (remove_of rest)
+unfolding remove_of
+remove_own rest = then_own _ _ (byte_own rest) (λ (n : ℕ). ok_own _)
+
+-- the arguments of a growth
+grow_own : (rest : List ℕ) → FailsByOwn (grow_of rest)
+unfolding grow_of
+grow_own rest = then_own _ _ (byte_own rest) (λ (n : ℕ). then_own _ _ (number_own (after_word rest)) (λ (b : ℕ). ok_own _))
+
+-- the arguments of a move
+move_own : (rest : List ℕ) → FailsByOwn (move_of rest)
+unfolding move_of
+move_own rest = then_own _ _ (byte_own rest) (λ (n : ℕ). then_own _ _ (byte_own (after_word rest)) (λ (d : ℕ). ok_own _))
+
+-- the argument of a fault on a page
+page_fault_own : (rest : List ℕ) → FailsByOwn (fault_of rest)
+unfolding fault_of
+page_fault_own rest = then_own _ _ (byte_own rest) (λ (n : ℕ). ok_own _)
+
+-- the argument of a flush
+flush_own : (rest : List ℕ) → FailsByOwn (flush_of rest)
+unfolding flush_of
+flush_own rest = then_own _ _ (byte_own rest) (λ (n : ℕ). ok_own _)
+
+-- the argument of an opening
+open_own : (rest : List ℕ) → FailsByOwn (open_of rest)
+unfolding open_of
+open_own rest = then_own _ _ (byte_own rest) (λ (n : ℕ). ok_own _)
+
+-- the arguments of a closing
+close_own : (rest : List ℕ) (wait : Bool) → FailsByOwn (close_of rest wait)
+unfolding close_of
+close_own rest wait = then_own _ _ (byte_own rest) (λ (n : ℕ). then_own _ _ (byte_own (after_word rest)) (λ (p : ℕ). ok_own _))
+
+-- the argument of a step
+step_own : (rest : List ℕ) → FailsByOwn (step_of rest)
+unfolding step_of
+step_own rest = then_own _ _ (code_own rest) (λ (n : ℕ). ok_own _)
+
+-- the arguments of a run
+run_own : (rest : List ℕ) → FailsByOwn (run_of rest)
+unfolding run_of
+run_own rest = then_own _ _ (hook_own rest) (λ _. then_own _ _ (code_own (after_word rest)) (λ (n : ℕ). ok_own _))
+
+-- the arguments of a verb
+arguments_own : (verb : Verb) (rest : List ℕ) (words : ℕ) → FailsByOwn (arguments_of verb rest words)
+unfolding arguments_of
+arguments_own Want rest words = want_own rest true
+arguments_own TryWant rest words = want_own rest false
+arguments_own Drop rest words = drop_own rest
+arguments_own Start rest words = start_own rest true
+arguments_own TryStart rest words = start_own rest false
+arguments_own End rest words = end_own rest
+arguments_own WantWrite rest words = want_write_own rest
+arguments_own DropWrite rest words = drop_write_own rest
+arguments_own Change rest words = change_own rest true
+arguments_own TryChange rest words = change_own rest false
+arguments_own Remount rest words = remount_own rest
+arguments_own Callback rest words = callback_own rest
+arguments_own Freeze rest words = freeze_own rest words
+arguments_own Thaw rest words = thaw_own rest words
+arguments_own Create rest words = create_own rest
+arguments_own Remove rest words = remove_own rest
+arguments_own Grow rest words = grow_own rest
+arguments_own Move rest words = move_own rest
+arguments_own FaultVerb rest words = page_fault_own rest
+arguments_own Flush rest words = flush_own rest
+arguments_own Open rest words = open_own rest
+arguments_own Close rest words = close_own rest true
+arguments_own TryClose rest words = close_own rest false
+arguments_own Snapshot rest words = ok_own _
+arguments_own TrySnapshot rest words = ok_own _
+arguments_own Step rest words = if_own _ _ _ (ok_own _) (step_own rest)
+arguments_own Run rest words = if_own _ _ _ (ok_own _) (run_own rest)
+
+-- a line on a task
+task_own : (line : List ℕ) (tasks : ℕ) → FailsByOwn (task_line line tasks)
+unfolding task_line
+task_own line tasks =
+    then_own _ _ (or_own (verb_of (first_word (after_word line))) UnknownCommand refl) (λ (verb : Verb).
+    then_own _ _ (expect_own (takes verb (word_count line)) WrongNumberOfWords refl) (λ _.
+    then_own _ _ (or_own (task_of (first_word line) tasks) NoSuchTask refl) (λ (task : ℕ).
+    then_own _ _ (arguments_own verb (after_word (after_word line)) (word_count line)) (λ (command : TaskCommand).
+    ok_own (RequestLine (Task task command))))))
+
+-- a request that stands alone
+alone_own : (words : ℕ) (request : Request) → FailsByOwn (alone words request)
+alone_own words request = if_own _ _ _ (ok_own _) (err_own _ refl)
+
+-- a line after the configuration
+command_own : (line : List ℕ) (tasks : ℕ) → FailsByOwn (command_line line tasks)
+unfolding command_line
+command_own line tasks =
+    if_own (bytes_eq (first_word line) (codes "config")) _ _ (err_own ConfigTwice refl)
+    (if_own (bytes_eq (first_word line) (codes "words")) _ _ (alone_own (word_count line) Words)
+    (if_own (bytes_eq (first_word line) (codes "tree")) _ _ (alone_own (word_count line) Tree)
+    (if_own (bytes_eq (first_word line) (codes "model")) _ _ (alone_own (word_count line) Model)
+    (if_own (not (is_digits (first_word line))) _ _ (err_own UnknownCommand refl)
+    (if_own (word_count line == 1) _ _ (err_own WrongNumberOfWords refl) (task_own line tasks))))))
+
+-- the numbers of a configuration
+config_own : (rest : List ℕ) → FailsByOwn (config_of rest)
+unfolding config_of
+config_own rest =
+    then_own _ _ (byte_own _) (λ (tasks : ℕ). then_own _ _ (byte_own _) (λ (processors : ℕ). then_own _ _ (byte_own _) (λ (mounts : ℕ).
+    then_own _ _ (byte_own _) (λ (nodes : ℕ). then_own _ _ (number_own _) (λ (capacity : ℕ). ok_own _)))))
+
+-- the configuration
+config_line_own : (line : List ℕ) → FailsByOwn (config_line line)
+unfolding config_line
+config_line_own line =
+    then_own _ _ (expect_own (bytes_eq (first_word line) (codes "config")) ConfigExpected refl) (λ _.
+    then_own _ _ (expect_own (word_count line == 6) WrongNumberOfWords refl) (λ _.
+    then_own _ _ (config_own (after_word line)) (λ (c : Config). ok_own (ConfigLine c))))
+
+-- a line that is not skipped
+line_for_own : (tasks : Option ℕ) (line : List ℕ) → FailsByOwn (line_for tasks line)
+line_for_own None line = config_line_own line
+line_for_own (Some tasks) line = command_own line tasks
+
+-- any line
+parsed_own : (line : List ℕ) (tasks : Option ℕ) → FailsByOwn (parsed line tasks)
+unfolding parsed
+parsed_own line tasks = if_own _ _ _ (ok_own _) (line_for_own tasks line)
+
+-- the fault of a line that isn't understood
+pub fault_of_parsed : (line : List ℕ) (tasks : Option ℕ) (fault : Fault) → parsed line tasks ≡ Err fault → is_own fault ≡ true
+fault_of_parsed line tasks fault e = (subst (λ (r : Result Line Fault). FailsByOwn r) e (parsed_own line tasks)).own
+
+-- a configuration that is refused prints nothing
+config_fault : (c : Config) (b : Bool) (fault : Fault) → (config_effect c b).fault ≡ Some fault →
+    ((config_effect c b).printed ≡ []) × (is_own fault ≡ true)
+config_fault c true fault e = cc
+config_fault c false fault e = let is : Refused Invalid ≡ fault = cc in (refl, subst (λ (f : Fault). is_own f ≡ true) is refl)
+
+-- that a configuration was expected is the schedule's fault
+expected : (fault : Fault) → Some ConfigExpected ≡ Some fault → is_own fault ≡ true
+expected fault e = let is : ConfigExpected ≡ fault = cc in subst (λ (f : Fault). is_own f ≡ true) is refl
+
+-- the fault of a line that is understood and refused, which prints nothing
+pub fault_of_effect : (p : Option ReplayState) (line : Line) (fault : Fault) → (line_effect p line).fault ≡ Some fault →
+    ((line_effect p line).printed ≡ []) × (is_own fault ≡ true)
+fault_of_effect p Skipped fault e = cc
+fault_of_effect p (ConfigLine c) fault e = config_fault c (is_config c) fault e
+fault_of_effect None (RequestLine request) fault e = (refl, expected fault e)
+fault_of_effect (Some p) (RequestLine request) fault e = cc

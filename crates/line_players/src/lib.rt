@@ -1,0 +1,11 @@
+//! A schedule that is read line by line: each line is done by a player, and what it prints is written out. The plain player prints what a
+//! transcript has of the line.
+#![tactic(auto)]
+
+pub mod line_replay;
+pub mod player;
+pub mod session_player;
+
+pub use line_replay::LineReplay;
+pub use player::{Player, print_line};
+pub use session_player::SessionPlayer;
