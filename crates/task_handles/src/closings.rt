@@ -67,14 +67,13 @@ fn write_values(closed: &Closed, asked: &[WordRecord], values: &mut [u64])
 }
 
 impl TaskHandle {
-    /// Closes the gates, whose last task this is, leaves the handle without one, and writes to `values` what the words hold at the end that
-    /// are asked for, and 0 for one that there isn't.
+    /// Closes the gates, whose last task this is, and leaves the handle without one. Writes to `values` what each word that is asked for
+    /// holds at the end, and 0 for a word that there isn't.
     ///
     /// # Errors
     ///
-    /// Invalid, with the task as it was, if there isn't one value for each word. Order, with the task as it was, unless it rests and has all
-    /// other numbers. Busy, with the task as it was, if another handle has the gates still. NoMemory if that is so and there was no memory to
-    /// keep the task.
+    /// Invalid unless there is one value for each word, Order unless the task rests and has all other numbers, and Busy if another handle has
+    /// the gates still: then the task is as it was. NoMemory if another handle has the gates still, and there was no memory to keep the task.
     pub fn close(
         &mut self,
         alloc: Global,

@@ -28,7 +28,7 @@ fn refusal_code(refusal: GateError) -> u32
     }
 }
 
-/// Returns 0, or why a call was refused: its errno, or if a hook failed, that hook's code added to 65,536.
+/// Returns 0, or why a call was refused: an errno, or if a hook failed, its code added to 65,536.
 pub fn code(answer: Result<(), GateError>) -> u32
     ensures { answer_of result ≡ answer }
 {
