@@ -2,9 +2,10 @@
  * mntgate.h - the write gates of a mounted file system, as a C library.
  *
  * What is guarded
- *   While a mount, or the whole superblock, reports itself read-only, nobody holds an access there. Once a freeze is done, nobody is
- *   inside a freeze level. A snapshot is the tree of one moment. These laws are proved of the library, for every interleaving of its
- *   threads. They speak of what the gates count: take an access before you write your own data, and give it back after.
+ *   While a mount, or the whole superblock, reports itself read-only, nobody holds an access there. Once a freeze of a writable superblock
+ *   is done, nobody is inside a freeze level until the last holder's thaw. (A freeze of a read-only superblock closes no level.) A snapshot
+ *   is the tree of one moment at which everything was frozen. These laws are proved of the library, for every interleaving of its threads.
+ *   They speak of what the gates count: take an access before you write your own data, and give it back after.
  *
  * What the library asks of a C program; no compiler checks it
  *   1. A handle is a `struct mntgate_task`. It is MNTGATE_NONE, or mntgate_open or mntgate_split filled it. Do not copy it to use it
@@ -348,7 +349,8 @@ mntgate_result mntgate_thaw_at_once(struct mntgate_task *task, bool by_kernel, s
  * (sched_yield). There is no wake-up and no time limit: who needs one writes such a loop over mntgate_begin and mntgate_run. */
 
 /* The hooks of a file system. Each answers 0, or a code from 1 to 65535 by which it failed. NULL stands for a hook that answers 0. They
- * are called between two steps, while their task owns s_umount: a hook must not wait for another task, nor use the handle. */
+ * are called between two steps, while their task owns s_umount: a hook must not wait for another task, nor use the handle. It must return:
+ * after an exception or a longjmp out of it the operation stays under way, and its levels stay closed. */
 struct mntgate_hooks {
 	void *data;
 	uint16_t (*sync)(void *data);
@@ -532,7 +534,7 @@ static inline mntgate_result mntgate_remount_sb(struct mntgate_task *task, bool 
 
 /* Freezes the file system for a holder, MNTGATE_USER or MNTGATE_KERNEL (freeze_super): closes level 1, 2 and 3 and waits at each for who is
  * inside. The hook sync is asked with levels 1 and 2 closed, freeze_fs with all closed. Where the other holder has frozen all, it is held
- * for this one too. EDEADLK inside a level.
+ * for this one too. A read-only superblock is frozen at once: no level is closed and no hook is asked. EDEADLK inside a level.
  *   EBUSY  a freeze is under way, or this holder holds one.   MNTGATE_HOOK + code  a hook failed; the levels are open again. */
 static inline mntgate_result mntgate_freeze(struct mntgate_task *task, bool by_kernel, const struct mntgate_hooks *hooks)
 {

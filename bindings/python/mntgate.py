@@ -1,7 +1,8 @@
 """The write gates of a mounted file system, proved, by ctypes.
 
-While a mount, or the whole superblock, reports itself read-only, nobody holds an access there. Once a freeze is done, nobody is inside a freeze
-level. A snapshot is the tree of one moment. These laws are proved of the library, for every interleaving of its threads.
+While a mount, or the whole superblock, reports itself read-only, nobody holds an access there. Once a freeze of a writable superblock is done, nobody
+is inside a freeze level until the last holder's thaw. (A freeze of a read-only superblock closes no level.) A snapshot is the tree of one moment at
+which everything was frozen. These laws are proved of the library, for every interleaving of its threads.
 
     with mntgate.open(tasks=2) as task:
         other = task.split()
@@ -13,6 +14,10 @@ level. A snapshot is the tree of one moment. These laws are proved of the librar
 
 A task is used by one call at a time: each call takes the task's own lock, so that a second thread waits for the first one's call. A call lets go of
 Python's lock, so threads meet at the gates. The library is found by MNTGATE_LIBRARY, the path of libmntgate.so, else by the loader.
+
+A call that waits can't be given up. After an exception out of it, of a hook or by a signal as KeyboardInterrupt, its operation stays under way: the
+levels that it has closed stay closed, and each later call of its task is EDEADLK. So let a hook return a code, and wait in another thread than the
+main one, in which alone Python handles signals.
 """
 
 from __future__ import annotations
@@ -84,8 +89,8 @@ class Tree(NamedTuple):
 
 
 class Hooks:
-    """The hooks of a file system. Each returns 0, or a code from 1 to 65535 by which it failed. While one runs its task owns s_umount: it must not
-    wait for another task, nor use its own. Override what is needed."""
+    """The hooks of a file system. Each returns 0, or a code from 1 to 65535 by which it failed, and raises nothing. While one runs its task owns
+    s_umount: it must not wait for another task, nor use its own. Override what is needed."""
 
     def sync(self) -> int:
         """Writes all that is dirty."""
@@ -324,7 +329,7 @@ class Task:
         self._perform(3, choice=read_only, hooks=hooks)
 
     def freeze(self, holder: Holder = Holder.USER, hooks: Optional[Hooks] = None) -> None:
-        """Freezes the file system for a holder; waits for who is inside a level. EBUSY, HookFailed."""
+        """Freezes the file system for a holder; waits for who is inside a level. EBUSY, HookFailed: then the levels are open again."""
         self._perform(9, choice=holder.value, hooks=hooks)
 
     def thaw(self, holder: Holder = Holder.USER, hooks: Optional[Hooks] = None) -> None:
@@ -370,7 +375,7 @@ class Task:
 
     @contextlib.contextmanager
     def read_only(self, mount: int) -> Iterator["Task"]:
-        """A mount that is read-only. EBUSY where it has writers."""
+        """A mount that is read-only, and made writable at the end, also if it was read-only before. EBUSY where it has writers."""
         self.change_mount(mount, True)
         try:
             yield self
@@ -379,7 +384,8 @@ class Task:
 
     @contextlib.contextmanager
     def frozen(self, holder: Holder = Holder.USER, hooks: Optional[Hooks] = None) -> Iterator["Task"]:
-        """A frozen file system. EBUSY, HookFailed."""
+        """A frozen file system, thawed at the end. EBUSY. HookFailed of the freeze: the levels are open again; of the thaw: all stays
+        frozen. Give each hook codes of its own to tell these apart, or call `freeze` and `thaw`."""
         self.freeze(holder, hooks)
         try:
             yield self

@@ -61,11 +61,13 @@ guard! {
 }
 
 guard! {
-    /// A mount that is read-only: nobody has an access there until it is dropped, which makes it writable again.
+    /// A mount that is read-only: nobody has an access there until a task makes it writable. The drop does so, whatever it was before.
     ReadOnly { mount } task => task.change_mount(*mount, false)
 }
 
-/// A frozen file system: nobody is inside a level, nor comes inside, until it is thawed or dropped.
+/// A frozen file system, thawed when it is dropped. If the superblock is writable, nobody is inside a level, nor comes inside, until the
+/// last holder's thaw, which may also be another task's. If it is read-only, no level is closed. A drop tells nobody that its thaw has failed
+/// by a hook, after which all stays frozen. With hooks, end it by [`Frozen::thaw`].
 #[must_use = "it is thawed as soon as it is dropped"]
 #[derive(Debug)]
 pub struct Frozen<'a, H: Hooks> {

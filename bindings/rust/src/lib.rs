@@ -1,9 +1,10 @@
 //! The write gates of a mounted file system, proved.
 //!
-//! While a mount, or the whole superblock, reports itself read-only, nobody holds an access there. Once a freeze is done, nobody is inside
-//! a freeze level. A snapshot is the tree of one moment. These laws are proved of the library behind this crate, for every interleaving of
-//! its threads. What the library asks of its callers this crate keeps by types: a [`Task`] is used by one call at a time, goes from thread
-//! to thread by move, and is joined to tasks of its own gates alone.
+//! While a mount, or the whole superblock, reports itself read-only, nobody holds an access there. Once a freeze of a writable superblock
+//! is done, nobody is inside a freeze level until the last holder's thaw. (A freeze of a read-only superblock closes no level.) A snapshot
+//! is the tree of one moment at which everything was frozen. These laws are proved of the library behind this crate, for every interleaving
+//! of its threads. What the library asks of its callers this crate keeps by types: a [`Task`] is used by one call at a time, goes from
+//! thread to thread by move, and is joined to tasks of its own gates alone.
 //!
 //! ```
 //! use mntgate::{Config, Error, Gates};
