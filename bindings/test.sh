@@ -54,6 +54,8 @@ test_c() {
     grep -q 'all closed$' "$work/refused"
     compile bindings/c/examples/first.c "$work/first"
     expect "$(cat bindings/c/examples/first.stdout)" "$work/first"
+    compile bindings/c/examples/remount.c "$work/remount"
+    expect "$(cat bindings/c/examples/remount.stdout)" "$work/remount"
     compile bindings/c/examples/log_backup.c "$work/log_backup"
     expect "without the gates: backups are torn" "$work/log_backup" without
     expect "with the gates: no backup is torn" "$work/log_backup" with

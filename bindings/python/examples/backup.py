@@ -3,8 +3,8 @@
 
     backup.py
 
-It meets, one after the other, a file system that another backup has frozen, one whose sync fails, one that is read-only, and one at peace, and says
-what it does. Task `other` stands for the rest of the system."""
+It meets, one after the other, a file system that another backup has frozen, one whose sync fails, one whose thaw fails, one that is read-only, and one
+at peace, and says what it does. Task `other` stands for the rest of the system."""
 
 import errno
 import os
@@ -16,30 +16,56 @@ import mntgate
 
 
 class Disk(mntgate.Hooks):
-    """A file system whose sync fails so many times, with the code 16: the number of EBUSY, and no refusal of the gates."""
+    """A file system whose sync and whose thaw fail so many times, with the code 16: the number of EBUSY, and no refusal of the gates."""
 
-    def __init__(self, failures: int = 0) -> None:
-        self.failures = failures
+    def __init__(self, syncs: int = 0, thaws: int = 0) -> None:
+        self.syncs = syncs
+        self.thaws = thaws
 
     def sync(self) -> int:
-        self.failures -= 1
-        return 16 if self.failures >= 0 else 0
+        self.syncs -= 1
+        return 16 if self.syncs >= 0 else 0
+
+    def unfreeze_fs(self) -> int:
+        self.thaws -= 1
+        return 16 if self.thaws >= 0 else 0
 
 
 def back_up(task: mntgate.Task, disk: Disk) -> str:
-    """Takes one backup, or says why not, and what comes next."""
+    """Takes one backup, or says why not, and what comes next. A freeze and its thaw are two calls, since they leave different states if they fail."""
     try:
-        with task.frozen(hooks=disk):
-            tree = task.snapshot()
-        task.settle()
+        task.freeze(hooks=disk)
     except mntgate.HookFailed as failed:
+        task.settle()
         return f"the disk failed with {failed.code}: the levels are open again, so check the disk, and come back"
     except mntgate.Error as refused:
         if refused.errno == errno.EBUSY:
             return "somebody has frozen it: wait for the thaw, and never thaw for him"
         raise
+    try:
+        tree = task.snapshot()
+    finally:
+        thaw(task, disk)
     files = sum(node is not None and not node.is_dir for node in tree.nodes)
     return f"{files} files of {tree.used} blocks"
+
+
+def thaw(task: mntgate.Task, disk: Disk, tries: int = 3) -> None:
+    """Thaws. If the disk fails all is still frozen and everybody who writes waits, so it tries again."""
+    for left in reversed(range(tries)):
+        try:
+            task.thaw(hooks=disk)
+            break
+        except mntgate.HookFailed as failed:
+            if left == 0:
+                raise
+            print(f"a thaw of a disk that fails: it failed with {failed.code}, and all is still frozen, so thaw again")
+        except mntgate.Error as refused:
+            # (another task has thawed for user space; a snapshot is of one moment all the same)
+            if refused.errno != errno.EINVAL:
+                raise
+            break
+    task.settle()
 
 
 def write(task: mntgate.Task, blocks: int) -> str:
@@ -64,7 +90,8 @@ def main() -> None:
         print("a write:", write(other, 10))
         with other.frozen(mntgate.Holder.USER):
             print("a backup beside another one:", back_up(task, Disk()))
-        print("a backup of a disk that fails:", back_up(task, Disk(failures=1)))
+        print("a backup of a disk whose sync fails:", back_up(task, Disk(syncs=1)))
+        print("a backup of a disk whose thaw failed once:", back_up(task, Disk(thaws=1)))
         print("a backup at peace:", back_up(task, Disk()))
         with task.read_only(0):
             print("a write to a mount that is read-only:", write(other, 10))

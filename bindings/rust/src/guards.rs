@@ -66,8 +66,8 @@ guard! {
 }
 
 /// A frozen file system, thawed when it is dropped. If the superblock is writable, nobody is inside a level, nor comes inside, until the
-/// last holder's thaw, which may also be another task's. If it is read-only, no level is closed. A drop tells nobody that its thaw has failed
-/// by a hook, after which all stays frozen. With hooks, end it by [`Frozen::thaw`].
+/// last holder's thaw, which may also be another task's. If it is read-only, no level is closed. A drop tells nobody if a hook has failed,
+/// and then all stays frozen. With hooks, end it by [`Frozen::thaw`].
 #[must_use = "it is thawed as soon as it is dropped"]
 #[derive(Debug)]
 pub struct Frozen<'a, H: Hooks> {
