@@ -5,7 +5,8 @@
  *   While a mount, or the whole superblock, reports itself read-only, nobody holds an access there. Once a freeze of a writable superblock
  *   is done, nobody is inside a freeze level until the last holder's thaw. (A freeze of a read-only superblock closes no level.) A snapshot
  *   is the tree of one moment at which everything was frozen. These laws are proved of the library, for every interleaving of its threads.
- *   They speak of what the gates count: take an access before you write your own data, and give it back after.
+ *   They speak of what the gates count: take write access (mntgate_want_write) before you write your own data, and give it back after.
+ *   An access at a mount alone (mntgate_want) keeps changes and remounts away, and no freeze.
  *
  * What the library asks of a C program; no compiler checks it
  *   1. A handle is a `struct mntgate_task`. It is MNTGATE_NONE, or mntgate_open or mntgate_split filled it. Do not copy it to use it

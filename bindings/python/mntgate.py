@@ -348,7 +348,7 @@ class Task:
 
     @contextlib.contextmanager
     def access(self, mount: int, processor: int = 0) -> Iterator["Task"]:
-        """An access at a mount; waits while a change holds writers off. EROFS, EMFILE."""
+        """An access at a mount, for which no freeze waits; waits while a change holds writers off. EROFS, EMFILE."""
         self._perform(0, mount, processor)
         try:
             yield self
@@ -366,7 +366,7 @@ class Task:
 
     @contextlib.contextmanager
     def write(self, mount: int, processor: int = 0) -> Iterator["Task"]:
-        """Write access: level 1 and an access at a mount; waits for both. EROFS, EMFILE."""
+        """Write access, which is what a writer needs: level 1 and an access at a mount; waits for both. EROFS, EMFILE."""
         self._perform(6, mount, processor)
         try:
             yield self

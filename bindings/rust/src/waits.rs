@@ -57,7 +57,7 @@ impl Task {
         }
     }
 
-    /// Takes an access at a mount; waits while a change of the mount holds writers off. `ReadOnly`, `TooMany`.
+    /// Takes an access at a mount, for which no freeze waits; waits while a change of the mount holds writers off. `ReadOnly`, `TooMany`.
     pub fn want(&mut self, mount: u8, processor: u8) -> Result<Access<'_>, Error> {
         match self.try_want(mount, processor) {
             Err(Error::Again) => self.perform(Op::Want { mount, processor, wait: true }, &mut ()).map(drop)?,
@@ -75,7 +75,7 @@ impl Task {
         Ok(Level::of(self, level, processor))
     }
 
-    /// Goes inside level 1 and takes an access at a mount; waits for both. `ReadOnly`, `TooMany`.
+    /// Goes inside level 1 and takes an access at a mount, which is what a writer needs; waits for both. `ReadOnly`, `TooMany`.
     pub fn write(&mut self, mount: u8, processor: u8) -> Result<WriteAccess<'_>, Error> {
         self.perform(Op::WantWrite { mount, processor }, &mut ())?;
         Ok(WriteAccess::of(self, mount, processor))
