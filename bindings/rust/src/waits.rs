@@ -100,7 +100,7 @@ impl Task {
         self.perform(Op::RemountSb { read_only }, hooks).map(drop)
     }
 
-    /// Freezes the file system for a holder until the guard is thawed or dropped; waits for who is inside a level. `Busy`, `Hook`. The guard
+    /// Freezes the file system for a holder until the guard is thawed or dropped; waits for who is inside a level. `Busy`, `Hook`. It
     /// keeps the hooks, so if there are none lend it a variable: `let mut none = ();`.
     ///
     /// ```
