@@ -28,6 +28,7 @@ import textwrap
 from typing import NamedTuple
 
 from pictures import picture_faults
+from verdicts import verdict
 
 ROOT = os.path.dirname(os.path.dirname(os.path.realpath(__file__)))
 PROGRAM = f"{ROOT}/crates/mntgate/out/mntgate"
@@ -259,11 +260,8 @@ def main(words):
     if not links_alone:
         faults += picture_faults(program)
     if faults:
-        print(*faults, sep="\n")
-        print(f"{len(faults)} places of the pages are wrong")
-        return 1
-    print(f"{len(every)} pages: their links lead somewhere, {commands} commands print what they say, {quotes} quotes stand in the code")
-    return 0
+        faults.append(f"{len(faults)} places of the pages are wrong")
+    return verdict(faults, f"{len(every)} pages: their links lead somewhere, {commands} commands print what they say, {quotes} quotes stand in the code")
 
 
 if __name__ == "__main__":

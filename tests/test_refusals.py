@@ -12,6 +12,8 @@ import re
 import sys
 import textwrap
 
+from verdicts import verdict
+
 ROOT = os.path.dirname(os.path.dirname(os.path.realpath(__file__)))
 CRATE = f"{ROOT}/crates/refusals/src"
 VERBS = f"{ROOT}/crates/schedule_text/src/verbs.rt"
@@ -102,12 +104,7 @@ def main(words):
             it.write(page[: found.start()] + wanted + page[found.end() :])
         return 0
     changed = difflib.unified_diff(wanted.splitlines(), found[0].splitlines(), "crates/refusals", "docs/refusals.md", lineterm="", n=1)
-    lines = list(changed)
-    if lines:
-        print(*lines, sep="\n")
-        return 1
-    print(f"docs/refusals.md has the {wanted.count('#### ')} rows of the table")
-    return 0
+    return verdict(list(changed), f"docs/refusals.md has the {wanted.count('#### ')} rows of the table")
 
 
 if __name__ == "__main__":

@@ -15,6 +15,7 @@ import subprocess
 import sys
 
 from test_pages import ROOT, commands_of, fits, read_page
+from verdicts import verdict
 
 PAGE = "docs/steps.md"
 RACE = "examples/races/steps/want-change.race"
@@ -89,11 +90,7 @@ def main(asked):
             faults.append(f"{PAGE}:{number}: no mutant {mutant}, or no race {race}")
     chosen = [it for it in every if "--all" in asked or any(word in " ".join(it[1]) for word in asked)]
     faults += filter(None, (fault(*it) for it in chosen))
-    if faults:
-        print(*faults, sep="\n")
-        return 1
-    print(f"bin/without refuses what it should, and {len(chosen)} of {len(every)} blocks of {PAGE} are what it prints")
-    return 0
+    return verdict(faults, f"bin/without refuses what it should, and {len(chosen)} of {len(every)} blocks of {PAGE} are what it prints")
 
 
 if __name__ == "__main__":

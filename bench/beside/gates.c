@@ -44,41 +44,23 @@ static void check(mntgate_result result)
 	}
 }
 
-static void mount_pairs(struct job *job)
-{
-	const unsigned long count = pairs;
-	const uint8_t processor = job->number;
-
-	for (unsigned long i = 0; i < count; i++) {
-		check(mntgate_want(&job->task, 0, processor));
-		INSIDE();
-		check(mntgate_drop_mount(&job->task, 0, processor));
+/* A function that takes and gives back by these two calls, so often, at a mount or a level. */
+#define GATE_PAIRS(name, take, give, at)                            \
+	static void name(struct job *job)                           \
+	{                                                           \
+		const unsigned long count = pairs;                  \
+		const uint8_t processor = job->number;              \
+                                                                    \
+		for (unsigned long i = 0; i < count; i++) {         \
+			check(take(&job->task, at, processor));     \
+			INSIDE();                                   \
+			check(give(&job->task, at, processor));     \
+		}                                                   \
 	}
-}
 
-static void level_pairs(struct job *job)
-{
-	const unsigned long count = pairs;
-	const uint8_t processor = job->number;
-
-	for (unsigned long i = 0; i < count; i++) {
-		check(mntgate_start(&job->task, 1, processor));
-		INSIDE();
-		check(mntgate_end(&job->task, 1, processor));
-	}
-}
-
-static void write_pairs(struct job *job)
-{
-	const unsigned long count = pairs;
-	const uint8_t processor = job->number;
-
-	for (unsigned long i = 0; i < count; i++) {
-		check(mntgate_want_write(&job->task, 0, processor));
-		INSIDE();
-		check(mntgate_drop_write(&job->task, 0, processor));
-	}
-}
+GATE_PAIRS(mount_pairs, mntgate_want, mntgate_drop_mount, 0)
+GATE_PAIRS(level_pairs, mntgate_start, mntgate_end, 1)
+GATE_PAIRS(write_pairs, mntgate_want_write, mntgate_drop_write, 0)
 
 static void rwlock_pairs(struct job *job)
 {
