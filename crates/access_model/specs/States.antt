@@ -118,6 +118,6 @@ abbrev pub IsClean : Limits → State → Type 0
 IsClean l s = (n : ℕ) → n < l.nodes → is_dirty (s.tree n) ≡ false
 
 -- the model with its limits, as its callers see it
-pub record Standing : Type 0 where
+pub record BoundedState : Type 0 where
   pub limits : Limits
   pub state : State

@@ -8,7 +8,7 @@ use Rattle.vfs_gates.specs.Frozen.{NeverThaws}
 use Rattle.vfs_gates.specs.Grown.{StaySeen}
 use Rattle.vfs_gates.proofs.Grown.{both_stay_seen, same_stays_seen, stays_seen_on}
 use Rattle.vfs_gates.proofs.Rounds.{own_times, times-append}
-use Rattle.vfs_gates.proofs.Standing.{stands}
+use Rattle.vfs_gates.proofs.FrozenUntilThawed.{stands}
 use Rattle.vfs_gates.specs.Ended.{EndedWith, HasAll}
 use Rattle.run_rounds.specs.Keeping.{HaveNotThawed}
 use Rattle.run_rounds.specs.Refusals.{FoundThawed}

@@ -6,7 +6,7 @@ use Rattle.access_model.specs.declared.actions.Gate.TheVariants.{Mount, Level}
 use Rattle.access_model.specs.declared.actions.NodeInfo.{NodeInfo}
 use Rattle.model_state.specs.declared.model.Accesses.{Accesses}
 use Rattle.model_state.specs.declared.model.Model.{Model}
-use Rattle.access_model.specs.States.{Limits, State, Standing, opening_state}
+use Rattle.access_model.specs.States.{Limits, State, BoundedState, opening_state}
 use Rattle.access_model.specs.Actions.{after_action}
 
 -- no access at any mount or level, and no file open
@@ -44,8 +44,8 @@ abbrev pub tree_of : List (Option NodeInfo) → ℕ → Option NodeInfo
 tree_of nodes n = slice_index_or nodes n None
 
 -- a model as its callers see it
-unfoldable pub standing_of : Model → Standing
-standing_of model = record {
+unfoldable pub bounded_state_of : Model → BoundedState
+bounded_state_of model = record {
   limits = record { tasks = model.tasks; mounts = model.mounts; nodes = vec_len model.nodes; capacity = model.capacity };
   state = record {
     mounts = held_of model.accesses.items;
@@ -62,18 +62,18 @@ standing_of model = record {
 
 -- the numbers of the model
 abbrev pub limits_of : Model → Limits
-limits_of model = (standing_of model).limits
+limits_of model = (bounded_state_of model).limits
 
 -- the state of the model
 abbrev pub state_of : Model → State
-state_of model = (standing_of model).state
+state_of model = (bounded_state_of model).state
 
 -- the same model after an action
-abbrev pub standing_after : Standing → ℕ → Action → Standing
-standing_after standing task action = record { limits = standing.limits; state = after_action standing.state task action }
+abbrev pub bounded_state_after : BoundedState → ℕ → Action → BoundedState
+bounded_state_after bounded task action = record { limits = bounded.limits; state = after_action bounded.state task action }
 
 -- a new model of these limits
-abbrev pub opened : ℕ → ℕ → ℕ → ℕ → Standing
+abbrev pub opened : ℕ → ℕ → ℕ → ℕ → BoundedState
 opened tasks mounts nodes capacity = record {
   limits = record { tasks = tasks; mounts = mounts; nodes = nodes; capacity = capacity };
   state = opening_state;

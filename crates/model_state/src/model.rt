@@ -1,5 +1,5 @@
 //! The model itself: a state that changes by whole actions alone, each where it is allowed.
-#![tactic(auto, unfolding(crate::specs::Shown::standing_of))]
+#![tactic(auto, unfolding(crate::specs::Shown::bounded_state_of))]
 
 ghost use Rattle.std.specs.Prelude.{◌≡◌, ℕ, ◌≤◌, ◌<◌, ◌+◌, ◌^◌, ◌↔◌, IsTrue, option_map, vec_len};
 ghost use Rattle.access_model.specs.States.{IsLevel, size_of};
@@ -120,7 +120,7 @@ fn mark(node: &mut Option<NodeInfo>, dirty: bool)
 /// Who holds which access, which read-only flags stand, how far a freeze has come, and the tree.
 ///
 /// It stands for what the writer counts of `struct mount` and the semaphores of `sb_writers` are kept for, without either:
-/// contracts see it as a `Standing`, by `standing_of`.
+/// contracts see it as a `BoundedState`, by `bounded_state_of`.
 #[derive(Drop)]
 pub struct Model {
     tasks: u8,
@@ -149,7 +149,7 @@ impl Model {
     ghost use Rattle.access_model.specs.declared.errors.GateError.TheVariants.{Invalid, NoMemory};
     ghost use Rattle.access_model.specs.declared.actions.Action.TheVariants.{Grant, Return};
     ghost use Rattle.access_model.specs.Actions.{IsWriter, HoldsSomeMount, MayStage, MayDo, IsAllowed};
-    ghost use Rattle.model_state.specs.Shown.{limits_of, state_of, standing_of, opened, standing_after};
+    ghost use Rattle.model_state.specs.Shown.{limits_of, state_of, bounded_state_of, opened, bounded_state_after};
 
     /// A model with nothing held, no flag set, nothing frozen, and the root directory alone.
     ///
@@ -163,7 +163,7 @@ impl Model {
         nodes: u8,
         capacity: u32,
     ) -> Result<Model, GateError>
-        ensures opens { IfOk result (λ model. standing_of model ≡ opened tasks mounts nodes capacity) }
+        ensures opens { IfOk result (λ model. bounded_state_of model ≡ opened tasks mounts nodes capacity) }
         ensures within { OnOk result (AreLimits tasks mounts nodes) }
         ensures invalid { ¬ AreLimits tasks mounts nodes → result ≡ Err Invalid }
         ensures memory { AreLimits tasks mounts nodes → IfErr result (λ e. e ≡ NoMemory) }
@@ -239,7 +239,7 @@ impl Model {
     /// memory.
     pub fn apply(&mut self, task: u8, action: &Action) -> Result<(), GateError>
         ensures answer { IsOk result ↔ IsAllowed (limits_of self.old) (state_of self.old) task action.now }
-        ensures done { OnOk result (standing_of self.new ≡ standing_after (standing_of self.old) task action.now) }
+        ensures done { OnOk result (bounded_state_of self.new ≡ bounded_state_after (bounded_state_of self.old) task action.now) }
         ensures invalid { IfErr result (λ e. e ≡ Invalid) }
         ensures unchanged { OnErr result (self.new ≡ self.old) }
     {
@@ -335,7 +335,7 @@ impl Model {
     /// Does an action that the task may do.
     fn carry_out(&mut self, task: u8, action: &Action)
         requires { IsAllowed (limits_of self.old) (state_of self.old) task action.now }
-        ensures { standing_of self.new ≡ standing_after (standing_of self.old) task action.now }
+        ensures { bounded_state_of self.new ≡ bounded_state_after (bounded_state_of self.old) task action.now }
     {
         match *action {
             Action::Grant(gate) => self.accesses[task as usize].grant(gate),

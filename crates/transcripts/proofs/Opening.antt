@@ -8,7 +8,7 @@ use Rattle.gate_world.specs.Configs.{IsWithin}
 use Rattle.gate_world.specs.Worlds.{World, opening}
 use Rattle.gate_world.specs.declared.config.Config.{Config}
 use Rattle.model_state.specs.Limits.{AreLimits}
-use Rattle.model_state.specs.Shown.{standing_of, opened}
+use Rattle.model_state.specs.Shown.{bounded_state_of, opened}
 use Rattle.transcripts.specs.Limits.{is_config}
 use Rattle.transcripts.specs.Sessions.{ShowsPlay}
 use Rattle.transcripts.specs.Transcript.{opening_play}
@@ -36,7 +36,7 @@ answer_mapped (Err y) s x P Q h mapped same e = absurd (false≢true (sym same �
 -- the session of an opening world and an opening model
 pub opens : {D : Type 0} (shows : D → Config → World → Type 0) (session : Session D) → IsWithin session.config →
     shows session.driver session.config opening →
-    standing_of session.model ≡ opened session.config.tasks session.config.mounts session.config.nodes session.config.capacity →
+    bounded_state_of session.model ≡ opened session.config.tasks session.config.mounts session.config.nodes session.config.capacity →
     ShowsPlay shows session (opening_play session.config)
 opens shows session within shown model = record {
   config = refl;

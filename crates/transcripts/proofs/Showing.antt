@@ -1,10 +1,10 @@
 -- Sessions after an entry: they show the play after it.
 use Rattle.std.proofs.Common.{◌≡◌, ℕ, sym, ap, subst, ◌∙◌, List}
 use Rattle.std.specs.Prelude.{Option, Some, None, Result, Ok, Err, OnOk, IsOk}
-use Rattle.access_model.specs.States.{Standing}
+use Rattle.access_model.specs.States.{BoundedState}
 use Rattle.access_model.specs.Actions.{IsAllowed}
 use Rattle.access_model.specs.Histories.{Done, end_of}
-use Rattle.model_state.specs.Shown.{standing_of, standing_after, limits_of as limits_in, state_of}
+use Rattle.model_state.specs.Shown.{bounded_state_of, bounded_state_after, limits_of as limits_in, state_of}
 use Rattle.access_model.specs.declared.actions.Action.{Action}
 use Rattle.access_model.specs.declared.errors.GateError.{GateError}
 use Rattle.cpu_words.specs.Hooks.{HookAnswer}
@@ -23,7 +23,7 @@ use Rattle.transcripts.specs.declared.session.Session.{Session}
 use Rattle.transcripts.proofs.Playing.{reached_more, allowed, step_adds}
 
 -- the model after these actions, with one more where an entry adds one
-abbrev model_after : Config → List Done → ℕ → Option Action → Standing
+abbrev model_after : Config → List Done → ℕ → Option Action → BoundedState
 model_after c done t o = record { limits = model_limits c; state = end_of (with_action t o done) }
 
 -- the gates after an entry show the world after it
@@ -35,14 +35,14 @@ abbrev StepAnswers : {D : Type 0} → (D → Config → World → Type 0) → Se
 StepAnswers shows old t hook r = (c : Config) (w : World) → shows old.driver c w → r ≡ step_answer c w t hook
 
 -- the model after an entry that adds this
-model_of : (s : Standing) (c : Config) (done : List Done) (t : ℕ) (o : Option Action) → s ≡ model_after c done t o →
+model_of : (s : BoundedState) (c : Config) (done : List Done) (t : ℕ) (o : Option Action) → s ≡ model_after c done t o →
     (o_is : Option Action) → o ≡ o_is → s ≡ model_after c done t o_is
 model_of s c done t o h o_is e = subst (λ (x : Option Action). s ≡ model_after c done t x) e h
 
 module _ {D : Type 0} {shows : D → Config → World → Type 0} where
   -- a session whose gates and model made an entry shows the play after it
   moved : (old new : Session D) (p : ReplayState) (e : Entry) → ShowsPlay shows old p → new.config ≡ old.config → DriverAfter shows old new e →
-      standing_of new.model ≡ model_after p.config p.done (task_of e) (action_of p.config p.world e) → ShowsPlay shows new (played p e)
+      bounded_state_of new.model ≡ model_after p.config p.done (task_of e) (action_of p.config p.world e) → ShowsPlay shows new (played p e)
   moved old new p e h same after model = record {
     config = same ∙ h.config;
     driver = after p.config p.world h.driver;
@@ -53,7 +53,7 @@ module _ {D : Type 0} {shows : D → Config → World → Type 0} where
   -- a beginning adds no action
   pub after_begin : (old new : Session D) (p : ReplayState) (t : ℕ) (op : Op) → ShowsPlay shows old p → new.config ≡ old.config → new.model ≡ old.model →
       DriverAfter shows old new (Begins t op) → ShowsPlay shows new (played p (Begins t op))
-  after_begin old new p t op h same same_model after = moved old new p (Begins t op) h same after (ap standing_of same_model ∙ h.model)
+  after_begin old new p t op h same same_model after = moved old new p (Begins t op) h same after (ap bounded_state_of same_model ∙ h.model)
 
   -- the action of a step that was answered
   adds : (old : Session D) (p : ReplayState) (t : ℕ) (hook : HookAnswer) (r : Step) → ShowsPlay shows old p → StepAnswers shows old t hook r →
@@ -66,23 +66,23 @@ module _ {D : Type 0} {shows : D → Config → World → Type 0} where
       ShowsPlay shows new (after_event p t hook)
   stepped_none old new p t hook r h same is after none same_model =
       moved old new p (Steps t hook) h same after
-      (model_of (standing_of new.model) p.config p.done t None (ap standing_of same_model ∙ h.model)
+      (model_of (bounded_state_of new.model) p.config p.done t None (ap bounded_state_of same_model ∙ h.model)
       (action_of p.config p.world (Steps t hook)) (sym (adds old p t hook r h is ∙ none)))
 
   -- a step that adds an action, which the model makes
   pub stepped_some : (old new : Session D) (p : ReplayState) (t : ℕ) (hook : HookAnswer) (r : Step) (a : Action) → ShowsPlay shows old p →
       new.config ≡ old.config → StepAnswers shows old t hook r → DriverAfter shows old new (Steps t hook) → r.action ≡ Some a →
-      standing_of new.model ≡ standing_after (standing_of old.model) t a → ShowsPlay shows new (after_event p t hook)
+      bounded_state_of new.model ≡ bounded_state_after (bounded_state_of old.model) t a → ShowsPlay shows new (after_event p t hook)
   stepped_some old new p t hook r a h same is moves some after =
       moved old new p (Steps t hook) h same moves
-      (model_of (standing_of new.model) p.config p.done t (Some a) (after ∙ ap (λ (s : Standing). standing_after s t a) h.model)
+      (model_of (bounded_state_of new.model) p.config p.done t (Some a) (after ∙ ap (λ (s : BoundedState). bounded_state_after s t a) h.model)
       (action_of p.config p.world (Steps t hook)) (sym (adds old p t hook r h is ∙ some)))
 
   -- the action of a step is never refused
   pub not_refused : (old : Session D) (p : ReplayState) (t : ℕ) (hook : HookAnswer) (r : Step) (a : Action) → ShowsPlay shows old p →
       StepAnswers shows old t hook r → r.action ≡ Some a → IsAllowed (limits_in old.model) (state_of old.model) t a
   not_refused old p t hook r a h is some =
-      subst (λ (s : Standing). IsAllowed s.limits s.state t a) (sym h.model)
+      subst (λ (s : BoundedState). IsAllowed s.limits s.state t a) (sym h.model)
       (allowed p (Steps t hook) a h.reached (adds old p t hook r h is ∙ some))
 
 -- what is known of a call that went well

@@ -1,6 +1,6 @@
 -- What a session is of a schedule on its way.
 use Rattle.std.specs.Prelude.{◌≡◌, Option, Some, None}
-use Rattle.model_state.specs.Shown.{standing_of}
+use Rattle.model_state.specs.Shown.{bounded_state_of}
 use Rattle.access_model.specs.Histories.{end_of}
 use Rattle.gate_world.specs.Configs.{model_limits}
 use Rattle.gate_world.specs.Worlds.{World}
@@ -17,7 +17,7 @@ Showing D = D → Config → World → Type 0
 pub record ShowsPlay {D : Type 0} (shows : Showing D) (session : Session D) (p : ReplayState) : Type 0 where
   pub config : session.config ≡ p.config
   pub driver : shows session.driver p.config p.world
-  pub model : standing_of session.model ≡ record { limits = model_limits p.config; state = end_of p.done }
+  pub model : bounded_state_of session.model ≡ record { limits = model_limits p.config; state = end_of p.done }
   pub reached : IsReached p
 
 -- there is a session where there is a play, and it shows this

@@ -14,7 +14,7 @@ pub mod Seeing
 pub mod Taking
 pub mod Timing
 pub mod Holding
-pub mod Standing
+pub mod FrozenUntilThawed
 pub mod Returning
 pub mod Resting
 pub mod Reopening

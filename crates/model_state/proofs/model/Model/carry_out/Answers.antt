@@ -5,14 +5,14 @@ use Rattle.std.specs.Prelude.{None}
 use Rattle.access_model.specs.declared.actions.Action.TheVariants.{Grant, Return, Remove, Grow, Open, Close}
 use Rattle.access_model.specs.States.{size_of, openers, used_blocks}
 use Rattle.access_model.specs.Actions.{MayDo, mounts_after, levels_after, opens_after, after_remove, after_close}
-use Rattle.model_state.specs.Shown.{state_of, limits_of, standing_of, opens_of, tree_of}
+use Rattle.model_state.specs.Shown.{state_of, limits_of, bounded_state_of, opens_of, tree_of}
 use Rattle.finite_sums.proofs.Totals.{total_at}
 use Rattle.model_state.proofs.Changes.{held_after, inside_after, open_after, held_kept, inside_kept, open_kept, node_after}
 use Rattle.model_state.proofs.model.Model.carry_out.Goals as goal
 
 -- a file's blocks are a part of all blocks, which stay within the capacity, so the sum fits
 pub grow-requires : goal.grow-requires
-unfolding standing_of
+unfolding bounded_state_of
 grow-requires c =
     let m = c.args.self.now in
     let n = c.in-Grow.node in
@@ -27,7 +27,7 @@ grow-requires c =
 
 -- the task's accesses are written back with one more
 pub returns-in-Grant : goal.returns-in-Grant
-unfolding standing_of
+unfolding bounded_state_of
 returns-in-Grant c =
     let m = c.args.self.now in
     let gate = c.in-Grant.gate in
@@ -45,7 +45,7 @@ returns-in-Grant c =
 
 -- and with one less
 pub returns-in-Return : goal.returns-in-Return
-unfolding standing_of
+unfolding bounded_state_of
 returns-in-Return c =
     let m = c.args.self.now in
     let gate = c.in-Return.gate in
@@ -64,7 +64,7 @@ returns-in-Return c =
 
 -- the node of a file that is removed
 pub returns-in-Remove : goal.returns-in-Remove
-unfolding standing_of
+unfolding bounded_state_of
 returns-in-Remove c =
     let m = c.args.self.now in
     let n = c.in-Remove.node in
@@ -78,7 +78,7 @@ returns-in-Remove c =
 
 -- the task has one file more open
 pub returns-in-Open : goal.returns-in-Open
-unfolding standing_of
+unfolding bounded_state_of
 returns-in-Open c =
     let m = c.args.self.now in
     let n = c.in-Open.node in
@@ -95,7 +95,7 @@ returns-in-Open c =
 
 -- and one less
 pub returns-in-Close : goal.returns-in-Close
-unfolding standing_of
+unfolding bounded_state_of
 returns-in-Close c =
     let m = c.args.self.now in
     let n = c.in-Close.node in

@@ -4,12 +4,12 @@ use Rattle.std.proofs.lemmas.Grind.{common_steps}
 use Rattle.std.proofs.Math.ListN.{set}
 use Rattle.std.specs.Prelude.{false, None, Some}
 use Rattle.access_model.specs.States.{root}
-use Rattle.model_state.specs.Shown.{held_of, inside_of, opens_of, tree_of, standing_of}
+use Rattle.model_state.specs.Shown.{held_of, inside_of, opens_of, tree_of, bounded_state_of}
 use Rattle.model_state.proofs.Opening.{no_access, nothing_held, nobody_inside, nothing_open, no_flag, root_alone}
 use Rattle.model_state.proofs.model.Model.new.Goals as goal
 
 pub returns-clause-opens : goal.returns-clause-opens
-unfolding standing_of
+unfolding bounded_state_of
 returns-clause-opens c =
     let tree : c.in_ok-tree.tree.items ≡ replicate c.args.nodes None =
     c.in_ok-tree.ensures.items_if_clones_equal (λ y h. grind (arith, common_steps)) in

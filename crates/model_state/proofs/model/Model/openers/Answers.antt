@@ -2,12 +2,12 @@
 use Rattle.std.proofs.Common.{◌≡◌, ◌≤◌, ap, ◌∙◌, arith, length}
 use Rattle.finite_sums.specs.Sums.{total}
 use Rattle.access_model.specs.States.{one_if}
-use Rattle.model_state.specs.Shown.{opens_of, standing_of}
+use Rattle.model_state.specs.Shown.{opens_of, bounded_state_of}
 use Rattle.model_state.proofs.Openers.{openers_in}
 use Rattle.model_state.proofs.model.Model.openers.Goals as goal
 
 pub returns : goal.returns
-unfolding standing_of
+unfolding bounded_state_of
 returns c =
     let m = c.args.self.now in
     let few : length m.accesses.items ≤ 64 = omega (arith, m.few_tasks, m.each_task, m.accesses.ok.0) in

@@ -3,7 +3,7 @@ use Rattle.std.proofs.lemmas.Bool.{false≢true}
 use Rattle.std.proofs.lemmas.Grind.{common_steps}
 use Rattle.gate_world.specs.Configs.{IsWithin}
 use Rattle.gate_world.specs.Worlds.{opening}
-use Rattle.model_state.specs.Shown.{standing_of, opened}
+use Rattle.model_state.specs.Shown.{bounded_state_of, opened}
 use Rattle.transcripts.proofs.Opening.{is_config_within, limits_within, known_mapped, answer_mapped, opens}
 use Rattle.transcripts.proofs.session.Session.new.Goals as goal
 
@@ -28,7 +28,7 @@ returns-clause-opens g c = λ known.
     let shown = answer_mapped c.new.result c.map_err.result c.in_ok-driver.driver (λ driver. g.D.Driver.shows driver config opening) _
     (c.new.ensures.opens known) c.map_err.ensures.cases c.map_err.ensures.variant c.in_ok-driver.was in
     let model = answer_mapped c.new-2.result c.map_err-2.result c.in_ok-model.model
-    (λ model. standing_of model ≡ opened config.tasks config.mounts config.nodes config.capacity) _
+    (λ model. bounded_state_of model ≡ opened config.tasks config.mounts config.nodes config.capacity) _
     c.new-2.ensures.opens c.map_err-2.ensures.cases c.map_err-2.ensures.variant c.in_ok-model.was in
     opens g.D.Driver.shows record { config = config; driver = c.in_ok-driver.driver; model = c.in_ok-model.model } within shown model
 
