@@ -4,6 +4,7 @@
 import errno
 import os
 import signal
+import sys
 import threading
 import time
 import unittest
@@ -38,6 +39,31 @@ class Answers(mntgate.Hooks):
 
     def reconfigure(self, read_only: bool):
         return self.answer("reconfigure")
+
+
+def interrupt_at(count: int, call: Callable) -> bool:
+    """Makes a call, and interrupts it before the line of the module with this number, as it is run; whether it came so far."""
+    left = count
+
+    def trace(frame, event: str, _: object):
+        nonlocal left
+        if frame.f_code.co_filename != mntgate.__file__:
+            return None
+        if event == "line":
+            left -= 1
+            if left == 0:
+                raise KeyboardInterrupt
+        return trace
+
+    before = sys.gettrace()
+    sys.settrace(trace)
+    try:
+        call()
+        return False
+    except KeyboardInterrupt:
+        return True
+    finally:
+        sys.settrace(before)
 
 
 class Gates(unittest.TestCase):
@@ -196,6 +222,22 @@ class Gates(unittest.TestCase):
                     self.task.thaw()
                 self.assertFalse(self.task.finish())
                 self.assertTrue(self.task.rests)
+
+    def test_freeze_that_is_interrupted_anywhere(self) -> None:
+        """At whichever line an exception comes, the task can go on."""
+        for hooks in (None, Answers()):
+            count = 1
+            while interrupt_at(count, lambda: self.task.freeze(hooks=hooks)):
+                self.task.finish()
+                self.assertTrue(self.task.rests)
+                try:
+                    self.task.thaw()
+                except mntgate.Error as refused:
+                    # (it was not begun)
+                    self.assertEqual(refused.errno, errno.EINVAL)
+                count += 1
+            self.assertGreater(count, 20)
+            self.task.thaw()
 
     def test_block_that_is_interrupted(self) -> None:
         """A block gives back what it holds, and a freeze that it has begun, as soon as that is done."""
