@@ -62,7 +62,10 @@ test_c() {
 }
 
 test_python() {
-    MNTGATE_LIBRARY=$prefix/lib/libmntgate.so.0 expect "$(cat bindings/python/examples/backup.stdout)" python3 -B bindings/python/examples/backup.py
+    local name
+    for name in backup remount; do
+        MNTGATE_LIBRARY=$prefix/lib/libmntgate.so.0 expect "$(cat "bindings/python/examples/$name.stdout")" python3 -B "bindings/python/examples/$name.py"
+    done
     MNTGATE_LIBRARY=$prefix/lib/libmntgate.so.0 python3 -B bindings/python/test_mntgate.py 2>"$work/said" || { cat "$work/said" >&2; exit 1; }
 }
 

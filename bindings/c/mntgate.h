@@ -29,6 +29,8 @@
  *
  * Traps
  *   A handle that is lost leaves what its task held: give back, join, close. docs/refusals.md says what the others meet.
+ *   C cuts off a number that is too large for its parameter: 256 is mount 0 then. A hook's result is cut off likewise: 65536 is no failure
+ *   then. gcc and clang warn of both under -Wconversion.
  *   A thread sanitizer doesn't see into the archive. Under -fsanitize=thread this header tells it that each call orders what was before it
  *   and what comes after it. It then misses races that the gates don't prevent.
  *
@@ -350,8 +352,9 @@ mntgate_result mntgate_thaw_at_once(struct mntgate_task *task, bool by_kernel, s
  * (sched_yield). There is no wake-up and no time limit: who needs one writes such a loop over mntgate_begin and mntgate_run. */
 
 /* The hooks of a file system. Each answers 0, or a code from 1 to 65535 by which it failed. NULL stands for a hook that answers 0. They
- * are called between two steps, while their task owns s_umount: a hook must not wait for another task, nor use the handle. It must return:
- * after an exception or a longjmp out of it the operation stays under way, and its levels stay closed. */
+ * are called between two steps, while their task owns s_umount: a hook must not wait for another task, nor use the handle. It must return.
+ * After an exception or a longjmp out of it the operation stays under way, and its levels stay closed. Then tell the library that the hook
+ * has failed, by mntgate_run(task, EIO, 1, &outcome). mntgate_answer(task, 0, &outcome) does the rest, and answers MNTGATE_HOOK + EIO. */
 struct mntgate_hooks {
 	void *data;
 	uint16_t (*sync)(void *data);

@@ -15,9 +15,21 @@ which everything was frozen. These laws are proved of the library, for every int
 A task is used by one call at a time: each call takes the task's own lock, so that a second thread waits for the first one's call. A call lets go of
 Python's lock, so threads meet at the gates. The library is found by MNTGATE_LIBRARY, the path of libmntgate.so, else by the loader.
 
-A call that waits can't be given up. After an exception out of it, of a hook or by a signal as KeyboardInterrupt, its operation stays under way: the
-levels that it has closed stay closed, and each later call of its task is EDEADLK. So let a hook return a code, and wait in another thread than the
-main one, in which alone Python handles signals.
+Every call may raise `Error`: with EDEADLK if the task may not make it now, with EINVAL if a number is out of range. A number that is no integer is a
+TypeError.
+
+A hook that raises an exception, or returns no code, has failed with the code EIO. Its operation ends as after any failure of that hook. Then the
+exception is raised again, in the context of the refusal.
+
+An exception may come out of a call that waits, as KeyboardInterrupt does on Ctrl-C:
+
+- `access`, `level`, `write`, `read_only`, `change_mount`, `close_file` and `snapshot` try again and again. The exception leaves the task as it was.
+- `freeze`, `thaw`, `remount`, `callback` and `settle` can't be given up. The operation stays under way: levels that it has closed stay closed, and
+  other calls are EDEADLK. `finish` does it to its end.
+- A with block finishes what an exception in it has left under way, and then gives back what it holds. `frozen` does so for its own freeze: it waits
+  until that is done, thaws, and raises the exception again. A second Ctrl-C ends this wait.
+
+An exception that comes after a call has done its work, and before the block begins, leaves what the call took. `holds_mount` and `holds_level` tell.
 """
 
 from __future__ import annotations
@@ -28,10 +40,11 @@ import ctypes
 import ctypes.util
 import enum
 import errno
+import operator
 import os
 import threading
 import time
-from typing import Callable, Iterator, NamedTuple, Optional, Sequence, Tuple
+from typing import Callable, ContextManager, Iterator, NamedTuple, Optional, Sequence, Tuple
 
 __all__ = ["Config", "Error", "Holder", "HookFailed", "Hooks", "Node", "Task", "Tree", "open"]
 
@@ -39,6 +52,10 @@ __all__ = ["Config", "Error", "Holder", "HookFailed", "Hooks", "Node", "Task", "
 HOOK = 65536
 # How many steps one call of the library does at most.
 STEPS = 1024
+# How an operation stands.
+IDLE, WAITING, DONE = 0, 2, 3
+# The kinds of the operations that can't be given up.
+KINDS = {"remount_sb": 3, "callback": 8, "freeze": 9, "thaw": 10}
 
 
 class Error(OSError):
@@ -89,8 +106,9 @@ class Tree(NamedTuple):
 
 
 class Hooks:
-    """The hooks of a file system. Each returns 0, or a code from 1 to 65535 by which it failed, and raises nothing. While one runs its task owns
-    s_umount: it must not wait for another task, nor use its own. Override what is needed."""
+    """The hooks of a file system. Each returns 0, or a code from 1 to 65535 by which it failed. One that raises an exception or returns anything else
+    has failed with EIO, and its call raises that exception, or a TypeError or ValueError. While a hook runs its task owns s_umount: it must not wait
+    for another task, nor use its own. Override what is needed."""
 
     def sync(self) -> int:
         """Writes all that is dirty."""
@@ -147,21 +165,27 @@ _CALLS: dict = {
     "number": (_BYTE, []), "is_idle": (_BOOL, []), "rests": (_BOOL, []), "holds_mount": (ctypes.c_uint16, [_BYTE]), "holds_level": (_BOOL, [_BYTE]),
     "has_open": (_BOOL, [_BYTE]), "waited": (ctypes.c_uint64, []), "begin": (_U32, [ctypes.POINTER(_Op)]),
     "run": (None, [ctypes.c_uint16, _U32, ctypes.POINTER(_Outcome)]), "wants_hook": (_U32, []),
-    "want_write_at_once": (_U32, [_BYTE, _BYTE, ctypes.POINTER(_Outcome)]), "callback_at_once": (_U32, [_BYTE, ctypes.POINTER(_Outcome)]),
+    "callback_at_once": (_U32, [_BYTE, ctypes.POINTER(_Outcome)]),
     "remount_sb_at_once": (_U32, [_BOOL, ctypes.POINTER(_Outcome)]), "freeze_at_once": (_U32, [_BOOL, ctypes.POINTER(_Outcome)]),
     "thaw_at_once": (_U32, [_BOOL, ctypes.POINTER(_Outcome)]),
 }
 
 
 def _load() -> Callable:
-    """Returns the library's calls, by their names without the prefix."""
-    path = os.environ.get("MNTGATE_LIBRARY") or ctypes.util.find_library("mntgate") or "libmntgate.so"
-    library = ctypes.CDLL(path)
+    """Returns the library's calls, by their names without the prefix. ImportError says where it was looked for."""
+    named = os.environ.get("MNTGATE_LIBRARY")
+    path = named or ctypes.util.find_library("mntgate") or "libmntgate.so"
     calls = {}
-    for name, (result, words) in _CALLS.items():
-        call = getattr(library, f"mntgate_{name}")
-        call.restype, call.argtypes = result, [ctypes.POINTER(_Handle), *words]
-        calls[name] = call
+    try:
+        library = ctypes.CDLL(path)
+        for name, (result, words) in _CALLS.items():
+            call = getattr(library, f"mntgate_{name}")
+            call.restype, call.argtypes = result, [ctypes.POINTER(_Handle), *words]
+            calls[name] = call
+    except (OSError, AttributeError) as reason:
+        place = "the path in MNTGATE_LIBRARY" if named else "MNTGATE_LIBRARY is not set, so the loader looked for it"
+        advice = "bin/install-c PREFIX makes the library: set MNTGATE_LIBRARY=PREFIX/lib/libmntgate.so"
+        raise ImportError(f"can't load the library {path} ({place}): {reason}. {advice}", name=__name__, path=path) from reason
     return calls.__getitem__
 
 
@@ -176,11 +200,61 @@ def _raise(result: int) -> None:
         raise Error(result, os.strerror(result))
 
 
-def _u8(number: int) -> int:
-    """A number that the library takes as a byte. One out of range is refused here, since ctypes would cut it off."""
-    if not 0 <= number <= 255:
-        raise Error(errno.EINVAL, os.strerror(errno.EINVAL))
+def _number(number: int, most: int) -> int:
+    """A number for the library. One out of range is refused here, since ctypes would cut it off, and so is what is no integer."""
+    number = operator.index(number)
+    if not 0 <= number <= most:
+        _raise(errno.EINVAL)
     return number
+
+
+def _u8(number: int) -> int:
+    return _number(number, (1 << 8) - 1)
+
+
+def _u32(number: int) -> int:
+    return _number(number, (1 << 32) - 1)
+
+
+class _Operation:
+    """An operation that can't be given up: what it needs to go on, until its answer is told."""
+
+    def __init__(self, hooks: Optional[Hooks], read_only: bool) -> None:
+        self.hooks = hooks
+        self.read_only = read_only
+        self.outcome = _Outcome()
+        self.asks = False
+        self.raised: Optional[BaseException] = None
+
+    def ask(self, wanted: int) -> int:
+        """Asks the hook that the next step wants; its code. What it raises is kept until the operation is done."""
+        if self.hooks is None or wanted == 0:
+            return 0
+        self.asks = True
+        try:
+            name = ("sync", "freeze_fs", "unfreeze_fs", "reconfigure")[wanted - 1]
+            hook = getattr(self.hooks, name)
+            code = hook(self.read_only) if name == "reconfigure" else hook()
+            if isinstance(code, bool) or not isinstance(code, int):
+                raise TypeError(f"the hook {name} returned {code!r}: expected 0, or a code from 1 to 65535")
+            if not 0 <= code < HOOK:
+                raise ValueError(f"the hook {name} returned {code}: expected 0, or a code from 1 to 65535")
+            return code
+        except BaseException as raised:
+            self.raised = raised
+            return errno.EIO
+        finally:
+            self.asks = False
+
+    def tell(self) -> None:
+        """Raises what a hook has raised, in the context of the refusal, or else why the operation was refused."""
+        try:
+            _raise(self.outcome.answer)
+        except HookFailed as refusal:
+            if self.raised is not None:
+                refusal.__context__ = self.raised.__context__
+                raise self.raised
+            raise
 
 
 class Task:
@@ -191,6 +265,7 @@ class Task:
         self._gates = gates
         self._handle = _Handle()
         self._lock = threading.RLock()
+        self._left: Optional[_Operation] = None
 
     def _do(self, name: str, *words: object) -> int:
         with self._lock:
@@ -201,38 +276,85 @@ class Task:
     def _ask(self, name: str, *words: object) -> None:
         _raise(self._do(name, *words))
 
-    def _perform(self, kind: int, number: int = 0, other: int = 0, choice: bool = False, hooks: Optional[Hooks] = None) -> int:
-        """Begins an operation that may wait, and does it to its end; the value of its reply."""
-        op, outcome, pause = _Op(kind, _u8(number), _u8(other), choice, True, 0), _Outcome(), 0.0
-        at_once = {3: ("remount_sb", choice), 6: ("want_write", number, other), 8: ("callback", number), 9: ("freeze", choice), 10: ("thaw", choice)}
-        tries = {0: ("try_want", number, other), 2: ("try_change_mount", number, choice), 4: ("try_start", number, other), 19: ("try_snapshot",)}
+    def _retry(self, name: str, *words: object) -> None:
+        """Tries a call until it need not wait. Between two tries nothing of it is left."""
+        pause = 0.0
         with self._lock:
-            if kind in tries:
-                name, *words = tries[kind]
+            while True:
                 result = self._do(name, *words)
                 if result != errno.EAGAIN:
-                    _raise(result)
-                    return 0
-            if hooks is None and kind in at_once:
-                name, *words = at_once[kind]
-                self._ask(f"{name}_at_once", *words, ctypes.byref(outcome))
+                    return _raise(result)
+                time.sleep(pause)
+                pause = min(pause + 1e-5, 1e-3)
+
+    def _perform(self, name: str, word: int, hooks: Optional[Hooks] = None) -> int:
+        """Begins an operation that can't be given up, and does it to its end; the value of its reply."""
+        with self._lock:
+            if not self.is_idle:
+                raise Error(errno.EDEADLK, "an operation is under way, which finish() does to its end")
+            # (before it is begun, so that no exception comes between)
+            left = self._left = _Operation(hooks, bool(word))
+            if hooks is None:
+                begun = self._do(f"{name}_at_once", word, ctypes.byref(left.outcome))
             else:
-                self._ask("begin", ctypes.byref(op))
-                outcome.progress = 1
-            while outcome.progress != 3:
-                self._do("run", self._hook(hooks, choice), STEPS, ctypes.byref(outcome))
-                if outcome.progress == 2:
+                begun = self._do("begin", ctypes.byref(_Op(KINDS[name], 0, 0, word, True, 0)))
+            if begun:
+                self._left = None
+                _raise(begun)
+            self._go_on(left)
+            return left.outcome.value
+
+    def _go_on(self, left: _Operation) -> bool:
+        """Does an operation to its end, and tells its answer; whether it was begun at all."""
+        pause = 0.0
+        try:
+            while left.outcome.progress != DONE:
+                code = left.ask(self._do("wants_hook"))
+                self._do("run", code, STEPS, ctypes.byref(left.outcome))
+                if left.outcome.progress == IDLE:
+                    break
+                if left.outcome.progress == WAITING:
                     time.sleep(pause)
                     pause = min(pause + 1e-5, 1e-3)
-            _raise(outcome.answer)
-            return outcome.value
+        finally:
+            # (a signal may have come before `ask` could do so)
+            left.asks = False
+        self._left = None
+        left.tell()
+        return left.outcome.progress == DONE
 
-    def _hook(self, hooks: Optional[Hooks], read_only: bool) -> int:
-        wanted = self._do("wants_hook")
-        if hooks is None or wanted == 0:
-            return 0
-        asks = (hooks.sync, hooks.freeze_fs, hooks.unfreeze_fs, lambda: hooks.reconfigure(read_only))
-        return asks[wanted - 1]()
+    def finish(self) -> bool:
+        """Does to its end what an exception has left under way, with the hooks of its call; whether there was such an operation. It raises what that
+        call would have raised. A freeze that is finished so stands, until it is thawed. EDEADLK in a hook."""
+        with self._lock:
+            if self._left is None:
+                return False
+            if self._left.asks:
+                _raise(errno.EDEADLK)
+            return self._go_on(self._left)
+
+    def _ends_well(self) -> bool:
+        """Finishes what an exception has left under way; whether that was not refused. A refusal gives way to the exception."""
+        try:
+            return self.finish()
+        except (Error, HookFailed):
+            return False
+
+    @contextlib.contextmanager
+    def _holds(self, take: Callable[[], None], give_back: Callable[[], None]) -> Iterator["Task"]:
+        """Takes something for a with block, and gives it back at the end. What an exception has left under way is finished first."""
+        before = self._left
+        try:
+            take()
+        except BaseException:
+            if self._left is not before and self._ends_well():
+                give_back()
+            raise
+        try:
+            yield self
+        finally:
+            self._ends_well()
+            give_back()
 
     def split(self) -> "Task":
         """Splits off a task for another thread. EDEADLK unless this one rests, EMFILE, ENOMEM."""
@@ -253,7 +375,8 @@ class Task:
         """Closes the gates, whose last task this is; what these words hold at the end (kind, of what, processor). EDEADLK unless all others were
         joined and it rests."""
         count = len(words)
-        asked, values = (_Word * max(count, 1))(*(_Word(*word) for word in words)), (ctypes.c_uint64 * max(count, 1))()
+        asked = (_Word * max(count, 1))(*(_Word(*map(_u8, word)) for word in words))
+        values = (ctypes.c_uint64 * max(count, 1))()
         self._ask("close_words", asked, count, values, count)
         return tuple(values[:count])
 
@@ -281,7 +404,7 @@ class Task:
 
     @property
     def waited(self) -> int:
-        """How often its last operation came to a wait."""
+        """How often its last operation came to a wait. Calls that try again and again come to none."""
         return self._do("waited")
 
     def holds_mount(self, mount: int) -> int:
@@ -322,23 +445,23 @@ class Task:
 
     def change_mount(self, mount: int, read_only: bool) -> None:
         """Makes a mount read-only, or writable; waits for s_umount. EBUSY."""
-        self._perform(2, mount, choice=read_only)
+        self._retry("try_change_mount", _u8(mount), read_only)
 
     def remount(self, read_only: bool, hooks: Optional[Hooks] = None) -> None:
         """Remounts the superblock read-only or writable. EBUSY, HookFailed."""
-        self._perform(3, choice=read_only, hooks=hooks)
+        self._perform("remount_sb", read_only, hooks)
 
     def freeze(self, holder: Holder = Holder.USER, hooks: Optional[Hooks] = None) -> None:
         """Freezes the file system for a holder; waits for who is inside a level. EBUSY, HookFailed: then the levels are open again."""
-        self._perform(9, choice=holder.value, hooks=hooks)
+        self._perform("freeze", holder.value, hooks)
 
     def thaw(self, holder: Holder = Holder.USER, hooks: Optional[Hooks] = None) -> None:
         """Gives a holder's freeze back. EINVAL, HookFailed: then all stays frozen."""
-        self._perform(10, choice=holder.value, hooks=hooks)
+        self._perform("thaw", holder.value, hooks)
 
     def callback(self, level: int) -> bool:
         """Runs the callback that a level has queued; whether there was one."""
-        return self._perform(8, level) == 1
+        return self._perform("callback", _u8(level)) == 1
 
     def settle(self) -> None:
         """Runs the callbacks of all levels, until none is queued."""
@@ -346,51 +469,37 @@ class Task:
             while self.callback(level):
                 pass
 
-    @contextlib.contextmanager
-    def access(self, mount: int, processor: int = 0) -> Iterator["Task"]:
+    def access(self, mount: int, processor: int = 0) -> ContextManager["Task"]:
         """An access at a mount, for which no freeze waits; waits while a change holds writers off. EROFS, EMFILE."""
-        self._perform(0, mount, processor)
-        try:
-            yield self
-        finally:
-            self.drop_mount(mount, processor)
+        return self._holds(lambda: self._retry("try_want", _u8(mount), _u8(processor)), lambda: self.drop_mount(mount, processor))
 
-    @contextlib.contextmanager
-    def level(self, level: int, processor: int = 0) -> Iterator["Task"]:
+    def level(self, level: int, processor: int = 0) -> ContextManager["Task"]:
         """A freeze level; waits while a freeze closes it."""
-        self._perform(4, level, processor)
-        try:
-            yield self
-        finally:
-            self.end(level, processor)
+        return self._holds(lambda: self._retry("try_start", _u8(level), _u8(processor)), lambda: self.end(level, processor))
 
-    @contextlib.contextmanager
-    def write(self, mount: int, processor: int = 0) -> Iterator["Task"]:
+    def write(self, mount: int, processor: int = 0) -> ContextManager["Task"]:
         """Write access, which is what a writer needs: level 1 and an access at a mount; waits for both. EROFS, EMFILE."""
-        self._perform(6, mount, processor)
-        try:
-            yield self
-        finally:
-            self.drop_write(mount, processor)
+        return self._holds(lambda: self._take_write(_u8(mount), _u8(processor)), lambda: self.drop_write(mount, processor))
 
-    @contextlib.contextmanager
-    def read_only(self, mount: int) -> Iterator["Task"]:
+    def _take_write(self, mount: int, processor: int) -> None:
+        # (no wait for a level if there is no such mount)
+        if mount >= self.config.mounts:
+            _raise(errno.EINVAL)
+        self._retry("try_start", 1, processor)
+        try:
+            self._retry("try_want", mount, processor)
+        except BaseException:
+            self.end(1, processor)
+            raise
+
+    def read_only(self, mount: int) -> ContextManager["Task"]:
         """A mount that is read-only, and made writable at the end, also if it was read-only before. EBUSY where it has writers."""
-        self.change_mount(mount, True)
-        try:
-            yield self
-        finally:
-            self.change_mount(mount, False)
+        return self._holds(lambda: self.change_mount(mount, True), lambda: self.change_mount(mount, False))
 
-    @contextlib.contextmanager
-    def frozen(self, holder: Holder = Holder.USER, hooks: Optional[Hooks] = None) -> Iterator["Task"]:
+    def frozen(self, holder: Holder = Holder.USER, hooks: Optional[Hooks] = None) -> ContextManager["Task"]:
         """A frozen file system, thawed at the end. EBUSY. HookFailed of the freeze: the levels are open again; of the thaw: all stays
         frozen. Give each hook codes of its own to tell these apart, or call `freeze` and `thaw`."""
-        self.freeze(holder, hooks)
-        try:
-            yield self
-        finally:
-            self.thaw(holder, hooks)
+        return self._holds(lambda: self.freeze(holder, hooks), lambda: self.thaw(holder, hooks))
 
     def create(self, directory: int, is_dir: bool = False) -> int:
         """Makes an empty file or directory; its node. ENOENT, ENOTDIR, ENOSPC, EAGAIN."""
@@ -404,9 +513,7 @@ class Task:
 
     def grow(self, file: int, blocks: int) -> None:
         """Makes a file larger. ENOENT, EISDIR, ENOSPC, EAGAIN."""
-        if not 0 <= blocks < 1 << 32:
-            raise Error(errno.EINVAL, os.strerror(errno.EINVAL))
-        self._ask("grow", _u8(file), blocks)
+        self._ask("grow", _u8(file), _u32(blocks))
 
     def move_to(self, file: int, directory: int) -> None:
         """Gives a file another directory. ENOENT, EISDIR, ENOTDIR, EAGAIN."""
@@ -425,24 +532,26 @@ class Task:
         self._ask("open_file", _u8(file))
 
     def close_file(self, file: int, processor: int = 0) -> None:
-        """Closes a file that it has open; waits while a freeze closes level 3. EAGAIN."""
-        self._perform(18, file, processor)
+        """Closes a file that it has open; waits while a freeze closes level 3."""
+        self._retry("try_close_file", _u8(file), _u8(processor))
 
     def snapshot(self) -> Tree:
         """Takes a snapshot of the frozen tree. EINVAL where nothing is frozen."""
-        self._perform(19)
-        tree = self.tree()
+        with self._lock:
+            self._retry("try_snapshot")
+            tree = self.tree()
         assert tree is not None
         return tree
 
     def tree(self) -> Optional[Tree]:
         """The last snapshot that it has taken."""
         used, node, nodes = ctypes.c_uint64(), _Node(), []
-        if self._do("tree_used", ctypes.byref(used)):
-            return None
-        for number in range(self.config.nodes):
-            self._ask("tree_node", number, ctypes.byref(node))
-            nodes.append(Node(node.is_dir, node.parent, node.size, node.dirty, node.removed, node.kids) if node.there else None)
+        with self._lock:
+            if self._do("tree_used", ctypes.byref(used)):
+                return None
+            for number in range(self.config.nodes):
+                self._ask("tree_node", number, ctypes.byref(node))
+                nodes.append(Node(node.is_dir, node.parent, node.size, node.dirty, node.removed, node.kids) if node.there else None)
         return Tree(used.value, tuple(nodes))
 
 
@@ -450,6 +559,6 @@ def open(tasks: int = 64, processors: int = 64, mounts: int = 1, nodes: int = 64
     """Opens gates; the task with number 0, which has all other numbers to give. EINVAL, ENOMEM."""
     config = Config(tasks, processors, mounts, nodes, capacity)
     task = Task(config, builtins.object())
-    named = _Config(*(_u8(number) for number in config[:4]), capacity)
+    named = _Config(*map(_u8, config[:4]), _u32(capacity))
     _raise(_call("open")(ctypes.byref(task._handle), ctypes.byref(named)))
     return task

@@ -2,10 +2,68 @@
 """Tests the Python module: each call, and what it refuses."""
 
 import errno
+import os
+import signal
+import sys
 import threading
+import time
 import unittest
+from typing import Callable
+from unittest import mock
 
 import mntgate
+
+
+class Answers(mntgate.Hooks):
+    """Hooks of which each returns what it is told to, or raises it, and counts how often it was asked."""
+
+    def __init__(self, **answers: object) -> None:
+        self.answers = answers
+        self.asked = 0
+
+    def answer(self, name: str):
+        self.asked += 1
+        answer = self.answers.get(name, 0)
+        if isinstance(answer, BaseException):
+            raise answer
+        return answer
+
+    def sync(self):
+        return self.answer("sync")
+
+    def freeze_fs(self):
+        return self.answer("freeze_fs")
+
+    def unfreeze_fs(self):
+        return self.answer("unfreeze_fs")
+
+    def reconfigure(self, read_only: bool):
+        return self.answer("reconfigure")
+
+
+def interrupt_at(count: int, call: Callable) -> bool:
+    """Makes a call, and interrupts it before the line of the module with this number, as it is run; whether it came so far."""
+    left = count
+
+    def trace(frame, event: str, _: object):
+        nonlocal left
+        if frame.f_code.co_filename != mntgate.__file__:
+            return None
+        if event == "line":
+            left -= 1
+            if left == 0:
+                raise KeyboardInterrupt
+        return trace
+
+    before = sys.gettrace()
+    sys.settrace(trace)
+    try:
+        call()
+        return False
+    except KeyboardInterrupt:
+        return True
+    finally:
+        sys.settrace(before)
 
 
 class Gates(unittest.TestCase):
@@ -23,6 +81,23 @@ class Gates(unittest.TestCase):
         with self.assertRaises(mntgate.Error) as caught:
             call(*words, **named)
         self.assertEqual(caught.exception.errno, number)
+
+    def fails(self, kind: type, call: Callable, *words: object) -> None:
+        """Tests that a hook fails by an exception of this kind, in the context of the refusal, and that the call has ended."""
+        with self.assertRaises(kind) as caught:
+            call(*words)
+        self.assertIsInstance(caught.exception.__context__, mntgate.HookFailed)
+        self.assertEqual(caught.exception.__context__.code, errno.EIO)
+        self.assertTrue(self.task.is_idle)
+
+    def interrupted(self, call: Callable, *words: object) -> None:
+        """Calls what has to wait, and interrupts it there, as Ctrl-C does."""
+        with mock.patch("mntgate.time.sleep", side_effect=KeyboardInterrupt):
+            self.assertRaises(KeyboardInterrupt, call, *words)
+
+    def enter(self, block) -> None:
+        with block:
+            self.fail("it was to wait")
 
     def test_accesses(self) -> None:
         with self.task.access(0):
@@ -52,6 +127,145 @@ class Gates(unittest.TestCase):
         self.task.remount(True)
         self.task.remount(False, Fails())
         self.task.settle()
+
+    def test_numbers(self) -> None:
+        task = self.task
+        calls = [
+            task.try_want, lambda number: task.try_want(0, number), task.drop_mount, lambda number: task.drop_mount(0, number),
+            task.drop_write, lambda number: task.drop_write(0, number), task.try_start, lambda number: task.try_start(1, number),
+            task.end, lambda number: task.end(1, number), lambda number: task.try_change_mount(number, True),
+            lambda number: task.change_mount(number, True), task.holds_mount, task.holds_level, task.has_open, task.callback,
+            task.create, task.remove, task.fault, task.flush, task.open_file, task.close_file, lambda number: task.close_file(1, number),
+            lambda number: task.grow(number, 1), lambda number: task.move_to(number, 0), lambda number: task.move_to(1, number),
+            lambda number: task.close([(number, 0, 0)]), lambda number: task.close([(7, 0, number)]),
+            lambda number: self.enter(task.access(number)), lambda number: self.enter(task.access(0, number)),
+            lambda number: self.enter(task.level(number)), lambda number: self.enter(task.level(1, number)),
+            lambda number: self.enter(task.write(number)), lambda number: self.enter(task.write(0, number)),
+            lambda number: self.enter(task.read_only(number)),
+        ]
+        for place, call in enumerate(calls):
+            with self.subTest(place=place):
+                for number in (-1, 256, 1 << 32):
+                    self.refused(errno.EINVAL, call, number)
+                for number in (0.0, "0", None):
+                    self.assertRaises(TypeError, call, number)
+        with self.task.write(0):
+            for blocks in (-1, 1 << 32):
+                self.refused(errno.EINVAL, self.task.grow, 1, blocks)
+            self.assertRaises(TypeError, self.task.grow, 1, 1.0)
+        with self.other.frozen():
+            # (it doesn't wait first)
+            self.refused(errno.EINVAL, self.enter, self.task.write(1))
+
+    def test_hook_without_a_code(self) -> None:
+        for answer, kind in ((65536, ValueError), (70000, ValueError), (-1, ValueError), (None, TypeError), (False, TypeError), ("0", TypeError)):
+            with self.subTest(answer=answer):
+                self.fails(kind, self.task.freeze, mntgate.Holder.USER, Answers(sync=answer))
+                self.refused(errno.EINVAL, self.other.thaw)
+        with self.assertRaises(mntgate.HookFailed) as caught:
+            self.task.freeze(hooks=Answers(sync=65535))
+        self.assertEqual(caught.exception.code, 65535)
+
+    def test_hook_that_raises(self) -> None:
+        for raised in (ZeroDivisionError(), KeyboardInterrupt(), SystemExit()):
+            with self.subTest(raised=raised):
+                hooks = Answers(freeze_fs=raised, unfreeze_fs=raised, reconfigure=raised)
+                self.fails(type(raised), self.task.freeze, mntgate.Holder.USER, hooks)
+                self.fails(type(raised), self.enter, self.task.frozen(hooks=hooks))
+                self.fails(type(raised), self.task.remount, True, hooks)
+                with self.other.write(0):
+                    pass
+                with self.task.frozen():
+                    self.fails(type(raised), self.task.thaw, mntgate.Holder.USER, hooks)
+                    self.task.snapshot()
+                self.assertFalse(self.task.finish())
+
+    def test_hook_that_uses_its_task(self) -> None:
+        for name in ("finish", "freeze", "thaw", "snapshot", "settle"):
+            with self.subTest(name=name):
+                hooks = mntgate.Hooks()
+                hooks.sync = getattr(self.task, name)
+                self.fails(mntgate.Error, self.task.freeze, mntgate.Holder.USER, hooks)
+
+    def test_wait_that_is_interrupted(self) -> None:
+        """A call that only tries leaves nothing."""
+        with self.other.write(0) as writer:
+            file = writer.create(0)
+            self.task.open_file(file)
+            writer.remove(file)
+        with self.other.frozen():
+            self.interrupted(self.enter, self.task.write(0))
+            self.interrupted(self.enter, self.task.level(1))
+            self.interrupted(self.task.close_file, file)
+            self.assertTrue(self.task.is_idle and self.task.has_open(file))
+            self.assertFalse(self.task.holds_level(1) or self.task.holds_mount(0))
+        self.task.close_file(file)
+        self.assertTrue(self.task.rests)
+
+    def test_freeze_that_is_interrupted(self) -> None:
+        """A freeze stays under way until it is finished, with the hooks of its call."""
+        for hooks in (None, Answers(), Answers(freeze_fs=7)):
+            with self.subTest(hooks=hooks):
+                with self.other.write(0):
+                    self.interrupted(self.task.freeze, mntgate.Holder.USER, hooks)
+                    self.assertFalse(self.task.is_idle)
+                    for call in (self.task.thaw, self.task.snapshot, lambda: self.task.try_want(0)):
+                        self.refused(errno.EDEADLK, call)
+                    self.interrupted(self.task.finish)
+                if hooks is not None and hooks.answers:
+                    with self.assertRaises(mntgate.HookFailed) as caught:
+                        self.task.finish()
+                    self.assertEqual(caught.exception.code, 7)
+                else:
+                    self.assertTrue(self.task.finish())
+                    self.refused(errno.EAGAIN, self.other.try_start, 1)
+                    self.task.thaw()
+                self.assertFalse(self.task.finish())
+                self.assertTrue(self.task.rests)
+
+    def test_freeze_that_is_interrupted_anywhere(self) -> None:
+        """At whichever line an exception comes, the task can go on."""
+        for hooks in (None, Answers()):
+            count = 1
+            while interrupt_at(count, lambda: self.task.freeze(hooks=hooks)):
+                self.task.finish()
+                self.assertTrue(self.task.rests)
+                try:
+                    self.task.thaw()
+                except mntgate.Error as refused:
+                    # (it was not begun)
+                    self.assertEqual(refused.errno, errno.EINVAL)
+                count += 1
+            self.assertGreater(count, 20)
+            self.task.thaw()
+
+    def test_block_that_is_interrupted(self) -> None:
+        """A block gives back what it holds, and a freeze that it has begun, as soon as that is done."""
+        def interrupt() -> None:
+            time.sleep(0.05)
+            os.kill(os.getpid(), signal.SIGINT)
+            time.sleep(0.05)
+            self.other.drop_write(0)
+
+        self.other.try_start(1)
+        self.other.try_want(0)
+        thread = threading.Thread(target=interrupt)
+        thread.start()
+        with self.assertRaises(KeyboardInterrupt):
+            self.enter(self.task.frozen())
+        thread.join()
+        self.refused(errno.EINVAL, self.task.thaw)
+        self.other.try_start(1)
+
+        def freezes() -> None:
+            with self.task.access(0):
+                with mock.patch("mntgate.time.sleep", side_effect=KeyboardInterrupt):
+                    self.assertRaises(KeyboardInterrupt, self.task.freeze)
+                self.other.end(1)
+
+        freezes()
+        self.assertTrue(self.task.rests)
+        self.task.thaw()
 
     def test_tree(self) -> None:
         self.assertIsNone(self.task.tree())
@@ -103,8 +317,24 @@ class Gates(unittest.TestCase):
 class Open(unittest.TestCase):
     """Opening and closing."""
 
+    def test_library(self) -> None:
+        for path in ("/nowhere/libmntgate.so", "libc.so.6"):
+            with mock.patch.dict(os.environ, MNTGATE_LIBRARY=path):
+                with self.assertRaises(ImportError) as caught:
+                    mntgate._load()
+            for part in ("MNTGATE_LIBRARY=PREFIX/lib/libmntgate.so", path, "bin/install-c"):
+                self.assertIn(part, str(caught.exception))
+
     def test_config(self) -> None:
         self.assertRaises(mntgate.Error, mntgate.open, tasks=65)
+        for name in ("tasks", "processors", "mounts", "nodes", "capacity"):
+            for number in (-1, (1 << 32) + 2):
+                with self.assertRaises(mntgate.Error) as caught:
+                    mntgate.open(**{name: number})
+                self.assertEqual(caught.exception.errno, errno.EINVAL)
+            for number in (2.0, "2", None):
+                self.assertRaises(TypeError, mntgate.open, **{name: number})
+        mntgate.open(tasks=1, capacity=(1 << 32) - 1).close()
         task, other = mntgate.open(), mntgate.open()
         self.assertRaises(mntgate.Error, task.join, other)
         other.close()

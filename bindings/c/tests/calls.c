@@ -2,6 +2,7 @@
 #undef NDEBUG
 #include <assert.h>
 #include <pthread.h>
+#include <setjmp.h>
 #include <stdio.h>
 #include <unistd.h>
 
@@ -86,6 +87,28 @@ static void test_hooks(struct mntgate_task *task)
 	assert(mntgate_remount_sb(task, true, &hooks) == 0 && mntgate_want(task, 0, 0) == EROFS);
 	assert(mntgate_remount_sb(task, false, &hooks) == 0 && !to_read_only && mntgate_remount_sb(task, false, NULL) == 0);
 	assert(mntgate_settle(task) == 0);
+}
+
+static uint16_t on_sync_leaving(void *data)
+{
+	longjmp(*(jmp_buf *)data, 1);
+}
+
+/* A hook that doesn't return is told as one that failed. */
+static void test_hook_that_leaves(struct mntgate_task *task, struct mntgate_task *other)
+{
+	static jmp_buf before;
+	static const struct mntgate_hooks leaving = { &before, on_sync_leaving, NULL, NULL, NULL };
+	struct mntgate_outcome outcome;
+
+	if (setjmp(before) == 0) {
+		mntgate_freeze(task, MNTGATE_USER, &leaving);
+		assert(!"it has left");
+	}
+	assert(!mntgate_is_idle(task) && mntgate_try_start(other, 1, 0) == EAGAIN && mntgate_thaw(task, MNTGATE_USER, NULL) == EDEADLK);
+	mntgate_run(task, EIO, 1, &outcome);
+	assert(mntgate_answer(task, 0, &outcome) == MNTGATE_HOOK + EIO && mntgate_rests(task));
+	assert(mntgate_try_start(other, 1, 0) == 0 && mntgate_end(other, 1, 0) == 0 && mntgate_settle(task) == 0);
 }
 
 static void test_tree(struct mntgate_task *task, struct mntgate_task *other)
@@ -222,6 +245,7 @@ int main(void)
 	test_accesses(&task, &other);
 	test_levels(&task, &other);
 	test_hooks(&task);
+	test_hook_that_leaves(&task, &other);
 	test_tree(&task, &other);
 	test_steps(&task, &other);
 	test_at_once(&task, &other);

@@ -1,8 +1,8 @@
 //! What a freeze, a thaw and a remount ask of a file system.
 
 /// The hooks of a file system. Each answers `Ok`, or the code of its failure, with which the call that asked ends as [`Error::Hook`]; a
-/// code 0 is told as 1. A hook runs while its task owns `s_umount`, so it must not wait for another task. It must not panic either: its
-/// call would stay under way, and its levels closed.
+/// code 0 is told as 1. A hook runs while its task owns `s_umount`, so it must not wait for another task. A hook that panics has failed with
+/// 5, which is `EIO`: its call ends as after any failure of that hook, and then the panic goes on.
 ///
 /// [`Error::Hook`]: crate::Error::Hook
 pub trait Hooks {

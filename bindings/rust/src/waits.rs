@@ -3,9 +3,13 @@
 use crate::guards::{Access, Frozen, Level, ReadOnly, WriteAccess};
 use crate::steps::{HookKind, Op, Progress, Reply};
 use crate::{Error, Holder, Hooks, Task};
+use std::panic::{catch_unwind, resume_unwind, AssertUnwindSafe};
 
 /// How many steps one call of the library does at most.
 const STEPS: u32 = 1024;
+
+/// With what a hook that panics has failed: `EIO`.
+const PANICKED: u16 = 5;
 
 /// Pauses that grow: soon each leaves the processor to others.
 #[derive(Clone, Debug, Default)]
@@ -37,7 +41,7 @@ fn ask(kind: HookKind, hooks: &mut impl Hooks, read_only: bool) -> Result<(), u1
 }
 
 impl Task {
-    /// Begins an operation and does it to its end, however long it has to wait, with these hooks.
+    /// Begins an operation and does it to its end, however long it has to wait, with these hooks. A hook's panic goes on once that is done.
     pub(crate) fn perform<H: Hooks>(&mut self, op: Op, hooks: &mut H) -> Result<Reply, Error> {
         let read_only = op == Op::RemountSb { read_only: true };
         if !H::ARE_NONE {
@@ -46,10 +50,16 @@ impl Task {
             return answer;
         }
         let mut backoff = Backoff::default();
+        let mut panicked = None;
         loop {
-            let hook = self.wants_hook().map_or(Ok(()), |kind| ask(kind, hooks, read_only));
+            let hook = self.wants_hook().map_or(Ok(()), |kind| {
+                catch_unwind(AssertUnwindSafe(|| ask(kind, hooks, read_only))).unwrap_or_else(|panic| {
+                    panicked = Some(panic);
+                    Err(PANICKED)
+                })
+            });
             match self.run(hook, STEPS) {
-                Progress::Done(answer) => return answer,
+                Progress::Done(answer) => return panicked.map_or(answer, |panic| resume_unwind(panic)),
                 Progress::Idle => return Err(Error::Order),
                 Progress::Waiting => backoff.snooze(),
                 Progress::Going => {}

@@ -1,5 +1,6 @@
 //! The gates as a Rust program uses them.
 use mntgate::{Backoff, Config, Error, Gates, HookKind, Holder, Hooks, Op, Progress, Reply, Task};
+use std::panic::{catch_unwind, AssertUnwindSafe};
 use std::sync::atomic::{AtomicU64, Ordering::Relaxed};
 use std::thread;
 use std::time::Duration;
@@ -85,6 +86,33 @@ fn a_hook_that_fails_is_no_busy() {
     task.settle().unwrap();
     assert!(!task.callback(1).unwrap());
     task.close().unwrap();
+}
+
+#[test]
+fn a_hook_that_panics_ends_its_call() {
+    struct Panics;
+
+    impl Hooks for Panics {
+        fn freeze_fs(&mut self) -> Result<(), u16> {
+            panic!("freeze_fs");
+        }
+
+        fn unfreeze_fs(&mut self) -> Result<(), u16> {
+            panic!("unfreeze_fs");
+        }
+    }
+
+    let (mut task, mut other) = pair();
+    let panic = catch_unwind(AssertUnwindSafe(|| task.freeze(Holder::User, &mut Panics))).unwrap_err();
+    assert_eq!(panic.downcast_ref(), Some(&"freeze_fs"));
+    assert!(task.is_idle());
+    drop(other.write(0, 0).unwrap());
+    task.freeze(Holder::User, &mut ()).unwrap();
+    let panic = catch_unwind(AssertUnwindSafe(|| task.thaw(Holder::User, &mut Panics))).unwrap_err();
+    assert_eq!(panic.downcast_ref(), Some(&"unfreeze_fs"));
+    assert_eq!(other.try_start(1, 0), Err(Error::Again));
+    task.thaw(Holder::User, &mut ()).unwrap();
+    close(task, other);
 }
 
 #[test]
