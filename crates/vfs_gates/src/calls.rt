@@ -1,7 +1,9 @@
 //! Calls that wait for nobody.
 
-ghost use Rattle.std.specs.Prelude.{◌≡◌, false};
+ghost use Rattle.std.specs.Prelude.{◌≡◌, false, Result};
 ghost use Rattle.access_model.specs.Replies.{map_next};
+ghost use Rattle.access_model.specs.declared.errors.GateError.{GateError as GateErrorType};
+ghost use Rattle.access_model.specs.declared.replies.Reply.{Reply as ReplyType};
 ghost use Rattle.gate_world.specs.declared.operations.Op.{Op as OpType};
 ghost use Rattle.vfs_gates.specs.TaskStates.{SeatedTask};
 ghost use Rattle.vfs_gates.specs.Waits.{is_wait};
@@ -81,6 +83,18 @@ impl Task {
         }
     }
 
+    /// The same; answers only whether it was done. The place for what `finish` answers is made here: a call that finds nothing in its way
+    /// makes none, since a store before a step on a word keeps that step waiting.
+    #[inline(always)]
+    fn finish_performing(&mut self, gates: &Gates) -> Result<(), GateError>
+        requires from { IsFrom self.old gates.now }
+        requires trying { IsTrying self.old }
+        ensures { (op : OpType) (start : SeatedTask) → OpUnderWay op start self.old →
+            (answer : Result ReplyType GateErrorType) × (result ≡ told_as unit_of answer) × Called op start self.new answer }
+    {
+        outcome(self.finish(gates))
+    }
+
     /// Begins an operation that has a most number of events and this first phase, and does its events in a line. Where one of them finds
     /// something else, it notes where the operation stands and does the rest.
     #[inline(always)]
@@ -106,7 +120,7 @@ impl Task {
             Next::Done(answer) => outcome(answer),
             Next::Go(under_way) | Next::Wait(under_way) => {
                 self.state.phase = Some(under_way.phase());
-                outcome(self.finish(gates))
+                self.finish_performing(gates)
             }
         }
     }
