@@ -2,15 +2,10 @@
 
 ghost use Rattle.vfs_gates.specs.TaskStates.{IsFrom};
 
-use super::SMALL;
-use super::fixtures::HookPolicy;
-use super::rows::Check::{BacksUp, Shuts, ShutsAndSees, Takes, Took};
-use super::rows::EMPTY_TREE;
-use super::teams::{Case, JOINS, SPLITS, Script};
 use super::thread_runs::ThreadRun;
 use crossbeam_utils::Backoff;
 use std::sync::Wait;
-use vfs_gates::{Event, FsHooks, GateError, Gates, Holder, HookCall, Op, Progress, Task, WordName};
+use vfs_gates::{Event, FsHooks, GateError, Gates, Holder, Op, Progress, Task, WordName};
 
 /// Remounts read-only, so often while it is busy.
 pub fn shut<R: Wait>(
@@ -125,107 +120,64 @@ pub fn take<R: Wait>(
 
 /// A remount is busy for the access that another task takes with the second processor, and for what it has frozen, each time, and is done once
 /// that is thawed.
-pub const REMOUNTS: Case = Case {
-    name: "a remount that is busy",
-    config: SMALL,
-    manner: HookPolicy::Agrees,
-    acts: &[
-        SPLITS,
-        Script::Lines("1 want 0 1: done\n"),
-        Script::First(&[
-            ("remounts beside an access", Shuts(Err(GateError::Busy))),
-            (
-                "sees the access",
-                ShutsAndSees(Ok(Some(WordName::MountCount(0, 1)))),
-            ),
-        ]),
-        Script::Lines(
-            "1 drop 0 0: done\n\
-             1 freeze: done\n",
-        ),
-        Script::First(&[("sees the freeze", ShutsAndSees(Ok(Some(WordName::Stage))))]),
-        Script::Lines("1 thaw: done\n"),
-        Script::First(&[("remounts", Shuts(Ok(())))]),
-        Script::Lines("1 trywant 0 0: ReadOnly\n"),
-        JOINS,
-    ],
-    stays_open: &[],
-    left: Some(&[]),
-};
+pub const REMOUNTS: &str = "\
+config 2 2 1 2 8: agrees
+split: done
+1 want 0 1: done
+0 shut: Busy
+0 shut_and_see: mount0.cpu1
+1 drop 0 0: done
+1 freeze: done
+0 shut_and_see: stage
+1 thaw: done
+0 shut: done
+1 trywant 0 0: ReadOnly
+join: done
+close: done
+";
 
 /// A backup that the file system refuses takes no snapshot, and has run the callbacks: two freezes have closed the first level since one ran
 /// there, and one has run by then. What another task has frozen is taken as it is, and left frozen.
-pub const BACKUPS: Case = Case {
-    name: "a backup beside another",
-    config: SMALL,
-    manner: HookPolicy::Agrees,
-    acts: &[
-        SPLITS,
-        Script::Lines(
-            "1 freeze: done\n\
-             1 thaw: done\n",
-        ),
-        Script::Fails(HookCall::FreezeFs, 16),
-        Script::First(&[
-            ("backs up in vain", BacksUp(Err(GateError::Hook(16)))),
-            ("no snapshot", Took(&[])),
-        ]),
-        Script::Lines(
-            "0 callback 1: done=1\n\
-             0 callback 1: done=0\n\
-             1 freeze: done\n",
-        ),
-        Script::First(&[
-            ("backs up what is frozen", BacksUp(Ok(()))),
-            ("its tree", Took(EMPTY_TREE)),
-        ]),
-        Script::Lines(
-            "0 trystart 1 0: Again\n\
-             1 thaw: done\n",
-        ),
-        JOINS,
-    ],
-    stays_open: &[],
-    left: Some(&[]),
-};
+pub const BACKUPS: &str = "\
+config 2 2 1 2 8: agrees
+split: done
+1 freeze: done
+1 thaw: done
+fail freeze_fs 16
+0 back_up: Hook 16
+0 tree: none
+0 callback 1: done=1
+0 callback 1: done=0
+1 freeze: done
+0 back_up: done
+0 tree: node 0 dir 0 0 clean
+0 trystart 1 0: Again
+1 thaw: done
+join: done
+close: done
+";
 
 /// A backup by its own freeze leaves nothing frozen.
-pub const OWN: Case = Case {
-    name: "a backup",
-    config: SMALL,
-    manner: HookPolicy::Agrees,
-    acts: &[
-        SPLITS,
-        Script::First(&[
-            ("backs up", BacksUp(Ok(()))),
-            ("its tree", Took(EMPTY_TREE)),
-        ]),
-        Script::Lines(
-            "0 thaw: Invalid\n\
-             1 trystart 1 0: done\n\
-             1 end 1 0: done\n",
-        ),
-        JOINS,
-    ],
-    stays_open: &[],
-    left: Some(&[]),
-};
+pub const OWN: &str = "\
+config 2 2 1 2 8: agrees
+split: done
+0 back_up: done
+0 tree: node 0 dir 0 0 clean
+0 thaw: Invalid
+1 trystart 1 0: done
+1 end 1 0: done
+join: done
+close: done
+";
 
 /// A snapshot that finds nothing frozen is taken of a freeze of its own.
-pub const SNAPSHOTS: Case = Case {
-    name: "a snapshot of nothing frozen",
-    config: SMALL,
-    manner: HookPolicy::Agrees,
-    acts: &[
-        SPLITS,
-        Script::Lines("0 snapshot: Invalid\n"),
-        Script::First(&[
-            ("no snapshot", Took(&[])),
-            ("takes one", Takes(Ok(()))),
-            ("its tree", Took(EMPTY_TREE)),
-        ]),
-        JOINS,
-    ],
-    stays_open: &[],
-    left: Some(&[]),
-};
+pub const SNAPSHOTS: &str = "\
+config 2 2 1 2 8: agrees
+split: done
+0 snapshot: Invalid
+0 tree: none
+0 take: done
+0 tree: node 0 dir 0 0 clean
+join: done
+close: done
+";

@@ -1,25 +1,21 @@
 //! What all tasks at some gates share beside them: the file system, what is noted beside their calls, and what was wrong.
 
+use std::alloc::Global;
 use std::sync::OnceLock;
 use std::sync::atomic::{AtomicU64, Ordering};
 use vfs_gates::{GateError, HookCall, Op, Tree};
 
-/// What a file system answers, and what is looked at after each call.
-#[derive(Clone, Copy)]
-pub enum HookPolicy {
-    /// It agrees, and nothing is looked at.
-    Agrees,
-    Freezes,
-    Remounts,
-    Holders,
-    Trees,
-    Opens,
-}
-
 /// What all tasks at some gates share.
 #[derive(Drop)]
 pub struct Fixture {
-    manner: HookPolicy,
+    pub alloc: Global,
+    /// The case that is played.
+    pub case: &'static str,
+    /// What the file system answers, and what is looked at after each call: `agrees`, where that is nothing, or what a case of `threads`
+    /// has.
+    manner: &'static str,
+    /// How many files node 200 stands for, one after the other: as many as there may be.
+    pub files: u8,
     /// How often the file system was asked what it may refuse.
     pub asked: AtomicU64,
     /// How many tasks are inside, by their own account: writers, or readers of levels 1 and 2.
@@ -34,9 +30,12 @@ pub struct Fixture {
 }
 
 impl Fixture {
-    pub fn of(manner: HookPolicy) -> Fixture {
+    pub fn of(alloc: Global, case: &'static str, manner: &'static str, nodes: u8) -> Fixture {
         Fixture {
+            alloc,
+            case,
             manner,
+            files: nodes.saturating_sub(1),
             asked: AtomicU64::new(0),
             inside: AtomicU64::new(0),
             inside_top: AtomicU64::new(0),
@@ -62,11 +61,11 @@ impl Fixture {
     /// nobody inside the levels that are passed then.
     pub fn answer(&self, call: HookCall) -> Result<(), u16> {
         let fails = match self.manner {
-            HookPolicy::Freezes => {
+            "freezes" => {
                 self.expect(self.is_empty(call != HookCall::Sync), "readers inside");
                 self.asked.fetch_add(1, Ordering::SeqCst) % 5 == 4
             }
-            HookPolicy::Remounts => self.asked.fetch_add(1, Ordering::SeqCst) % 3 == 2,
+            "remounts" => self.asked.fetch_add(1, Ordering::SeqCst) % 3 == 2,
             _ => false,
         };
         if fails { Err(7) } else { Ok(()) }
@@ -81,10 +80,11 @@ impl Fixture {
         tree: Option<&Tree>,
     ) -> bool {
         match self.manner {
-            HookPolicy::Freezes => self.counts_readers(op, answer),
-            HookPolicy::Holders => self.sees_as_before(task, op, answer, tree),
-            HookPolicy::Trees | HookPolicy::Opens => is_whole(op, answer, tree),
-            HookPolicy::Agrees | HookPolicy::Remounts => true,
+            "agrees" | "remounts" => true,
+            "freezes" => self.counts_readers(op, answer),
+            "holders" => self.sees_as_before(task, op, answer, tree),
+            "trees" => is_whole(op, answer, tree),
+            _ => false,
         }
     }
 }

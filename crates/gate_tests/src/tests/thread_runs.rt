@@ -1,42 +1,45 @@
-//! Turns: how a task stands in its lines, and the hooks that it calls with.
+//! How a task stands in its lines, and the hooks that it calls with.
 
+use super::cases::{cut, end_name};
 use super::fixtures::Fixture;
-use super::rows::{MOST, call_of};
+use super::lines::{MOST, call_of};
+use schedule_lines::numbers::number_of;
 use vfs_gates::{FsHooks, GateError, HookCall, Op, Tree};
 
 /// How a task stands in its lines.
 #[derive(Drop)]
 pub struct ThreadRun<'s> {
     pub scene: &'s Fixture,
-    /// The question at which the file system fails next, with which code.
-    pub fails: Option<(HookCall, u16)>,
+    /// At what the file system fails next, and with which code, as `sync 16`; empty where it does as the case says.
+    pub fails: &'static str,
     /// The code with which it has failed last.
     code: u16,
     /// The file that node 100 stands for, the last one that was made; or 1 where the last callback ran, and 0 where none was queued.
     pub told: u8,
-    /// The file that node 200 stands for, of so many.
+    /// The file that node 200 stands for.
     any: u8,
-    files: u8,
     /// How many lines are left out next.
     left_out: u8,
     /// Whose the last line is, how its call may end, and how often it was to be made again.
     number: u8,
     ends: &'static str,
+    /// Whether the operation of the last line only begins.
+    pub begins: bool,
     again: u32,
 }
 
 impl<'s> ThreadRun<'s> {
-    pub fn new(scene: &'s Fixture, files: u8) -> ThreadRun<'s> {
+    pub fn new(scene: &'s Fixture) -> ThreadRun<'s> {
         ThreadRun {
             scene,
-            fails: None,
+            fails: "",
             code: 0,
-            told: files,
-            any: files,
-            files,
+            told: scene.files,
+            any: scene.files,
             left_out: 0,
             number: 0,
             ends: "",
+            begins: false,
             again: 0,
         }
     }
@@ -44,7 +47,7 @@ impl<'s> ThreadRun<'s> {
     /// Begins a round, for another file.
     pub fn begin_round(&mut self) {
         self.left_out = 0;
-        self.any = if self.any < self.files {
+        self.any = if self.any < self.scene.files {
             self.any.saturating_add(1)
         } else {
             1
@@ -58,8 +61,9 @@ impl<'s> ThreadRun<'s> {
             return None;
         }
         self.again = 0;
-        let (front, ends) = line.split_once(": ").unwrap_or((line, ""));
-        self.ends = ends;
+        let (front, ends) = cut(line, ": ");
+        self.begins = ends == "begun";
+        self.ends = if self.begins { "done" } else { ends };
         match call_of(front) {
             Some((number, op)) => {
                 self.number = number;
@@ -94,12 +98,11 @@ impl<'s> ThreadRun<'s> {
 
     /// Whether the call of the line may end so: `done`, or by the name of a refusal, a hook's with the code of the last one that has failed.
     fn may_end(&mut self, answer: Result<(), GateError>) -> bool {
-        let name = match answer {
-            Ok(()) => "done",
+        match answer {
             Err(GateError::Hook(code)) if code != self.code => return false,
-            Err(refusal) => refusal.name(),
-        };
-        match self.ends.split_once(name) {
+            _ => {}
+        }
+        match self.ends.split_once(end_name(answer)) {
             Some((_, behind)) => self.goes_on(behind),
             None => false,
         }
@@ -128,20 +131,34 @@ impl<'s> ThreadRun<'s> {
         }
     }
 
-    /// What the file system answers, which fails once where it is to fail at this question.
+    /// The code with which the file system fails at a question where it is to fail at this one next.
+    fn failure(&mut self, call: HookCall) -> Option<u16> {
+        let code = self.fails.strip_prefix(question(call))?;
+        self.fails = "";
+        u16::try_from(number_of(code.as_bytes())?).ok()
+    }
+
+    /// What the file system answers.
     fn answer(&mut self, call: HookCall) -> Result<(), u16> {
-        let fails = self.fails;
-        let answer = match fails {
-            Some((question, code)) if question == call => {
-                self.fails = None;
-                Err(code)
-            }
-            _ => self.scene.answer(call),
+        let answer = match self.failure(call) {
+            Some(code) => Err(code),
+            None => self.scene.answer(call),
         };
         if let Err(code) = answer {
             self.code = code;
         }
         answer
+    }
+}
+
+/// How a line says what a hook is asked, with a blank behind it.
+fn question(call: HookCall) -> &'static str {
+    match call {
+        HookCall::Sync => "sync ",
+        HookCall::FreezeFs => "freeze_fs ",
+        HookCall::UnfreezeFs => "unfreeze_fs ",
+        HookCall::Reconfigure { read_only: true } => "reconfigure ro ",
+        HookCall::Reconfigure { read_only: false } => "reconfigure rw ",
     }
 }
 

@@ -1,11 +1,8 @@
 //! Freezes and thaws beside readers and callbacks, of a file system that fails now and then.
 
-use super::super::fixtures::{Fixture, HookPolicy};
-use super::super::rows::Repetition;
-use super::super::teams::{Case, JOINS, SPLITS, Script};
-use super::FIVE;
+use super::super::fixtures::Fixture;
 use std::sync::atomic::Ordering;
-use vfs_gates::{GateError, Op, WordName};
+use vfs_gates::{GateError, Op};
 
 impl Fixture {
     /// Whether no reader is inside level 1 or 2, nor inside level 3 where that matters, too.
@@ -33,70 +30,33 @@ impl Fixture {
     }
 }
 
-/// One freezes, finds each level shut, and thaws, however often the file system fails meanwhile: not twice in a row.
-const FREEZES: &str = "4 freeze: done Hook*\n\
-                       4 trystart 1 0: Again\n\
-                       4 trystart 2 1: Again\n\
-                       4 trystart 3 0: Again\n\
-                       4 thaw: done>9 Hook\n\
-                       4 thaw: done\n";
-
-/// Two go inside each level on one processor, and leave it on the other.
-const READS: &str = "1 start 1 0: done\n\
-                     1 end 1 1: done\n\
-                     1 start 2 1: done\n\
-                     1 end 2 0: done\n\
-                     1 start 3 0: done\n\
-                     1 end 3 1: done\n";
-
-const OTHER_READS: &str = "2 start 1 1: done\n\
-                           2 end 1 0: done\n\
-                           2 start 2 0: done\n\
-                           2 end 2 1: done\n\
-                           2 start 3 1: done\n\
-                           2 end 3 0: done\n";
-
-/// One runs the callbacks of all levels.
-const CALLBACKS: &str = "3 callback 1: done\n\
-                         3 callback 2: done\n\
-                         3 callback 3: done\n";
-
-pub const CASE: Case = Case {
-    name: "nobody is inside while it is frozen",
-    config: FIVE,
-    manner: HookPolicy::Freezes,
-    acts: &[
-        SPLITS,
-        SPLITS,
-        SPLITS,
-        SPLITS,
-        Script::Beside(&[
-            Repetition {
-                lines: READS,
-                rounds: 5000,
-                files: 1,
-            },
-            Repetition {
-                lines: OTHER_READS,
-                rounds: 5000,
-                files: 1,
-            },
-            Repetition {
-                lines: CALLBACKS,
-                rounds: 1000,
-                files: 1,
-            },
-            Repetition {
-                lines: FREEZES,
-                rounds: 200,
-                files: 1,
-            },
-        ]),
-        JOINS,
-        JOINS,
-        JOINS,
-        JOINS,
-    ],
-    stays_open: &[],
-    left: Some(&[(WordName::Stage, 0)]),
-};
+/// Nobody is inside while it is frozen. Two tasks go inside each level on one processor, and leave it on the other. One runs the callbacks
+/// of all levels. One freezes, finds each level shut, and thaws, however often the file system fails meanwhile: not twice in a row.
+pub const CASE: &str = "\
+config 5 2 1 2 8: freezes
+rounds 5000 5000 1000 200
+    1 start 1 0: done
+    1 end 1 1: done
+    1 start 2 1: done
+    1 end 2 0: done
+    1 start 3 0: done
+    1 end 3 1: done
+    2 start 1 1: done
+    2 end 1 0: done
+    2 start 2 0: done
+    2 end 2 1: done
+    2 start 3 1: done
+    2 end 3 0: done
+    3 callback 1: done
+    3 callback 2: done
+    3 callback 3: done
+    4 freeze: done Hook*
+    4 trystart 1 0: Again
+    4 trystart 2 1: Again
+    4 trystart 3 0: Again
+    4 thaw: done>9 Hook
+    4 thaw: done
+join: done
+close: done
+stage 0
+";

@@ -1,12 +1,9 @@
 //! Two holders of a freeze, each in a thread, beside a writer, and one who remounts, takes snapshots and writes.
 
-use super::super::fixtures::{Fixture, HookPolicy};
-use super::super::rows::Repetition;
-use super::super::teams::{Case, JOINS, SPLITS, Script};
-use super::FIVE;
+use super::super::fixtures::Fixture;
 use std::sync::atomic::{AtomicU64, Ordering};
 use std::thread;
-use vfs_gates::{Config, GateError, Op, Tree, WordName};
+use vfs_gates::{GateError, Op, Tree};
 
 /// The task that freezes as the kernel.
 const OF_KERNEL: u8 = 4;
@@ -68,76 +65,41 @@ impl Fixture {
     }
 }
 
-/// Two freeze, as the kernel and as user space, once no other's freeze is under way; they look twice, and thaw.
-const KERNEL: &str = "4 freeze kernel: done Busy*\n\
-                      4 snapshot: done\n\
-                      4 snapshot: done\n\
-                      4 thaw kernel: done\n";
-
-const USER: &str = "1 freeze user: done Busy*\n\
-                    1 snapshot: done\n\
-                    1 snapshot: done\n\
-                    1 thaw user: done\n";
-
-/// One writes, where the superblock is writable: it makes a file, makes it larger, and removes some file.
-const WRITES: &str = "2 wantwrite 0 0: done ReadOnly>9\n\
-                      2 create 0 file: done Again NoSpace\n\
-                      2 grow 100 1: done Again NoEntry NoSpace\n\
-                      2 remove 200: done Again NoEntry\n\
-                      2 dropwrite 0 1: done\n";
-
-/// One remounts, takes a snapshot, whoever has frozen, and writes.
-const REMOUNTS: &str = "3 remount ro: done Busy\n\
-                        3 snapshot: done Invalid\n\
-                        3 wantwrite 0 1: done ReadOnly>4\n\
-                        3 create 0 file: done Again NoSpace\n\
-                        3 grow 100 1: done Again NoEntry NoSpace\n\
-                        3 remove 200: done Again NoEntry\n\
-                        3 dropwrite 0 0: done\n\
-                        3 remount rw: done Busy\n\
-                        3 snapshot: done Invalid\n\
-                        3 wantwrite 0 1: done ReadOnly>9\n\
-                        3 create 0 file: done Again NoSpace\n\
-                        3 grow 100 1: done Again NoEntry NoSpace\n\
-                        3 remove 200: done Again NoEntry\n\
-                        3 dropwrite 0 0: done\n";
-
-pub const CASE: Case = Case {
-    name: "no snapshot is of an open file system",
-    config: Config { nodes: 6, ..FIVE },
-    manner: HookPolicy::Holders,
-    acts: &[
-        SPLITS,
-        SPLITS,
-        SPLITS,
-        SPLITS,
-        Script::Beside(&[
-            Repetition {
-                lines: USER,
-                rounds: 100,
-                files: 5,
-            },
-            Repetition {
-                lines: WRITES,
-                rounds: 1000,
-                files: 5,
-            },
-            Repetition {
-                lines: REMOUNTS,
-                rounds: 500,
-                files: 5,
-            },
-            Repetition {
-                lines: KERNEL,
-                rounds: 100,
-                files: 5,
-            },
-        ]),
-        JOINS,
-        JOINS,
-        JOINS,
-        JOINS,
-    ],
-    stays_open: &[],
-    left: Some(&[(WordName::Holders, 0), (WordName::Stage, 0)]),
-};
+/// No snapshot is of an open file system. Two tasks freeze, as the kernel and as user space, once no other's freeze is under way; they look
+/// twice, and thaw. One writes, where the superblock is writable: it makes a file, makes it larger, and removes some file. One remounts,
+/// takes a snapshot, whoever has frozen, and writes.
+pub const CASE: &str = "\
+config 5 2 1 6 8: holders
+rounds 100 1000 500 100
+    1 freeze user: done Busy*
+    1 snapshot: done
+    1 snapshot: done
+    1 thaw user: done
+    2 wantwrite 0 0: done ReadOnly>9
+    2 create 0 file: done Again NoSpace
+    2 grow 100 1: done Again NoEntry NoSpace
+    2 remove 200: done Again NoEntry
+    2 dropwrite 0 1: done
+    3 remount ro: done Busy
+    3 snapshot: done Invalid
+    3 wantwrite 0 1: done ReadOnly>4
+    3 create 0 file: done Again NoSpace
+    3 grow 100 1: done Again NoEntry NoSpace
+    3 remove 200: done Again NoEntry
+    3 dropwrite 0 0: done
+    3 remount rw: done Busy
+    3 snapshot: done Invalid
+    3 wantwrite 0 1: done ReadOnly>9
+    3 create 0 file: done Again NoSpace
+    3 grow 100 1: done Again NoEntry NoSpace
+    3 remove 200: done Again NoEntry
+    3 dropwrite 0 0: done
+    4 freeze kernel: done Busy*
+    4 snapshot: done
+    4 snapshot: done
+    4 thaw kernel: done
+join: done
+close: done
+holders 0
+stage 0
+";

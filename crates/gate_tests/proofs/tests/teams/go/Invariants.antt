@@ -1,7 +1,0 @@
--- All tasks come from the gates.
-use Rattle.std.specs.Prelude.{All}
-use Rattle.vfs_gates.specs.TaskStates.{IsFrom}
-use Rattle.gate_tests.proofs.tests.teams.go.Given as goal
-
-abbrev pub invariant-loop-act : goal.invariant-loop-act
-invariant-loop-act g l = IsFrom l.first l.fn.gates × All (λ task. IsFrom task l.fn.gates) l.others.items
