@@ -198,14 +198,10 @@ fewer_seen : (now : List Entry) (all some_of : DealtNumbers) (seen : List (List 
 fewer_seen now all some_of seen fewer have = record { goes_on = have.goes_on; rested = λ m here. have.rested m (fewer m here) }
 
 few_kept : (m n : ℕ) (x : Numbered) (xs : DealtNumbers) → 1 ≤ times m (x ∷ without n xs) → 1 ≤ times m (x ∷ xs)
-few_kept m n x xs here = dite (ℕ_discrete m n)
-    (λ yes. let e : times m (without n xs) ≡ 0 = subst (λ k. times m (without k xs) ≡ 0) yes (times-without m xs) in omega (arith, here))
-    (λ no. omega (arith, here, times-without_other m n xs no))
+few_kept m n x xs here = grind (arith, dite, times, without, times-without, times-without_other)
 
 few_given : (m n : ℕ) (v : View) (x : Numbered) (xs : DealtNumbers) → 1 ≤ times n xs → 1 ≤ times m (numbered n v ∷ []) → 1 ≤ times m (x ∷ xs)
-few_given m n v x xs spare here = dite (ℕ_discrete n m)
-    (λ yes. let e : 1 ≤ times m xs = subst (λ k. 1 ≤ times k xs) yes spare in omega (arith, e))
-    (λ no. absurd (omega (arith, here, one_if-other n m no)))
+few_given m n v x xs spare here = grind arith
 
 -- a seat gives a number that it has to give
 pub splits : (c : Config) (id n : ℕ) (v : DealtNumbers) (seen : List (List Entry)) → Spares n v →

@@ -1,8 +1,9 @@
 -- What some schedule makes of the opening, a table's world is again after each beginning, event and gift of a number.
-use Rattle.std.proofs.{Common.{◌≡◌, ℕ, ◌<◌, [], ◌∷◌, ◌++◌, refl, sym, ap, ◌∙◌, subst, inl, inr}, lemmas.Bool.{lt-ltb, Decides.eqb_tells}}
+use Rattle.std.proofs.Common.{arith}
+use Rattle.std.proofs.{Common.{◌≡◌, ℕ, ◌<◌, [], ◌∷◌, ◌++◌, refl, sym, ap, ◌∙◌, subst}, lemmas.Bool.{lt-ltb}}
 use Rattle.std.specs.Prelude.{is_some, Some, None, List}
 use Rattle.finite_sums.specs.Sums.{update}
-use Rattle.finite_sums.proofs.Totals.{update_at, update_off, each_updated}
+use Rattle.finite_sums.proofs.Totals.{each_updated}
 use Rattle.cpu_words.specs.{Hooks.HookAnswer, Touches.event_of}
 use Rattle.access_model.specs.{Histories.Done}
 use Rattle.gate_world.specs.{Beginnings.{first_phase, refusal, view_refusal}, Holdings.holdings_of, Views.{phase_after, actions_after, begun_view}}
@@ -17,11 +18,7 @@ use Rattle.gate_steps.specs.{Histories.{IsLike, IsReached, then_steps}, Seating.
 -- views that agree agree after one of each is replaced by views that agree
 like_update : (f g : ℕ → View) (t : ℕ) (v u : View) → IsLike v u → ((x : ℕ) → IsLike (f x) (g x)) → (x : ℕ) →
     IsLike (update f t v x) (update g t u x)
-like_update f g t v u like each x =
-    elim (eqb_tells x t) [
-      | inl e ↦ subst (λ y. IsLike (update f t v y) (update g t u y)) (sym e.1) (rw (update_at f t v, update_at g t u) like)
-      | inr e ↦ rw (update_off f t v x e.1, update_off g t u x e.1) (each x)
-    ]
+like_update f g t v u like each x = grind arith
 
 -- the opening is reached by no entry
 pub opening_reached : (c : Config) → (r : IsReached c [] opening) × (r.entries ≡ [])
@@ -99,9 +96,7 @@ module _ (c : Config) (log : List Done) (w : World) (reached : IsReached c log w
     -- an event of a task adds there what it adds here
     acts_there : (phase : Phase) (hook : HookAnswer) → (w.views t).phase ≡ Some phase →
         action_of c there (Steps t hook) ≡ phase_action w hook (Some phase)
-    acts_there phase hook at =
-        rw (lt-ltb t c.tasks lt, (reached.views t).phase ∙ at)
-        (λ i. (after_of phase (found_at (reached.words i) phase hook) hook).1)
+    acts_there phase hook at = grind arith
 
     -- and with the next event of a task
     pub stepped_reached : (others : List (ℕ × ℕ)) (phase : Phase) (hook : HookAnswer) → (w.views t).phase ≡ Some phase →

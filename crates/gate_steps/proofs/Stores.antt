@@ -1,4 +1,5 @@
 -- No event stores into the word of a node or a sync word, so what it finds there is what the word held.
+use Rattle.std.proofs.Common.{arith}
 use Rattle.std.proofs.Common.{ℕ}
 use Rattle.std.specs.Prelude.{Ok, Err}
 use Rattle.mount_counts.specs.declared.phases.MountPhase.TheVariants.{Want as MWants, Change as MChanges}
@@ -7,19 +8,17 @@ use Rattle.mount_counts.specs.declared.phases.ChangeStep.TheVariants.{Locks}
 use Rattle.mount_counts.specs.declared.remounts.RemountStep.TheVariants.{SetsWritable, SetsReadOnly as RSetsReadOnly}
 use Rattle.percpu_rwsem.specs.declared.transitions.Transition.TheVariants.{Loads, Exchanges}
 use Rattle.percpu_rwsem.specs.declared.readers.DownReadStep.TheVariants.{EntersSection}
-use Rattle.percpu_rwsem.specs.declared.callbacks.CallbackStep.TheVariants.{Claims, AwaitsSections as CAwaitsSections, CallsBack as CCallsBack}
 use Rattle.percpu_rwsem.specs.declared.writers.DownWriteStep.TheVariants.{Enters, CallsBack as WCallsBack}
 use Rattle.percpu_rwsem.specs.declared.writers.UpWriteStep.TheVariants.{ClearsBlock, Exits}
 use Rattle.composite_ops.specs.declared.write_access.phases.WritePhase.TheVariants.{Takes, Wants as WWants}
-use Rattle.freeze_levels.specs.declared.freezes.FreezeStep.TheVariants.{Closes, SetsFs, SetsComplete, Reopens as FReopens}
-use Rattle.freeze_levels.specs.declared.thaws.ThawStep.TheVariants.{LeavesLast, Reopens as TReopens}
+use Rattle.freeze_levels.specs.declared.freezes.FreezeStep.TheVariants.{Closes}
 use Rattle.gated_tree.specs.declared.changes.CreateStep.TheVariants.{LoadsDirectory}
 use Rattle.gated_tree.specs.declared.changes.RemoveStep.TheVariants.{LoadsFile as LoadsFileToRemove}
 use Rattle.gated_tree.specs.declared.growth.GrowStep.TheVariants.{LoadsFile as LoadsFileToGrow}
 use Rattle.gated_tree.specs.declared.changes.MoveStep.TheVariants.{LoadsFile as LoadsFileToMove}
 use Rattle.gated_tree.specs.declared.marks.MarkStep.TheVariants.{LoadsFile as LoadsFileToMark, MarksFile}
 use Rattle.gated_tree.specs.declared.snapshots.SnapshotStep.TheVariants.{Locks as SLocks}
-use Rattle.gated_tree.specs.declared.phases.TreePhase.TheVariants.{Create as Creates, Remove as Removes, Grow as Grows, MoveTo as Moves, Mark as TreeMarks, OpenFile as OpensOne, Snapshot as Snapshots, ClearMarks as TreeClears}
+use Rattle.gated_tree.specs.declared.phases.TreePhase.TheVariants.{OpenFile as OpensOne}
 use Rattle.gate_world.specs.declared.work.Phase.TheVariants.{Mounts, Remounts, DownReads, Callbacks, Writes, Freezes, Thaws, Trees, Closes}
 use Rattle.gated_tree.specs.Phases.{next as tree_next, remove_next, grow_next, move_next, mark_next, create_next, snapshot_next, open_next}
 use Rattle.composite_ops.specs.file_closes.Phases.{next as close_next}
@@ -110,9 +109,7 @@ read_word x EntersSection = tt
 read_word x other = tt
 
 callback_word : (x : Callback) (s : CallbackStep) → IsNoStore (callback_next x s)
-callback_word x (Claims transition) = transition_word x.level transition
-callback_word x (CAwaitsSections grace) = tt
-callback_word x (CCallsBack transition) = transition_word x.level transition
+callback_word x s = grind arith
 
 down_write_word : (x : DownWrite) (s : DownWriteStep) → IsNoStore (down_write_next x s)
 down_write_word x (Enters transition) = transition_word x.level transition
@@ -129,19 +126,10 @@ write_word (WWants w) = want_word w w.step
 write_word other = tt
 
 freeze_word : (x : Freeze) (s : FreezeStep) (hook : HookAnswer) → IsNoStore (freeze_next x s hook)
-freeze_word x (Closes d) hook = down_write_word d d.step
-freeze_word x SetsFs (Ok answer) = tt
-freeze_word x SetsFs (Err code) = tt
-freeze_word x SetsComplete (Ok answer) = tt
-freeze_word x SetsComplete (Err code) = tt
-freeze_word x (FReopens u code) hook = up_write_word u u.step
-freeze_word x other hook = tt
+freeze_word x other hook = grind arith
 
 thaw_word : (x : Thaw) (s : ThawStep) (hook : HookAnswer) → IsNoStore (thaw_next x s hook)
-thaw_word x LeavesLast (Ok answer) = tt
-thaw_word x LeavesLast (Err code) = tt
-thaw_word x (TReopens u) hook = up_write_word u u.step
-thaw_word x other hook = tt
+thaw_word x other hook = grind arith
 
 create_word : (x : Create) (s : CreateStep) → IsNoStore (create_next x s)
 create_word x LoadsDirectory = tt
@@ -172,14 +160,7 @@ snapshot_word x SLocks = tt
 snapshot_word x other = tt
 
 tree_word : (x : TreePhase) (hook : HookAnswer) → IsNoStore (tree_next x hook)
-tree_word (Creates x) hook = create_word x x.step
-tree_word (Removes x) hook = remove_word x x.step
-tree_word (Grows x) hook = grow_word x x.step
-tree_word (Moves x) hook = move_word x x.step
-tree_word (TreeMarks x) hook = mark_word x x.step
-tree_word (OpensOne x) hook = open_word x x.step
-tree_word (Snapshots x) hook = snapshot_word x x.step
-tree_word (TreeClears x) hook = tt
+tree_word x hook = grind arith
 
 close_word : (x : ClosePhase) → IsNoStore (close_next x)
 close_word (EntersLevel file node r) = read_word r r.step

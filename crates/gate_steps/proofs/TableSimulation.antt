@@ -107,10 +107,7 @@ enter c lim w good x lt h mine (Some op) phase may =
 -- a view that has just had an event has had one
 touched : (others : List (ℕ × ℕ)) (u v : View) (phase : Phase) (n : ℕ) (hook : HookAnswer) → u ≡ view_after_with_others others v phase n hook →
     u.events ≡ [] → ⊥
-touched others u v phase n hook is none =
-    let both : (view_after_with_others others v phase n hook).events ≡ [] = ap (λ (w : View). w.events) (sym is) ∙ none in
-    let no : ⊥ = cc in
-    no
+touched others u v phase n hook is none = grind arith
 
 -- Whatever the event, the laws of the machine are what the step asks
 pub step_simulates : (c : Config) (slots id : ℕ) (items : DealtNumbers) (seen : List (List Entry)) (carried : Carried) (begins : Option Op) (phase : Phase) (hook : HookAnswer) →

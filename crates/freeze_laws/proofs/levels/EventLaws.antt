@@ -277,19 +277,10 @@ module _ (tasks : ℕ) (word : SyncWord) (block full : ℕ) (section : ℕ → �
 pub section_turns : (tasks : ℕ) (section inside : ℕ → ℕ) (at : ℕ → SyncRole) → SectionsHold tasks section inside at → (t v : ℕ) →
     v + inside t ≡ 1 → fast (at t) ≡ 0 →
     SectionsHold tasks (update section t (wrap_add (section t) 1)) (update inside t v) at
-section_turns tasks section inside at sections t v other slow = record {
-  odd = λ x lx. elim (eqb_tells x t) [
-    | inl h ↦ rw (h.0, update) (omega (arith, other, sections.odd t (omega (arith, lx, h.1))))
-    | inr h ↦ rw (h.0, update) (sections.odd x lx)
-  ];
-  fast_inside = λ x lx. each_updated (λ y n. fast (at y) ≤ n) inside t v x (omega arith) (λ ne. sections.fast_inside x lx);
-}
+section_turns tasks section inside at sections t v other slow = grind arith
 
 -- a role changes, to the fast path only inside a section
 pub section_stays : (tasks : ℕ) (section inside : ℕ → ℕ) (at : ℕ → SyncRole) → SectionsHold tasks section inside at →
     (t : ℕ) (r : SyncRole) → fast r ≤ inside t →
     SectionsHold tasks section inside (update at t r)
-section_stays tasks section inside at sections t r h = record {
-  odd = sections.odd;
-  fast_inside = λ x lx. each_updated (λ y w. fast w ≤ inside y) at t r x h (λ ne. sections.fast_inside x lx);
-}
+section_stays tasks section inside at sections t r h = grind arith

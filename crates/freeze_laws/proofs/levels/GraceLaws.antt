@@ -134,10 +134,7 @@ quiet_says tasks m t i r e c = grind arith
 stays_more : (m : ℕ → SyncLevel) (t a i : ℕ) (kind : SyncRole → ℕ) → ((k : ℕ) → a ≤ k → k ≤ i → kind ((m k).at t) ≡ 1) →
     kind ((m (suc i)).at t) ≡ 1 →
     (k : ℕ) → a ≤ k → k ≤ suc i → kind ((m k).at t) ≡ 1
-stays_more m t a i kind before now k le le2 = elim (eqb_tells k (suc i)) [
-  | inl h ↦ ap (λ x. kind ((m x).at t)) h.1 ∙ now
-  | inr h ↦ before k le (omega (arith, h.1))
-]
+stays_more m t a i kind before now k le le2 = grind arith
 
 -- one moment more since the first value was read
 seen_more : (m : ℕ → SyncLevel) (a i u : ℕ) (o : Option ℕ) → FirstSeen m a i u o → FirstSeen m a (suc i) u o
@@ -171,11 +168,7 @@ whole_more tasks m t i start kind now d = (
 )
 
 says_more : (tasks : ℕ) (m : ℕ → SyncLevel) (t i : ℕ) (r : SyncRole) → (m (suc i)).at t ≡ r → Says tasks m t i r → Says tasks m t (suc i) r
-says_more tasks m t i (Waiting g) e h = under_more tasks m t i _ entering g (ap entering e) h
-says_more tasks m t i Past e h = whole_more tasks m t i _ entering (ap entering e) h
-says_more tasks m t i (Claimed g) e h = under_more tasks m t i _ claimed g (ap claimed e) h
-says_more tasks m t i Ready e h = whole_more tasks m t i _ claimed (ap claimed e) h
-says_more tasks m t i r e h = tt
+says_more tasks m t i r e h = grind (arith, under_more, entering, whole_more, claimed)
 
 module _ (tasks n : ℕ) (m : ℕ → SyncLevel) (run : SyncRun tasks n m) where
   -- a section word that is no longer the first value read

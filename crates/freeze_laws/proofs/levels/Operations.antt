@@ -1,5 +1,5 @@
 -- each event of an operation at a level is one of the level
-use Rattle.std.proofs.{Common.{◌≡◌, ℕ, true, ◌+◌, ◌<◌, refl, sym, ap, subst, ◌∙◌}, lemmas.Bool.eq-eqb}
+use Rattle.std.proofs.{Common.{◌≡◌, ℕ, true, ◌+◌, ◌<◌, refl, sym, ap, ◌∙◌}, lemmas.Bool.eq-eqb}
 use Rattle.std.proofs.Common.{arith}
 use Rattle.std.specs.Prelude.{Option, Some, ◌==◌}
 use Rattle.finite_sums.{proofs.Totals.update_same, specs.Sums.{update, total}}
@@ -60,10 +60,7 @@ module _ (tasks t : ℕ) (lt : t < tasks) (l : SyncLevel) where
   -- a load of a section word
   looked_by : (g : ℕ) (r r' : SyncRole) (k : SyncEvent) → r' ≡ r → Happens tasks t l (record l { at = update l.at t r }) k →
       SyncStep tasks l (record l { section = update l.section g (l.section g); at = update l.at t r' })
-  looked_by g r r' k e h =
-      let p : record l { at = update l.at t r } ≡ record l { section = update l.section g (l.section g); at = update l.at t r' } =
-      λ q. record l { section = sym (update_same l.section g) q; at = update l.at t (sym e q) } in
-      subst (SyncStep tasks l) p (step_by _ k h)
+  looked_by g r r' k e h = grind (arith, update, update_same, step_by)
 
 pub enter_knows : (tasks found v : ℕ) (n : TransitionNext) → MakesTransition on_enter found v n → KnowsDownWrite (enter_step tasks n)
 enter_knows tasks found v next h = grind arith

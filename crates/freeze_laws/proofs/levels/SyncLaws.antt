@@ -1,5 +1,5 @@
 -- one level: what its predicate says, and how it is kept where one task's role changes
-use Rattle.std.{proofs.{Common.{◌≡◌, ℕ, true, false, ◌+◌, ◌<◌, ◌≤◌, refl, ◌∙◌, arith}, lemmas.Bool.Decides.nat_tests}, specs.Prelude.{Bool, Option, Some, None}}
+use Rattle.std.{proofs.{Common.{◌≡◌, ℕ, true, ◌+◌, ◌<◌, ◌≤◌, refl, ◌∙◌, arith}}, specs.Prelude.{Bool, Option, Some, None}}
 use Rattle.finite_sums.{proofs.Totals.{update_off, each_updated, total_updated, total_le, total_add, total_at}, specs.Sums.{update, total}}
 use Rattle.percpu_rwsem.{proofs.SyncWords.bit_small, specs.{SyncWords.{bit, is_lawful}, declared.sync_word.{GpState.GpState, SyncWord.SyncWord}}}
 use Rattle.freeze_laws.specs.levels.Roles.{SyncRole, Fast, Closed, fast, entering, entered, closed, claimed, enter_bit, idle_bit, StillFirst, RoleHolds}
@@ -13,12 +13,7 @@ pub record LawfulSays (s : GpState) (t : Bool) (c : ℕ) : Type 0 where
 
 -- a lawful word says it, whatever its state
 pub lawful_says : (s : GpState) (t : Bool) (c : ℕ) → c ≤ 1 → is_lawful s t c ≡ true → LawfulSays s t c
-lawful_says GpState.Idle false c l h = record { idle = grind (arith, nat_tests); enter = omega arith; free = omega arith }
-lawful_says GpState.Enter false c l h = record { idle = omega arith; enter = grind (arith, nat_tests); free = omega arith }
-lawful_says GpState.Exit true c l h = record { idle = omega arith; enter = omega arith; free = omega arith }
-lawful_says GpState.Replay true c l h = record { idle = omega arith; enter = omega arith; free = omega arith }
-lawful_says other true c l h = cc
-lawful_says other false c l h = record { idle = omega arith; enter = omega arith; free = omega arith }
+lawful_says other t c l h = grind arith
 
 pub fast_small : (r : SyncRole) → fast r ≤ 1
 fast_small Fast = omega arith

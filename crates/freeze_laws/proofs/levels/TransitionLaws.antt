@@ -1,5 +1,5 @@
 -- what each transition leaves, of the words that it is met at
-use Rattle.std.proofs.{Common.{◌≡◌, ℕ, zero, suc, true, false, ◌+◌, ◌≤◌, refl, arith}, lemmas.Bool.Decides.nat_tests}
+use Rattle.std.proofs.{Common.{◌≡◌, ℕ, zero, suc, true, false, ◌+◌, ◌≤◌, refl, arith}}
 use Rattle.std.specs.Prelude.{Bool, Some, nat_lt, if◌then◌else◌}
 use Rattle.percpu_rwsem.specs.SyncWords.{bit, is_lawful, entered_state, left_state, is_queued, emptied_state, on_enter, on_exit, on_claim, on_callback}
 use Rattle.percpu_rwsem.specs.declared.sync_word.{GpState.GpState, SyncWord.SyncWord}
@@ -18,13 +18,7 @@ pub record Enters (tasks : ℕ) (s : GpState) (t : Bool) (c : ℕ) : Type 0 wher
   pub slow : idle_bit (entered_state s) + enter_bit (entered_state s) ≡ idle_bit s
 
 pub enters : (tasks : ℕ) (s : GpState) (t : Bool) (c : ℕ) → c ≡ 0 → is_lawful s t c ≡ true → Enters tasks s t c
-enters tasks s t (suc c) e l = absurd (omega arith)
-enters tasks GpState.Idle false zero e l = assumption
-enters tasks GpState.Enter false zero e l = cc
-enters tasks GpState.Passed false zero e l = cc
-enters tasks GpState.Exit t zero e l = assumption
-enters tasks GpState.Replay t zero e l = assumption
-enters tasks other true zero e l = cc
+enters tasks s t c e l = grind arith
 
 -- an exit of the only writer that has entered, in GP_PASSED, GP_EXIT or GP_REPLAY
 pub record Exits (s : GpState) (t : Bool) (c : ℕ) : Type 0 where
@@ -34,18 +28,12 @@ pub record Exits (s : GpState) (t : Bool) (c : ℕ) : Type 0 where
   pub slow : idle_bit (left_state s) + enter_bit (left_state s) ≡ 0
 
 pub exits : (s : GpState) (t : Bool) (c : ℕ) → c ≡ 1 → idle_bit s + enter_bit s ≡ 0 → Exits s t c
-exits s t zero e h = absurd (omega arith)
-exits s t (suc (suc c)) e h = absurd (omega arith)
-exits GpState.Idle t (suc zero) e h = absurd (omega arith)
-exits GpState.Enter t (suc zero) e h = absurd (omega arith)
-exits other t (suc zero) e h = record { puts = refl; lawful = refl; queued = refl; slow = refl }
+exits s t c e h = grind arith
 
 -- the transition of a writer after its grace period
 pub passes : (s : GpState) (t : Bool) (c : ℕ) → enter_bit s ≡ 1 → 1 ≤ c →
     on_callback record { state = s; taken = t; count = c } ≡ Some record { state = GpState.Passed; taken = false; count = c }
-passes GpState.Enter t zero e h = absurd (omega arith)
-passes GpState.Enter t (suc c) e h = grind (arith, nat_tests)
-passes other t c e h = absurd (omega arith)
+passes other t c e h = grind arith
 
 -- the transition of a callback after its grace period
 pub record Calls (s : GpState) (t : Bool) (c : ℕ) : Type 0 where
@@ -87,15 +75,8 @@ pub record Claims (s : GpState) (t : Bool) (c : ℕ) : Type 0 where
   pub lawful : is_lawful s true c ≡ true
 
 pub claims_queued : (s : GpState) (t : Bool) (c : ℕ) → is_queued s ≡ true → t ≡ false → Claims s t c
-claims_queued s true c q h = cc
-claims_queued GpState.Exit false c q h = record { puts = refl; lawful = refl }
-claims_queued GpState.Replay false c q h = record { puts = refl; lawful = refl }
-claims_queued other false c q h = cc
+claims_queued s t c q h = grind arith
 
 pub claims_defined : (s : GpState) (t : Bool) (c : ℕ) (w : SyncWord) → on_claim record { state = s; taken = t; count = c } ≡ Some w →
     (is_queued s ≡ true) × (t ≡ false)
-claims_defined GpState.Exit true c w h = cc
-claims_defined GpState.Exit false c w h = (refl, refl)
-claims_defined GpState.Replay true c w h = cc
-claims_defined GpState.Replay false c w h = (refl, refl)
-claims_defined other t c w h = cc
+claims_defined other t c w h = grind arith

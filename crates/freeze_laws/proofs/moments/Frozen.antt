@@ -1,10 +1,10 @@
 -- Whatever is fully frozen has no dirty node, whatever was done since.
-use Rattle.std.proofs.{Common.{◌≡◌, ℕ, zero, suc, ◌<◌, ◌≤◌, ◌⊎◌, true, false, refl, sym, ap, subst, ◌∙◌, inl, inr, arith}, lemmas.Bool.false≢true}
-use Rattle.std.specs.Prelude.{Option, Some, None, option_map, ◌==◌, ◌&&◌, if◌then◌else◌, List, [], ◌∷◌}
+use Rattle.std.proofs.{Common.{◌≡◌, ℕ, zero, suc, ◌<◌, ◌≤◌, ◌⊎◌, true, false, refl, sym, ap, subst, ◌∙◌, inl, inr, arith}}
+use Rattle.std.specs.Prelude.{Option, Some, None, option_map, List, [], ◌∷◌}
 use Rattle.finite_sums.proofs.Totals.{each_updated}
 use Rattle.access_model.proofs.Closed.{closed}
 use Rattle.access_model.specs.{Actions.{MayDo, HoldsSomeMount, marked, after_close, after_action}, Histories.{Done, end_of, IsLegal, IsMerge}}
-use Rattle.access_model.specs.{Laws.NobodyHoldsClosed, States.{Limits, State, is_dirty, is_removed, IsClean}}
+use Rattle.access_model.specs.{Laws.NobodyHoldsClosed, States.{Limits, State, is_dirty, IsClean}}
 use Rattle.access_model.specs.declared.actions.{Action.Action, NodeInfo.NodeInfo}
 use Rattle.freeze_laws.{proofs.moments.Moments.{first_legal, cuts}, specs.moments.Moments.{WasFrozenWith, MomentTells}}
 
@@ -16,11 +16,7 @@ record IsSealed (l : Limits) (s : State) : Type 0 where
 module _ (l : Limits) (s : State) (t : ℕ) (lt : t < l.tasks) (nobody : NobodyHoldsClosed l s) (sealed : IsSealed l s) where
   -- nobody changes the tree then
   no_writer : (i : ℕ) → 1 ≤ i → i ≤ 3 → s.levels t i ≡ true → HoldsSomeMount l s t → s.stage ≡ 4 → ⊥
-  no_writer i one three inside held e =
-      elim (sealed.shut e) [
-        | inl p ↦ false≢true (sym (nobody.levels t i lt one (omega (arith, p, three))) ∙ inside)
-        | inr p ↦ let none = nobody.mounts t held.0 lt held.1 (inr p.1) in let some = held.2 in absurd (omega arith)
-      ]
+  no_writer i one three inside held e = grind arith
 
   -- so where the tree is changed, it isn't then
   changes : (i : ℕ) → 1 ≤ i → i ≤ 3 → s.levels t i ≡ true → HoldsSomeMount l s t →
@@ -33,10 +29,7 @@ module _ (l : Limits) (s : State) (t : ℕ) (lt : t < l.tasks) (nobody : NobodyH
 
   -- a node that was clean before a close is so after it
   closed_clean : (count : ℕ) (o : Option NodeInfo) → is_dirty o ≡ false → is_dirty (after_close count o) ≡ false
-  closed_clean count o clean = elim (is_removed o && (count == 1)) as (λ b. is_dirty (if b then None else o) ≡ false) [
-    | true ↦ refl
-    | false ↦ clean
-  ]
+  closed_clean count o clean = grind arith
 
   step : (a : Action) → MayDo l s t a → IsSealed l (after_action s t a)
   step (Action.Grant gate) may = record { shut = sealed.shut; clean = sealed.clean }

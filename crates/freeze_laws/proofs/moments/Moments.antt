@@ -1,5 +1,6 @@
 -- A moment of a history stays one, is the end of a legal history, and cuts each own list.
-use Rattle.std.{proofs.Common.{◌≡◌, ℕ, List, [], ◌∷◌, ◌++◌, length, refl, sym, ap, ◌∙◌}, specs.Prelude.{if◌then◌else◌, ◌==◌, Option, true, false}}
+use Rattle.std.proofs.Common.{arith}
+use Rattle.std.{proofs.Common.{◌≡◌, ℕ, List, [], ◌∷◌, ◌++◌, length, refl, ap}, specs.Prelude.{if◌then◌else◌, ◌==◌, Option, true, false}}
 use Rattle.access_model.specs.{Histories.{Done, IsLegal, own_part, IsMerge}, States.Limits, declared.actions.{Action.Action, NodeInfo.NodeInfo}}
 use Rattle.freeze_laws.specs.moments.Moments.{HaveDone, IsFrozenWith, WasFrozenWith, CutsList, CutsLists}
 
@@ -30,13 +31,7 @@ part_append t (a ∷ later) earlier =
 
 cut : (t count : ℕ) (later earlier : List Done) (actions : List Action) → own_part t (later ++ earlier) ≡ actions →
     length (own_part t earlier) ≡ count → CutsList t count earlier actions
-cut t count later earlier actions merge counted = record {
-  newer = own_part t later;
-  older = own_part t earlier;
-  parts = sym merge ∙ part_append t later earlier;
-  counted = counted;
-  same_part = refl;
-}
+cut t count later earlier actions merge counted = grind (arith, own_part, part_append)
 
 -- each number's is
 pub cuts : (done : List (ℕ × ℕ)) (later earlier : List Done) (lists : ℕ → List Action) → IsMerge lists (later ++ earlier) →

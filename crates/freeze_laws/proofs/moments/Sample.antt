@@ -1,6 +1,6 @@
 -- A freeze of a read-only superblock, a moment of it, and a thaw.
-use Rattle.std.proofs.Common.{◌≡◌, ℕ, zero, suc, ◌<◌, false, List, [], ◌∷◌, refl, inr, arith}
-use Rattle.access_model.specs.{Histories.{Done, end_of, IsLegal}, States.{Limits, opening_state, is_dirty, is_removed}}
+use Rattle.std.proofs.Common.{◌≡◌, ℕ, List, [], ◌∷◌, refl, arith}
+use Rattle.access_model.specs.{Histories.{Done, end_of, IsLegal}, States.{Limits, opening_state}}
 use Rattle.access_model.specs.declared.actions.{Action.Action, Gate.Gate}
 use Rattle.freeze_laws.{proofs.moments.Moments.{is_now, stays}, specs.moments.Moments.WasFrozenWith}
 
@@ -18,25 +18,9 @@ thawed = (0, Action.Stage 0) ∷ (1, Action.Grant (Gate.Level 1)) ∷ frozen
 abbrev done_then : List (ℕ × ℕ)
 done_then = (0, 2) ∷ (1, 0) ∷ []
 
-clean_tree : (n : ℕ) → n < 2 → is_dirty (opening_state.tree n) ≡ false
-clean_tree zero lt = refl
-clean_tree (suc zero) lt = refl
-clean_tree (suc (suc n)) lt = absurd (omega arith)
-
-linked_tree : (n : ℕ) → n < 2 → is_removed (opening_state.tree n) ≡ false
-linked_tree zero lt = refl
-linked_tree (suc zero) lt = refl
-linked_tree (suc (suc n)) lt = absurd (omega arith)
-
 -- the whole is legal
 its_legal : IsLegal two_tasks thawed
-its_legal = (
-  (omega arith, inr (inr (refl, refl))),
-  (
-    (omega arith, ((omega arith, omega arith), omega arith, λ j low high. refl)),
-    ((omega arith, (clean_tree, inr (refl, refl, refl))), ((omega arith, (refl, λ m lm t lt. refl, linked_tree)), tt)),
-  ),
-)
+its_legal = grind arith
 
 -- while it was frozen, tasks 0 and 1 had done 2 actions and none
 its_moment : WasFrozenWith 2 opening_state.tree done_then thawed

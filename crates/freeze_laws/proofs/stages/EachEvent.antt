@@ -1,7 +1,7 @@
 -- Each event keeps what holds of the stage and of the marks.
-use Rattle.std.{proofs.Common.{◌≡◌, ℕ, suc, ◌<◌, ◌≤◌, refl, sym, subst, arith, zero}, specs.Prelude.{true, false, Some, None}}
+use Rattle.std.{proofs.Common.{◌≡◌, ℕ, suc, ◌<◌, ◌≤◌, refl, sym, subst, arith}, specs.Prelude.{true, false, Some, None}}
 use Rattle.finite_sums.specs.Sums.{update}
-use Rattle.freeze_laws.proofs.stages.MarkLaws.{cleared_anew, washed, one_more, marked}
+use Rattle.freeze_laws.proofs.stages.MarkLaws.{cleared_anew, washed, marked}
 use Rattle.freeze_laws.proofs.stages.StageLaws.{turns, relied_on, releases_open, begins, advances, completes, fails, freezes_at_once, thaws, thaws_at_once, sets_block}
 use Rattle.freeze_laws.proofs.stages.StageLaws.{turns_block, clears_block, sets_remount, clears_remount, sets_read_only, sets_writable}
 use Rattle.freeze_laws.specs.stages.Events.{Stages, Holds, StageEvent, Happens, LocksAgain, Releases, LetsGo, LoadsStage, LoadsSb, Advances, Syncs, Completes, Fails}
@@ -29,21 +29,13 @@ module _ (tasks nodes : ℕ) (x : Stages) (h : Holds tasks nodes x) (t : ℕ) (l
   -- a node is clean now, and the task has cleared those below the next one
   cleans : (node : ℕ) (old new : StageRole) → x.at t ≡ old → clean_by old ≡ node → clean_by new ≡ suc node →
       MarksHold tasks nodes x.stage x.sb (update x.dirty node 0) (update x.at t new)
-  cleans node old new e c c' =
-      let w : MarksHold tasks nodes x.stage x.sb (update x.dirty node 0) x.at = washed tasks nodes x.stage x.sb x.dirty x.at node h.marks in
-      cleared_anew tasks nodes x.stage x.sb x.stage x.sb (update x.dirty node 0) x.at t new w w.frozen w.read_only
-      (subst (λ k. CleanBelow k (update x.dirty node 0)) (sym c')
-      (one_more node x.dirty (subst (λ k. CleanBelow k x.dirty) c (own_clean old e))))
+  cleans node old new e c c' = grind arith
 
   closing_clean : (level : ℕ) → CleanBelow (clean_at level Closing) x.dirty
-  closing_clean zero = none x.dirty
-  closing_clean (suc zero) = none x.dirty
-  closing_clean (suc (suc level)) = none x.dirty
+  closing_clean level = grind arith
 
   passed_clean : (level clean : ℕ) → CleanBelow clean x.dirty → CleanBelow (clean_at level (HasPassed clean)) x.dirty
-  passed_clean zero clean c = none x.dirty
-  passed_clean (suc zero) clean c = none x.dirty
-  passed_clean (suc (suc level)) clean c = c
+  passed_clean level clean c = grind arith
 
   pub fewer : (k : ℕ) → nodes ≤ k → CleanBelow k x.dirty → CleanBelow nodes x.dirty
   fewer k le c m l = c m (omega (arith, l, le))

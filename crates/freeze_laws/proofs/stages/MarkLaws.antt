@@ -1,24 +1,14 @@
 -- Each event keeps what holds of the marks of nodes.
-use Rattle.std.proofs.{Common.{◌≡◌, ℕ, suc, ◌+◌, ◌<◌, ◌≤◌, refl, inl, inr, arith, ◌%◌, ◌/◌, zero, ◌-◌}, lemmas.Bool.Decides.eqb_tells}
+use Rattle.std.proofs.{Common.{◌≡◌, ℕ, suc, ◌+◌, ◌<◌, ◌≤◌, refl, inl, inr, arith, ◌%◌, ◌/◌, ◌-◌}, lemmas.Bool.Decides.eqb_tells}
 use Rattle.finite_sums.{proofs.Totals.{each_updated, total_at}, specs.Sums.update}
 use Rattle.freeze_laws.proofs.stages.{Facts.owner_only, Positions.{way, who_freezes, passed_own, passed_is}}
 use Rattle.freeze_laws.specs.stages.Events.{Stages, Holds}
-use Rattle.freeze_laws.specs.stages.Roles.{StageRole, StagesHold, CleanBelow, MarksHold, Place, clean_by, KnowsStage, under_way, clean_at, remounts, freezes, passed_at}
-use Rattle.freeze_laws.specs.stages.Roles.{passed_by, HasPassed, has_position, is_full, Before, Closing}
+use Rattle.freeze_laws.specs.stages.Roles.{StageRole, StagesHold, CleanBelow, MarksHold, clean_by, KnowsStage, under_way, remounts, freezes}
+use Rattle.freeze_laws.specs.stages.Roles.{passed_by, has_position, is_full}
 use Rattle.freeze_laws.specs.stages.Shown.{passed_shown}
-
-still_clean : (n node : ℕ) (dirty : ℕ → ℕ) → CleanBelow n dirty → CleanBelow n (update dirty node 0)
-still_clean n node dirty h m lt = each_updated (λ y v. v ≡ 0) dirty node 0 m refl (λ ne. h m lt)
 
 pub one_more : (node : ℕ) (dirty : ℕ → ℕ) → CleanBelow node dirty → CleanBelow (suc node) (update dirty node 0)
 one_more node dirty h m lt = each_updated (λ y v. v ≡ 0) dirty node 0 m refl (λ ne. h m (omega (arith, lt, ne)))
-
-cleared_two : (stage : ℕ) (p : Place) → 0 < clean_at stage p → 2 ≤ passed_at stage p
-cleared_two zero p h = absurd (omega (arith, h))
-cleared_two (suc zero) p h = absurd (omega (arith, h))
-cleared_two (suc (suc s)) (HasPassed clean) h = omega arith
-cleared_two (suc (suc s)) Before h = absurd (omega (arith, h))
-cleared_two (suc (suc s)) Closing h = absurd (omega (arith, h))
 
 cleared_by : (r : StageRole) → 0 < clean_by r → remounts r ≡ 0 → (2 ≤ passed_by r) × (has_position r ≡ 1)
 cleared_by r h n = grind arith
@@ -31,20 +21,12 @@ pub cleared_anew : (tasks nodes stage sb stage' sb' : ℕ) (dirty : ℕ → ℕ)
     MarksHold tasks nodes stage sb dirty at →
     (3 ≤ stage' → CleanBelow nodes dirty) → (sb' ≡ 1 → CleanBelow nodes dirty) → CleanBelow (clean_by new) dirty →
     MarksHold tasks nodes stage' sb' dirty (update at t new)
-cleared_anew tasks nodes stage sb stage' sb' dirty at t new h f r c = record {
-  frozen = f;
-  read_only = r;
-  cleared = λ u lu. each_updated (λ y q. CleanBelow (clean_by q) dirty) at t new u c (λ ne. h.cleared u lu);
-}
+cleared_anew tasks nodes stage sb stage' sb' dirty at t new h f r c = grind arith
 
 -- a clean node leaves the others as they were
 pub washed : (tasks nodes stage sb : ℕ) (dirty : ℕ → ℕ) (at : ℕ → StageRole) (node : ℕ) → MarksHold tasks nodes stage sb dirty at →
     MarksHold tasks nodes stage sb (update dirty node 0) at
-washed tasks nodes stage sb dirty at node h = record {
-  frozen = λ s. still_clean nodes node dirty (h.frozen s);
-  read_only = λ r. still_clean nodes node dirty (h.read_only r);
-  cleared = λ u lu. still_clean (clean_by (at u)) node dirty (h.cleared u lu);
-}
+washed tasks nodes stage sb dirty at node h = grind arith
 
 -- marks are made only where none is to stay clear: before level 2 is passed, at a writable superblock
 pub marked : (tasks nodes : ℕ) (x : Stages) (node mark : ℕ) → Holds tasks nodes x → passed_shown tasks x.block x.at < 2 → x.remount ≡ 0 →

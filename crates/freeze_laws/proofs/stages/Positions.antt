@@ -64,10 +64,7 @@ module _ (tasks stage sb remount : ℕ) (block : ℕ → ℕ) (at : ℕ → Stag
 
   -- where nobody has a position, a block is set while the file system is frozen as a whole
   pub block_idle : ((t : ℕ) → t < tasks → has_position (at t) ≡ 0) → (i : ℕ) → 1 ≤ i → i ≤ 3 → block i ≡ is_full stage sb
-  block_idle none i low high =
-      let c : total tasks (λ y. closes i (at y)) ≡ 0 =
-      total_none tasks (λ y. closes i (at y)) (λ u lu. omega (arith, closes_le i low (at u), none u lu)) in
-      omega (arith, c, good.blocks i low high)
+  block_idle none i low high = grind (arith, total, closes, total_none, closes_le)
 
   -- a level is shown as passed where a task has passed it, or the file system is frozen as a whole
   passed_level : (i : ℕ) → 1 ≤ i → i ≤ 3 → is_passed tasks block at i ≡ total tasks (λ t. passes i (at t)) + is_full stage sb
@@ -114,10 +111,7 @@ module _ (tasks stage sb remount : ℕ) (block : ℕ → ℕ) (at : ℕ → Stag
   passed_idle none = omega (arith, passed_is, total_none tasks (λ y. passed_by (at y)) (λ u lu. no_levels (at u) (none u lu)))
 
   pub who_freezes : under_way stage ≡ 1 → (t : ℕ) × (t < tasks) × (freezes (at t) ≡ 1)
-  who_freezes w =
-      let p : HasPlace tasks (λ t. freezes (at t)) =
-      total_place tasks (λ t. freezes (at t)) (λ z. absurd (omega (arith, z, w, good.freezing))) in
-      (p.0, p.1, elim (eqb_tells (freezes (at p.0)) 0) [ inl k ↦ absurd (p.2 k.1) | inr k ↦ omega (arith, k.1, owner_only (at p.0)) ])
+  who_freezes w = grind (arith, freezes, total_place, eqb_tells, owner_only)
 
   -- an owner without a position, at no stage of a freeze, is sure that nobody has one
   pub owner_idle : (t : ℕ) → t < tasks → owns (at t) ≡ 1 → has_position (at t) ≡ 0 → under_way stage ≡ 0 → (u : ℕ) → u < tasks →

@@ -1,5 +1,6 @@
 -- The hooks that one event more asks, and those of a whole call.
-use Rattle.std.proofs.Common.{◌≡◌, ℕ, List, refl, ap, sym, subst, ◌∙◌}
+use Rattle.std.proofs.Common.{arith}
+use Rattle.std.proofs.Common.{◌≡◌, ℕ, List, ap, sym, subst, ◌∙◌}
 use Rattle.std.specs.Prelude.{Option, Some, None, Result, Ok, Err}
 use Rattle.access_model.specs.declared.errors.GateError.{GateError}
 use Rattle.access_model.specs.declared.replies.Reply.{Reply}
@@ -7,7 +8,7 @@ use Rattle.gate_schedules.specs.Answers.{unless_refused}
 use Rattle.gate_world.specs.declared.operations.Op.{Op}
 use Rattle.gate_steps.specs.call_events.Runs.{told_as, the_reply}
 use Rattle.gate_steps.specs.call_events.SeatedTasks.{SeatedTask, refusal_at}
-use Rattle.gate_steps.proofs.call_events.Running.{was_refused, was_done, was_told}
+use Rattle.gate_steps.proofs.call_events.Running.{was_done, was_told}
 use Rattle.cpu_words.specs.Hooks.{HookAnswer}
 use Rattle.freeze_levels.specs.declared.hooks.HookCall.{HookCall}
 use Rattle.gate_steps.specs.Seating.{DealtNumbers}
@@ -28,9 +29,7 @@ module _ {H : Type 0} (answers : HookCall → DealtNumbers → H → HookAnswer 
   -- where a hook is wanted, and this one was asked
   pub was_asked : (wanted : Option HookCall) (at : DealtNumbers) (call : HookCall) → wanted ≡ Some call → (hook : HookAnswer) (h left : H)
       (answer : HookAnswer) → hook ≡ answer → (after : H) → left ≡ after → answers call at h answer after → AskedFor wanted at hook h left
-  was_asked wanted at call is hook h left answer hook_is after left_is asked =
-      let P : Option HookCall × HookAnswer × H → Type 0 = λ z. AskedFor z.0 at z.1 h z.2 in
-      subst P (λ i. (sym is i, sym hook_is i, sym left_is i)) asked
+  was_asked wanted at call is hook h left answer hook_is after left_is asked = grind arith
 
   -- and where none is, and none was
   pub was_not : (wanted : Option HookCall) (at : DealtNumbers) → wanted ≡ None → (hook : HookAnswer) (h left : H) → left ≡ h →
@@ -40,9 +39,7 @@ module _ {H : Type 0} (answers : HookCall → DealtNumbers → H → HookAnswer 
   -- a call whose beginning is refused asks none
   pub was_refused_asking : {A : Type 0} (read : Reply → A) (op : Op) (old left : SeatedTask) (e : GateError) → Err e ≡
       unless_refused (refusal_at op old) → left ≡ old → (before : H) → RepliesAsking answers read op old left (Err e) before before
-  was_refused_asking read op old left e is same before =
-      let replies = was_refused read op old left e is same in
-      record { replies = replies; refused = λ r at. refl; asked = λ at. absurd (let none : Err e ≡ Ok tt = is ∙ ap unless_refused at in let no : ⊥ = cc in no) }
+  was_refused_asking read op old left e is same before = grind arith
 
   -- and one that was done, those that its events read
   pub was_done_asking : {A : Type 0} (read : Reply → A) (op : Op) (old left : SeatedTask) (answer : Result Reply GateError)

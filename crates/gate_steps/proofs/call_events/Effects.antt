@@ -1,4 +1,5 @@
 -- A whole call takes effect between call and return, and calls whose schedules go on from each other do so in order.
+use Rattle.std.proofs.Common.{arith}
 use Rattle.std.proofs.Common.{◌≡◌, ℕ, List, [], ◌∷◌, ◌++◌, refl, sym, ap, ◌∙◌, subst}
 use Rattle.std.proofs.lemmas.List.{append_assoc, append_cancel_right}
 use Rattle.std.specs.Prelude.{Result}
@@ -7,7 +8,7 @@ use lib.ListN.{get_elem?}
 use Rattle.access_model.specs.Histories.{Done, own_part}
 use Rattle.access_model.specs.declared.actions.Action.{Action}
 use Rattle.access_model.specs.declared.errors.GateError.{GateError}
-use Rattle.access_model.specs.declared.replies.{Next.{Next, TheVariants.{Go, Wait, Done as Ended}}, Reply.Reply}
+use Rattle.access_model.specs.declared.replies.{Next.{Next, TheVariants.{Done as Ended}}, Reply.Reply}
 use Rattle.gate_schedules.proofs.schedules.HeadlineProof.{whole_run}
 use Rattle.gate_world.specs.traces.TraceStates.{state_of_trace}
 use Rattle.gate_world.specs.Headline.{world_after, actions_so_far, actions_since}
@@ -25,20 +26,12 @@ use Rattle.gate_steps.proofs.call_events.Spanning.{last_event}
 -- of no numbers there is no move
 none_moves : (c : Config) (op : Op) (earlier : List Traced) (e : Traced) (seen gone : List (List Entry)) (comes : Next Phase) →
     IsNextMove c op [] earlier e seen gone comes → ⊥
-none_moves c op [] e seen gone (Go phase) m = m.2
-none_moves c op [] e seen gone (Wait phase) m = m.2
-none_moves c op [] e seen gone (Ended answer) m = m
-none_moves c op (d ∷ ds) e seen gone (Go phase) m = m.2
-none_moves c op (d ∷ ds) e seen gone (Wait phase) m = m.2
-none_moves c op (d ∷ ds) e seen gone (Ended answer) m = m
+none_moves c op earlier e seen gone comes m = grind arith
 
 -- what a number has added since it began: all that it has done but for what it had
 since_then : (n : ℕ) (log later before : List Done) (all added was : List Action) → log ≡ later ++ before → own_part n log ≡ all →
     all ≡ added ++ was → own_part n before ≡ was → own_part n later ≡ added
-since_then n log later before all added was is whole ends had =
-    append_cancel_right (own_part n later) added was
-    (ap (λ (l : List Action). own_part n later ++ l) (sym had) ∙
-    (sym (part_more n later before) ∙ (ap (own_part n) (sym is) ∙ (whole ∙ ends))))
+since_then n log later before all added was is whole ends had = grind (arith, append_cancel_right, own_part, part_more)
 
 module _ (c : Config) (op : Op) (seen gone : List (List Entry)) (e : Traced) (earlier : List Traced) where
   -- what the own number has done in the one history that is left

@@ -1,8 +1,9 @@
 -- The hooks that a freeze has asked, by its steps.
-use Rattle.std.proofs.Common.{◌≡◌, ℕ, zero, suc, true, false, List, [], ◌∷◌, refl, sym, ap, subst, ◌∙◌, ◌-◌, inl, inr}
+use Rattle.std.proofs.Common.{arith}
+use Rattle.std.proofs.Common.{◌≡◌, ℕ, zero, suc, true, false, List, [], ◌∷◌, refl, ap, subst, inl, inr}
 use Rattle.std.specs.Prelude.{◌==◌, if◌then◌else◌, Option, Some, None, Ok, Err}
 use Rattle.access_model.specs.declared.actions.Action.{Action}
-use Rattle.access_model.specs.declared.actions.Action.TheVariants.{Pass, Clean}
+use Rattle.access_model.specs.declared.actions.Action.TheVariants.{Clean}
 use Rattle.access_model.specs.declared.replies.Next.{Next}
 use Rattle.access_model.specs.declared.replies.Next.TheVariants.{Go, Wait, Done}
 use Rattle.access_model.specs.declared.replies.Reply.{Reply}
@@ -10,21 +11,15 @@ use Rattle.access_model.specs.Replies.{map_next}
 use Rattle.access_model.specs.Holders.{held_by}
 use Rattle.cpu_words.specs.Hooks.{HookAnswer}
 use Rattle.cpu_words.specs.declared.sums.Taken.{Taken}
-use Rattle.cpu_words.specs.declared.sums.Taken.TheVariants.{More as MoreWords, Total}
-use Rattle.cpu_words.specs.Sums.{sum_taking}
 use Rattle.node_words.specs.declared.marks.ClearMarks.{ClearMarks}
 use Rattle.node_words.specs.Nodes.{dirty_in, node_after}
 use Rattle.node_words.specs.Phases.{clears_at, clear_after}
 use Rattle.percpu_rwsem.specs.declared.grace.GraceNext.{GraceNext}
-use Rattle.percpu_rwsem.specs.declared.grace.GraceNext.TheVariants.{More as MoreSections, Wait as WaitsFor, Ended}
 use Rattle.percpu_rwsem.specs.declared.sync_word.SyncWord.{SyncWord}
 use Rattle.percpu_rwsem.specs.declared.writers.DownWrite.{DownWrite}
 use Rattle.percpu_rwsem.specs.declared.writers.DownWriteStep.{DownWriteStep}
-use Rattle.percpu_rwsem.specs.declared.writers.DownWriteStep.TheVariants.{Enters, AwaitsSections, CallsBack, AwaitsPassed, SetsBlock, Sums}
 use Rattle.percpu_rwsem.specs.declared.writers.UpWrite.{UpWrite}
-use Rattle.percpu_rwsem.specs.Graces.{looked}
-use Rattle.percpu_rwsem.specs.SyncWords.{unpack, is_passed}
-use Rattle.percpu_rwsem.specs.Writers.{down_write_after, sections_awaited, passed_awaited, down_write_summed, at_down_write, sum_begun, up_write_after}
+use Rattle.percpu_rwsem.specs.Writers.{down_write_after, sections_awaited, passed_awaited, down_write_summed, up_write_after}
 use Rattle.freeze_levels.specs.declared.freezes.Freeze.{Freeze}
 use Rattle.freeze_levels.specs.declared.freezes.FreezeStep.{FreezeStep}
 use Rattle.freeze_levels.specs.declared.freezes.FreezeStep.TheVariants.{
@@ -105,10 +100,7 @@ At (Done (Ok reply)) added asks = AskedByFreeze added asks
 At (Done (Err refusal)) added asks = Unit {0}
 
 as_phases : (next : Next Freeze) (added : List Action) (asks : List Ask) → AtNext next added asks → At (map_next Freezes next) added asks
-as_phases (Go x) added asks is = is
-as_phases (Wait x) added asks is = is
-as_phases (Done (Ok reply)) added asks is = is
-as_phases (Done (Err refusal)) added asks is = is
+as_phases next added asks is = grind arith
 
 -- a closing goes on at its level
 abbrev KeepsLevel : ℕ → Next DownWrite → Type 0
@@ -117,56 +109,32 @@ KeepsLevel level (Wait d) = d.level ≡ level
 KeepsLevel level (Done answer) = Unit {0}
 
 awaited : (d : DownWrite) (g : GraceNext) → KeepsLevel d.level (sections_awaited d g)
-awaited d (MoreSections grace) = refl
-awaited d (WaitsFor grace) = refl
-awaited d Ended = refl
+awaited d g = grind arith
 
 passed : (d : DownWrite) (word : Option SyncWord) → KeepsLevel d.level (passed_awaited d word)
-passed d None = refl
-passed d (Some word) =
-    either_way (KeepsLevel d.level) (is_passed word.state) (Go (at_down_write d SetsBlock)) (Wait (at_down_write d AwaitsPassed)) refl refl
+passed d word = grind arith
 
 -- and stores no stage
 summed : (d : DownWrite) (taken : Taken) (added : List Action) → KeepsLevel d.level (down_write_summed d taken).0 ×
     (stored_third_stage (actions_after (down_write_summed d taken).1 added) ≡ stored_third_stage added)
-summed d (MoreWords sum) added = (refl, refl)
-summed d (Total total) added = (
-  either_way (KeepsLevel d.level) (total == 0) (Done (Ok _)) (Wait (at_down_write d sum_begun)) tt refl,
-  either_way (λ a. stored_third_stage (actions_after a added) ≡ stored_third_stage added) (total == 0) (Some (Pass d.level)) None refl refl,
-)
+summed d taken added = grind arith
 
 closes_on : (d : DownWrite) (step : DownWriteStep) (found : ℕ) (added : List Action) → KeepsLevel d.level (down_write_after d step found).0 ×
     (stored_third_stage (actions_after (down_write_after d step found).1 added) ≡ stored_third_stage added)
-closes_on d (Enters transition) found added = (refl, refl)
-closes_on d (AwaitsSections grace) found added = (awaited d (looked grace found), refl)
-closes_on d (CallsBack transition) found added = (refl, refl)
-closes_on d AwaitsPassed found added = (passed d (unpack found), refl)
-closes_on d SetsBlock found added =
-    (either_way (KeepsLevel d.level) (found == 0) (Go (at_down_write d sum_begun)) (Wait (at_down_write d SetsBlock)) refl refl, refl)
-closes_on d (Sums sum) found added = summed d (sum_taking sum found d.processors) added
+closes_on d step found added = grind arith
 
 -- what was asked at a level is so after actions that store no stage 3
 same_level : (level : ℕ) (added later : List Action) (asks : List Ask) → stored_third_stage later ≡ stored_third_stage added →
     AtLevel level added asks → AtLevel level later asks
-same_level zero added later asks same is = absurd is
-same_level (suc zero) added later asks same is = (same ∙ is.0, is.1)
-same_level (suc (suc zero)) added later asks same is = (same ∙ is.0, is.1)
-same_level (suc (suc (suc zero))) added later asks same is = (same ∙ is.0, is.1)
-same_level (suc (suc (suc (suc level)))) added later asks same is = absurd is
+same_level level added later asks same is = grind arith
 
 -- a level is closed
 closed_at : (level nodes : ℕ) (added : List Action) (asks : List Ask) → AtLevel level added asks → AtStep (level_closed level nodes) added asks
-closed_at zero nodes added asks is = absurd is
-closed_at (suc zero) nodes added asks is = is
-closed_at (suc (suc zero)) nodes added asks is = is
-closed_at (suc (suc (suc zero))) nodes added asks is = is
-closed_at (suc (suc (suc (suc level)))) nodes added asks is = absurd is
+closed_at level nodes added asks is = grind arith
 
 closing_next : (x : Freeze) (level : ℕ) (next : Next DownWrite) (added : List Action) (asks : List Ask) → KeepsLevel level next →
     AtLevel level added asks → AtNext (after_closing x level next) added asks
-closing_next x level (Go d) added asks same is = subst (λ l. AtLevel l added asks) (sym same) is
-closing_next x level (Wait d) added asks same is = subst (λ l. AtLevel l added asks) (sym same) is
-closing_next x level (Done answer) added asks same is = closed_at level x.nodes added asks is
+closing_next x level next added asks same is = grind arith
 
 -- the marks are cleared
 clearing_next : (x : Freeze) (marks : ClearMarks) (node : Option ℕ) (added : List Action) (asks : List Ask) → NoneAsked added asks →
@@ -177,10 +145,7 @@ clearing_next x marks None added asks is = is
 -- the levels are reopened
 reopening_next : (x : Freeze) (level code : ℕ) (next : Next UpWrite) (added : List Action) (asks : List Ask) →
     AtNext (after_reopening x level code next) added asks
-reopening_next x level code (Go u) added asks = tt
-reopening_next x level code (Wait u) added asks = tt
-reopening_next x level code (Done answer) added asks =
-    either_way (λ step. AtStep step added asks) ((level - 1) == 0) (Releases (Err _)) (Reopens _ code) tt tt
+reopening_next x level code next added asks = grind arith
 
 -- one event more
 step_keeps : (x : Freeze) (step : FreezeStep) (found : ℕ) (hook : HookAnswer) (at : DealtNumbers) (added : List Action) (asks : List Ask) →

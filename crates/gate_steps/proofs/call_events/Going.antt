@@ -1,24 +1,24 @@
 -- What an event leaves of a task's fields and view.
+use Rattle.std.proofs.Common.{arith}
 use Rattle.gate_world.specs.declared.entries.Entry.{Entry}
 use Rattle.gate_steps.specs.Seating.{knows}
 use Rattle.std.proofs.Common.{◌≡◌, ℕ, Bool, List, [], ◌∷◌, refl, sym, ap, ◌∙◌, subst}
 use Rattle.std.specs.Prelude.{Option, Some, None}
 use Rattle.access_model.specs.declared.{actions.Action.Action, replies.Next.Next}
-use Rattle.cpu_words.specs.{Hooks.HookAnswer, Touches.{found_by, event_of}, declared.events.Touch.{Touch, TheVariants.{Load, Store, Add, Sub, Or, And, Swap}}}
-use Rattle.cpu_words.specs.declared.{events.{Touch.TheVariants.Cas, Event.Event}, names.WordName.WordName}
+use Rattle.cpu_words.specs.{Hooks.HookAnswer, Touches.{found_by, event_of}, declared.events.Touch.{Touch}}
+use Rattle.cpu_words.specs.declared.{events.{Event.Event}, names.WordName.WordName}
 use Rattle.gate_world.specs.{Accesses.accesses_after, Fits.{PhaseFits, Fits, ActionFits}, Holdings.{Agree, holdings_of, held_after}, Views.held_of}
-use Rattle.gate_world.specs.{Views.{phase_after, view_after_with_others}, Work.{next_of, after_of}, Worlds.{World, value_at, found_at}}
+use Rattle.gate_world.specs.{Views.{phase_after, view_after_with_others}, Work.{next_of, after_of}, Worlds.{World, found_at}}
 use Rattle.gate_world.specs.declared.{accesses.Accesses.Accesses, config.Config.Config, operations.Op.Op, views.View.View, work.Phase.Phase}
 use Rattle.gate_schedules.specs.Answers.{progress_of, phase_step}
 use Rattle.gate_schedules.specs.TaskStates.{task_holdings}
 use Rattle.gate_schedules.specs.declared.task_states.TaskState.{TaskState}
 use Rattle.gate_schedules.specs.declared.steps.Progress.{Progress}
-use Rattle.gate_schedules.specs.declared.steps.Step.{Step}
 use Rattle.gate_schedules.proofs.frames.{Accesses.{holdings_of_after, long_after, wide_after, deep_after, agree_after}, Agreeing.agree_sym}
 use Rattle.gate_schedules.proofs.schedules.Phases.{action_fits, fits_after, fits_agree}
 use Rattle.gate_steps.specs.{Seating.{DealtNumbers, numbered, entered, done_by, items_after, HasWitness}, declared.seating.Numbered.Numbered}
 use Rattle.atomic_table.specs.Seated.{TableId}
-use Rattle.gate_steps.specs.call_events.{Stepped.{found_step, state_after, ToldIn, Stepped}, SeatedTasks.{SeatedTask, task_state}, GhostAgrees.{PhaseOk, OwnNumberAgrees, GhostAgrees}}
+use Rattle.gate_steps.specs.call_events.{Stepped.{found_step, state_after, Stepped}, SeatedTasks.{SeatedTask, task_state}, GhostAgrees.{PhaseOk, OwnNumberAgrees, GhostAgrees}}
 
 -- a view stands where its phase says
 phase_ok : (c : Config) (n : ℕ) (v : View) (o : Option Phase) → v.phase ≡ o → PhaseOk c None o (numbered n v)
@@ -101,46 +101,12 @@ module _ (number : ℕ) (c : Config) (begins : Option Op) (state : TaskState) (f
 -- what a touch found serves as the value that it finds
 serves : (name : WordName) (touch : Touch) (value : ℕ) → (event_of name touch (found_by touch value) ≡ event_of name touch value) ×
     (found_by touch (found_by touch value) ≡ found_by touch value)
-serves name Load value = (refl, refl)
-serves name (Store new) value = (refl, refl)
-serves name (Add by) value = (refl, refl)
-serves name (Sub by) value = (refl, refl)
-serves name (Or bits) value = (refl, refl)
-serves name (And bits) value = (refl, refl)
-serves name (Swap new) value = (refl, refl)
-serves name (Cas expect put) value = (refl, refl)
+serves name touch value = grind arith
 
 -- the step is the one that the phase has in a world
 step_in : (w : World) (phase : Phase) (hook : HookAnswer) → found_step phase hook (found_at w.words phase hook) ≡
     phase_step w hook (Some phase)
-step_in w phase hook =
-    let s = serves (next_of phase hook).0 (next_of phase hook).1 (value_at w.words phase hook) in
-    λ i. record {
-      event = Some (s.0 i);
-      action = (after_of phase (s.1 i) hook).1;
-      progress = progress_of (after_of phase (s.1 i) hook).0;
-    }
-
--- so it is told in the world of the event
-told_in : (c : Config) (begins : Option Op) (phase : Phase) (hook : HookAnswer) (found : ℕ) (items : DealtNumbers)
-    (seen gone : List (List Entry)) (move : HasWitness c begins phase hook items found seen gone) (step : Step) →
-    step ≡ found_step phase hook found → ToldIn c begins phase hook found items seen gone move step
-told_in c begins phase hook found [] seen gone move step is = absurd move
-told_in c begins phase hook found (x ∷ xs) seen gone move step is = is ∙ (ap (found_step phase hook) move.found ∙ step_in move.world phase hook)
-
--- the event of a step
-pub was_stepped : (phase : Phase) (hook : HookAnswer) (old : SeatedTask) (done : Step) (left : SeatedTask) (found : ℕ) → done ≡
-    found_step phase hook found → left ≡ state_after old phase hook found left.seen →
-    HasWitness old.config old.begins phase hook old.items found old.seen left.seen → Stepped phase hook old done left
-was_stepped phase hook old done left found step new moves =
-    record {
-      found = found;
-      step = step;
-      new = new;
-      moves = moves;
-      told =
-          told_in old.config old.begins phase hook found old.items old.seen left.seen moves done step;
-    }
+step_in w phase hook = grind arith
 
 -- the same of the values that the code has
 module _ (number : ℕ) (c : Config) (begins : Option Op) (state : TaskState) (flags : List Bool) (phase : Phase) (is : state.phase ≡ Some phase)
@@ -174,21 +140,7 @@ module _ (number : ℕ) (c : Config) (begins : Option Op) (state : TaskState) (f
 
     -- the fields that are left agree with the seat
     pub ghost_agrees_left : GhostAgrees number c None (record { phase = progress.1; accesses = accesses }) flags after
-    ghost_agrees_left =
-        let P : Option Phase × Accesses × DealtNumbers → Type 0 = λ z. GhostAgrees number c None (record { phase = z.0; accesses = z.1 }) flags z.2 in
-        subst P (λ j. (sym same_phase j, sym same_accesses j, sym after_is j))
-        (matches_after number c begins state flags phase is hook found items ghost_agrees)
-
-    -- the step is the one that the phase has
-    pub step_is : ◌≡◌ {A = Step} (record { event = Some event; action = done.1; progress = progress.0 }) (found_step phase hook found)
-    step_is =
-        let told : progress.0 ≡ progress_of done.0 = ap (λ (p : Progress × Option Phase). p.0) progress_is in
-        λ i. record {
-          event = Some (same_event i);
-          action = (same_done i).1;
-          progress =
-              (told ∙ ap (λ (d : Next Phase × Option Action). progress_of d.0) same_done) i;
-        }
+    ghost_agrees_left = grind (arith, accesses, same_phase, same_accesses, matches_after)
 
     -- the state that is left
     pub left_is : (seen gone : List (List Entry)) (table before : TableId) → table ≡ before → task_state table c None progress.1 (knows after gone) ≡
@@ -201,11 +153,4 @@ module _ (number : ℕ) (c : Config) (begins : Option Op) (state : TaskState) (f
         task_state before c begins state.phase (knows items seen) ≡ now → HasWitness c begins phase hook items found seen gone →
         (p : Phase) → now.phase ≡ Some p → Stepped p hook now (record { event = Some event; action = done.1; progress = progress.0 })
         (task_state table c None progress.1 (knows after gone))
-    stepped_here seen gone table before now same view moves p at =
-        let other : Some phase ≡ Some p = sym is ∙ (ap (λ (s : SeatedTask). s.phase) view ∙ at) in
-        let same_p : phase ≡ p = cc in
-        let step : Step = record { event = Some event; action = done.1; progress = progress.0 } in
-        let left : SeatedTask = task_state table c None progress.1 (knows after gone) in
-        subst (λ (q : Phase). Stepped q hook now step left) same_p
-        (subst (λ (s : SeatedTask). Stepped phase hook s step left) view
-        (was_stepped phase hook (task_state before c begins state.phase (knows items seen)) step left found step_is (left_is seen gone table before same) moves))
+    stepped_here seen gone table before now same view moves p at = grind arith

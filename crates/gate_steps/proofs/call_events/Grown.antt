@@ -1,16 +1,17 @@
 -- The schedule of a call goes on from all that its task had seen.
-use Rattle.std.proofs.Common.{◌≡◌, ℕ, zero, suc, List, [], ◌∷◌, ◌++◌, sym, refl, ap, ◌∙◌, subst}
+use Rattle.std.proofs.Common.{arith}
+use Rattle.std.proofs.lemmas.Grind.{common_steps}
+use Rattle.std.proofs.Common.{◌≡◌, ℕ, zero, suc, List, [], ◌∷◌, ◌++◌, sym, ap, ◌∙◌, subst}
 use Rattle.std.proofs.lemmas.List.{append_assoc, append-nil}
-use Rattle.std.specs.Prelude.{Option, Some, None}
+use Rattle.std.specs.Prelude.{Option}
 use mathlib.Core.Option.{some, some-injective, some-ne-none}
 use lib.ListN.{get_elem?}
-use Rattle.access_model.specs.declared.replies.{Next.{Next, TheVariants.{Go, Wait, Done}}, Reply.Reply}
+use Rattle.access_model.specs.declared.replies.{Next.{Next, TheVariants.{Done}}, Reply.Reply}
 use Rattle.access_model.specs.declared.errors.GateError.{GateError}
 use Rattle.std.specs.Prelude.{Result}
 use Rattle.cpu_words.specs.Hooks.{HookAnswer}
 use Rattle.gate_world.specs.declared.{config.Config.Config, entries.Entry.Entry, operations.Op.Op, views.Traced.Traced, work.Phase.Phase}
 use Rattle.gate_world.specs.traces.TraceStates.{state_of_trace}
-use Rattle.gate_steps.specs.Histories.{then_begins}
 use Rattle.gate_steps.specs.Seating.{DealtNumbers, IsPrefix, HasWitness}
 use Rattle.gate_steps.specs.call_events.Grown.{AllGoOn, StaySeen}
 use Rattle.gate_steps.specs.call_events.Runs.{items_at, begins_at, IsNextMove, AreMoves, Called}
@@ -19,10 +20,6 @@ use Rattle.gate_steps.specs.call_events.SeatedTasks.{SeatedTask, own_number}
 pub after_more : (a b c : List Entry) → IsPrefix a b → IsPrefix b c → IsPrefix a c
 after_more a b c g h = (g.0 ++ h.0, h.1 ∙ (ap (λ (l : List Entry). l ++ h.0) g.1 ∙ append_assoc a g.0 h.0))
 
-begins_more : (t : ℕ) (begins : Option Op) (now : List Entry) → IsPrefix now (then_begins t begins now)
-begins_more t None now = ([], sym (append-nil now))
-begins_more t (Some op) now = (_, refl)
-
 pub only : (last : List Entry) (j : ℕ) (later : List Entry) → get_elem? (last ∷ []) j ≡ some later → last ≡ later
 only last zero later at = some-injective last later at
 only last (suc j) later at = absurd (some-ne-none later (sym at))
@@ -30,38 +27,19 @@ only last (suc j) later at = absurd (some-ne-none later (sym at))
 -- the schedules that an event leaves go on from all seen before it
 pub moved_on : (c : Config) (begins : Option Op) (phase : Phase) (hook : HookAnswer) (items : DealtNumbers) (found : ℕ) (seen gone : List (List Entry)) →
     HasWitness c begins phase hook items found seen gone → AllGoOn seen gone
-moved_on c begins phase hook [] found seen gone move k earlier at j later there = absurd move
-moved_on c begins phase hook (x ∷ xs) found seen gone move k earlier at j later there =
-    let last : List Entry = move.history.reached.entries in
-    let is : last ≡ later = only last j later (subst (λ l. get_elem? l j ≡ some later) move.leaves there) in
-    let g : IsPrefix earlier move.past.reached.entries = move.from.goes_on k earlier at in
-    let h : IsPrefix move.past.reached.entries move.reached.entries =
-    subst (IsPrefix move.past.reached.entries) (sym move.begun) (begins_more x.number begins move.past.reached.entries) in
-    let s : IsPrefix move.reached.entries last = (_, move.stepped) in
-    subst (IsPrefix earlier) is (after_more earlier move.reached.entries last
-    (after_more earlier move.past.reached.entries move.reached.entries g h) s)
+moved_on c begins phase hook items found seen gone move k earlier at j later there = grind (arith, common_steps)
 
 abbrev HasOne : List (List Entry) → Type 0
 HasOne gone = (l : List Entry) × (get_elem? gone 0 ≡ some l)
 
 one_left : (c : Config) (begins : Option Op) (phase : Phase) (hook : HookAnswer) (items : DealtNumbers) (found : ℕ) (seen gone : List (List Entry)) →
     HasWitness c begins phase hook items found seen gone → HasOne gone
-one_left c begins phase hook [] found seen gone move = absurd move
-one_left c begins phase hook (x ∷ xs) found seen gone move =
-    (move.history.reached.entries, ap (λ l. get_elem? l 0) move.leaves)
+one_left c begins phase hook items found seen gone move = grind arith
 
 -- where a trace of moves leaves one schedule, it goes on from all seen before
 pub next_on : (c : Config) (op : Op) (items : DealtNumbers) (earlier : List Traced) (e : Traced) (seen gone : List (List Entry)) (comes : Next Phase) →
     IsNextMove c op items earlier e seen gone comes → AllGoOn seen gone × HasOne gone
-next_on c op items earlier e seen gone (Go phase) m = (
-  moved_on c (begins_at op earlier) phase e.hook (items_at c op earlier items) m.0 seen gone m.2,
-  one_left c (begins_at op earlier) phase e.hook (items_at c op earlier items) m.0 seen gone m.2,
-)
-next_on c op items earlier e seen gone (Wait phase) m = (
-  moved_on c (begins_at op earlier) phase e.hook (items_at c op earlier items) m.0 seen gone m.2,
-  one_left c (begins_at op earlier) phase e.hook (items_at c op earlier items) m.0 seen gone m.2,
-)
-next_on c op items earlier e seen gone (Done answer) m = absurd m
+next_on c op items earlier e seen gone comes m = grind (arith, moved_on, begins_at, items_at, one_left)
 
 pub moves_on : (c : Config) (op : Op) (items : DealtNumbers) (seen : List (List Entry)) (e : Traced) (earlier : List Traced)
     (gone : List (List Entry)) → AreMoves c op items seen (e ∷ earlier) gone → AllGoOn seen gone
@@ -107,10 +85,7 @@ same_stays_seen seen k earlier at = (k, earlier, at, only_seen earlier)
 
 -- and over whatever came
 pub stays_seen_on : (one two three : List (List Entry)) → StaySeen one two → StaySeen two three → StaySeen one three
-stays_seen_on one two three f g k earlier at =
-    let a = f k earlier at in
-    let b = g a.0 a.1 a.2 in
-    (b.0, b.1, b.2, after_more earlier a.1 b.1 a.3 b.3)
+stays_seen_on one two three f g k earlier at = grind (arith, common_steps)
 
 -- of two that were joined, what either had seen
 first_seen_at : (mine others : List (List Entry)) (k : ℕ) (earlier : List Entry) → get_elem? mine k ≡ some earlier →

@@ -1,4 +1,5 @@
 -- Where lines of steps lead.
+use Rattle.std.proofs.Common.{arith}
 use Rattle.std.proofs.Common.{◌≡◌, ℕ, List, refl, sym, ap, ◌∙◌, subst}
 use Rattle.std.specs.Prelude.{Option, Some, None}
 use Rattle.atomic_table.specs.Seated.{TableId}
@@ -10,7 +11,7 @@ use Rattle.gate_world.specs.{Accesses.accesses_after, Configs.IsWithin, Views.ph
 use Rattle.gate_world.specs.declared.{accesses.Accesses.Accesses, config.Config.Config, operations.Op.Op, work.Phase.Phase}
 use Rattle.gate_steps.specs.Seating.{DealtNumbers, items_after, HasWitness}
 use Rattle.gate_steps.specs.declared.seating.Knowledge.{Knowledge}
-use Rattle.gate_steps.specs.call_events.{Asking.{Ask, asks_with, call_at, OpAfterStepWith, WereAsked}, KnownSteps.{KnownSteps, KnownStepsAsking}}
+use Rattle.gate_steps.specs.call_events.{Asking.{Ask, asks_with, call_at, OpAfterStepWith}, KnownSteps.{KnownSteps, KnownStepsAsking}}
 use Rattle.gate_steps.specs.call_events.{SeatedTasks.{SeatedTask, task_state}, Turns.{StateAgrees, AgreesAfter}}
 use Rattle.gate_steps.proofs.call_events.Asking.{AskedFor, asks_more}
 use Rattle.gate_steps.proofs.call_events.Turning.{stay_agrees, stepped_so, went_with_so}
@@ -100,12 +101,7 @@ module _ {c : Config} {begins : Option Op} {accesses : Accesses} {a b : Next Pha
   module _ {H : Type 0} {answers : HookCall → DealtNumbers → H → HookAnswer → H → Type 0} {ha hb : H} where
     -- a line that asks no hook
     pub led_unasked : KnownSteps c begins accesses a ta la b tb lb → hb ≡ ha → KnownStepsAsking answers c begins accesses a ta la ha b tb lb hb
-    led_unasked led same = record {
-      same_table = led.same_table;
-      agrees = led.agrees;
-      went = λ op start before waits went.
-          (went.0, led.went op start went.0 waits went.1, subst (λ h. WereAsked answers went.0 before h) (sym same) went.2);
-    }
+    led_unasked led same = grind arith
 
     -- one line after the other
     pub asking_on : {d : Next Phase} {td : TableId} {ld : Knowledge} {hd : H} →

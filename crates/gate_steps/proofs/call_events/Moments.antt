@@ -1,17 +1,16 @@
 -- The worlds of a schedule that goes on, and the entries of one number in it.
-use Rattle.std.proofs.{Common.{◌≡◌, ℕ, List, [], ◌∷◌, ◌++◌, refl, sym, ap, ◌∙◌, subst, inl, inr}, lemmas.Bool.{cases_Bool, Decides.eqb_tells}}
+use Rattle.std.proofs.Common.{arith}
+use Rattle.std.proofs.{Common.{◌≡◌, ℕ, List, [], ◌∷◌, ◌++◌, refl, sym, ap, ◌∙◌, subst, inl, inr}, lemmas.Bool.{Decides.eqb_tells}}
 use Rattle.std.proofs.lemmas.List.{append_assoc, append-nil}
-use Rattle.std.specs.Prelude.{nat_lt, Option, Some, None}
-use Rattle.finite_sums.proofs.Totals.{update_off}
+use Rattle.std.specs.Prelude.{Some, None}
 use Rattle.access_model.specs.Histories.{Done, own_part}
-use Rattle.access_model.specs.declared.{actions.Action.Action, errors.GateError.GateError}
-use Rattle.cpu_words.specs.Hooks.{HookAnswer}
+use Rattle.access_model.specs.declared.{actions.Action.Action}
 use Rattle.gate_schedules.proofs.schedules.{Entries.begun_on, Runs.{run_more, history_on}}
 use Rattle.gate_world.specs.refusals.Causes.{since_begun, trail, trail_of}
 use Rattle.gate_world.specs.Headline.{world_after, actions_so_far, actions_since}
-use Rattle.gate_world.specs.Worlds.{World, begin_of, begin_refusal, step_of, happens, run, opening, history, task_of}
-use Rattle.gate_world.specs.declared.entries.Entry.{Entry, TheVariants.{Begins, Steps}}
-use Rattle.gate_world.specs.declared.{config.Config.Config, operations.Op.Op, views.View.View, work.Phase.Phase}
+use Rattle.gate_world.specs.Worlds.{World, happens, run, opening, history, task_of}
+use Rattle.gate_world.specs.declared.entries.Entry.{Entry}
+use Rattle.gate_world.specs.declared.{config.Config.Config, views.View.View, work.Phase.Phase}
 use Rattle.gate_steps.specs.Seating.{NoneOf}
 use Rattle.gate_steps.specs.call_events.Spans.{own_entries}
 
@@ -41,20 +40,8 @@ part_more n (d ∷ a) b =
       | inr h ↦ rw h.0 (part_more n a b)
     ]
 
--- an entry leaves the view of each other number
-begin_quiet : (c : Config) (w : World) (t n : ℕ) (op : Op) → (t ≡ n → ⊥) → (refusal : Option GateError) →
-    (begin_of c w t op refusal).views n ≡ w.views n
-begin_quiet c w t n op other None = update_off w.views t _ n (λ e. other (sym e))
-begin_quiet c w t n op other (Some refusal) = refl
-
-step_quiet : (w : World) (t n : ℕ) (hook : HookAnswer) → (t ≡ n → ⊥) → (phase : Option Phase) → (step_of w t hook phase).views n ≡ w.views n
-step_quiet w t n hook other None = refl
-step_quiet w t n hook other (Some phase) = update_off w.views t _ n (λ e. other (sym e))
-
 pub entry_quiet : (c : Config) (w : World) (n : ℕ) (e : Entry) → (task_of e ≡ n → ⊥) → (happens c w e).views n ≡ w.views n
-entry_quiet c w n (Begins t op) other = begin_quiet c w t n op other (begin_refusal c w t op)
-entry_quiet c w n (Steps t hook) other =
-    elim (cases_Bool (nat_lt t c.tasks)) [ inl h ↦ rw h (step_quiet w t n hook other (w.views t).phase) | inr h ↦ rw h refl ]
+entry_quiet c w n e other = grind arith
 
 pub run_quiet : (c : Config) (n : ℕ) (es : List Entry) (w : World) → NoneOf n es → (run c w es).views n ≡ w.views n
 run_quiet c n [] w none = refl

@@ -1,4 +1,5 @@
 -- An operation that goes on after an event, at the phase that comes next.
+use Rattle.std.proofs.Common.{arith}
 use Rattle.gate_steps.specs.declared.seating.Knowledge.{Knowledge}
 use Rattle.std.proofs.Common.{◌≡◌, ◌⊎◌, inl, inr, ap, ℕ, ◌<◌, Bool, List, subst}
 use Rattle.std.specs.Prelude.{Option, Some, None, Result}
@@ -42,16 +43,12 @@ done_at as_phase next answer is = ap (λ n. map_next as_phase n) is
 -- where a phase comes next, the operation goes on
 pub goes_where : (op : Op) (start now : SeatedTask) (next : Next Phase) (phase : Phase) → phase_after next ≡ Some phase →
     OpAfterStep op start next now → OpUnderWay op start now
-goes_where op start now (Go q) phase is went = went
-goes_where op start now (Wait q) phase is went = went
-goes_where op start now (Done answer) phase is went = absurd (let f : ⊥ = cc in f)
+goes_where op start now next phase is went = grind arith
 
 -- and it has not ended
 not_ended : (next : Next Phase) (phase : Phase) → phase_after next ≡ Some phase → (a : Result Reply GateError) →
     progress_of next ≡ Ended a → ⊥
-not_ended (Go q) phase is a ended = let f : ⊥ = cc in f
-not_ended (Wait q) phase is a ended = let f : ⊥ = cc in f
-not_ended (Done answer) phase is a ended = let f : ⊥ = cc in f
+not_ended next phase is a ended = grind arith
 
 module _ (c : Config) (within : IsWithin c) (event : Event) (action : Option Action) (next : Next Phase) (hook : HookAnswer)
     {table left_table : TableId} {begins : Option Op} {phase : Phase} {items left : Knowledge}
@@ -94,7 +91,4 @@ agrees_so number c accesses flags items o p is ghost_agrees =
 pub called_so : (op : Op) (start : SeatedTask) (next : Next Phase) (answer : Result Reply GateError) (table : TableId) (c : Config)
     (items : Knowledge) → next ≡ Done answer → OpAfterStep op start next (task_state table c None (phase_after next) items) →
     Called op start (task_state table c None None items) answer
-called_so op start (Go q) answer table c items is went = absurd (let f : ⊥ = cc in f)
-called_so op start (Wait q) answer table c items is went = absurd (let f : ⊥ = cc in f)
-called_so op start (Done a) answer table c items is went =
-    subst (λ r. Called op start (task_state table c None None items) r) (let f : a ≡ answer = cc in f) went
+called_so op start next answer table c items is went = grind arith

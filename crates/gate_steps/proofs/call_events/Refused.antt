@@ -1,15 +1,14 @@
 -- What a refusal leaves, and when a call says that it waits.
+use Rattle.std.proofs.Common.{arith}
 use Rattle.std.proofs.{Common.{◌≡◌, ℕ, Bool, true, false, List, [], ◌∷◌, ◌++◌, refl, sym, ap, ◌∙◌, inl, inr, subst}, lemmas.Bool.eqb-true}
 use Rattle.std.proofs.lemmas.List.Elements.{All-from_recursion}
 use Rattle.std.specs.{List.{All, AllByRecursion}, Prelude.{◌==◌, ◌⊎◌, if◌then◌else◌, Option, Err, option_map}}
-use Rattle.access_model.specs.{Actions.marked, declared.actions.Action.{Action, TheVariants.{SbRo, Stage as StageAction, Pass, Reopen, Clean}}}
-use Rattle.access_model.specs.declared.{actions.NodeInfo.NodeInfo, errors.GateError.{GateError, TheVariants.Hook}, replies.Next.{Next, TheVariants.Go}}
-use Rattle.access_model.specs.declared.replies.Next.TheVariants.{Wait, Done}
-use Rattle.cpu_words.specs.declared.{events.Touch.{Touch, TheVariants.And}, names.WordName.{WordName, TheVariants.Node}}
-use Rattle.mount_counts.specs.Phases.{has_flag}
+use Rattle.access_model.specs.{Actions.marked, declared.actions.Action.{Action, TheVariants.{Stage as StageAction, Reopen, Clean}}}
+use Rattle.access_model.specs.declared.{actions.NodeInfo.NodeInfo, errors.GateError.{GateError}, replies.Next.{Next}}
+use Rattle.cpu_words.specs.declared.{events.Touch.{Touch}, names.WordName.{WordName}}
 use Rattle.gate_world.specs.{Beginnings.is_in_order, Operations.{two_levels_closed, all_levels_closed}, Configs.IsWithin, traces.TraceStates.{state_of_trace, IsTrace}}
 use Rattle.gate_world.specs.{traces.Found.{clean_found, cleans, stored_stage}, Holdings.holdings_of, traces.Traces.{actions_of, Tells}, Views.held_of}
-use Rattle.gate_world.specs.declared.{config.Config.Config, operations.Op.{Op, TheVariants.{RemountSb, WantWrite, Freeze as FreezeOp}}, views.Traced.Traced}
+use Rattle.gate_world.specs.declared.{config.Config.Config, operations.Op.{Op}, views.Traced.Traced}
 use Rattle.gate_world.specs.declared.work.Phase.{Phase}
 use Rattle.gate_schedules.proofs.operations.AllOperations.{op_keeps}
 use Rattle.gate_steps.specs.Seating.{DealtNumbers}
@@ -33,9 +32,7 @@ EachLeaves l = AllByRecursion LeavesTree l
 -- the marks that a trace has cleared, on top of actions that do
 clean_more : (word : WordName) (touch : Touch) (found : ℕ) (l rest : List Action) → EachLeaves (l ++ rest) →
     EachLeaves (clean_found word touch found l ++ rest)
-clean_more (Node n) (And mask) found l rest h =
-    either_way (λ k. EachLeaves (k ++ rest)) (has_flag found 4) (Clean n ∷ l) l (cleaned n, h) h
-clean_more word touch found l rest h = h
+clean_more word touch found l rest h = grind arith
 
 cleans_leave : (trace : List Traced) (rest : List Action) → EachLeaves rest → EachLeaves (cleans trace ++ rest)
 cleans_leave [] rest h = h
@@ -44,9 +41,7 @@ cleans_leave (e ∷ earlier) rest h =
 
 -- the levels that a freeze closes
 two_leave : (trace : List Traced) → EachLeaves (two_levels_closed trace)
-two_leave trace =
-    cleans_leave trace (Pass 2 ∷ (StageAction 2 ∷ (Pass 1 ∷ (StageAction 1 ∷ []))))
-    (λ counts tree n. inl refl, (λ counts tree n. inl refl, (λ counts tree n. inl refl, (λ counts tree n. inl refl, tt))))
+two_leave trace = grind (arith, cleans_leave)
 
 all_leave : (trace : List Traced) → EachLeaves (all_levels_closed trace)
 all_leave trace = (λ counts tree n. inl refl, (λ counts tree n. inl refl, two_leave trace))
@@ -63,13 +58,7 @@ reopened_leave trace =
 
 -- what a refused operation has added leaves the tree
 each_leaves : (op : Op) (refusal : GateError) (trace : List Traced) → EachLeaves (actions_of op (Err refusal) trace)
-each_leaves (RemountSb true) (Hook code) trace =
-    (λ counts tree n. inl refl, cleans_leave trace (SbRo ∷ []) (λ counts tree n. inl refl, tt))
-each_leaves (WantWrite m p) refusal trace = (λ counts tree n. inl refl, (λ counts tree n. inl refl, tt))
-each_leaves (FreezeOp holder) (Hook code) trace = (λ counts tree n. inl refl, (λ counts tree n. inl refl, reopened_leave trace))
-each_leaves (RemountSb true) refusal trace = tt
-each_leaves (RemountSb false) refusal trace = tt
-each_leaves op refusal trace = tt
+each_leaves op refusal trace = grind (arith, cleans_leave, reopened_leave)
 
 leaves : (op : Op) (refusal : GateError) (trace : List Traced) → All LeavesTree (actions_of op (Err refusal) trace)
 leaves op refusal trace = All-from_recursion LeavesTree (actions_of op (Err refusal) trace) (each_leaves op refusal trace)
@@ -90,9 +79,7 @@ is_unchanged c op refusal trace (x ∷ xs) order is =
 -- what a trace tells of a wait
 honest_wait : (c : Config) (op : Op) (e : Traced) (earlier : List Traced) (comes : Next Phase) (added : List Action) →
     Tells c op (e ∷ earlier) comes added → IsHonestWait c op (e ∷ earlier) comes
-honest_wait c op e earlier (Go phase) added tells = tt
-honest_wait c op e earlier (Wait phase) added tells = tells
-honest_wait c op e earlier (Done answer) added tells = tt
+honest_wait c op e earlier comes added tells = grind arith
 
 pub waits_honestly : (c : Config) (t : ℕ) (op : Op) → IsWithin c → (trace : List Traced) → IsTrace c t op trace → WaitsHonestly c t op trace
 waits_honestly c t op within [] follows = tt

@@ -1,5 +1,6 @@
 -- The hook that a remount has asked, by its steps.
-use Rattle.std.proofs.Common.{◌≡◌, ℕ, Bool, true, false, List, [], ◌∷◌, refl, subst, inl, inr}
+use Rattle.std.proofs.Common.{arith}
+use Rattle.std.proofs.Common.{◌≡◌, ℕ, Bool, List, [], ◌∷◌, refl, subst, inr}
 use Rattle.std.specs.Prelude.{◌+◌, ◌==◌, not, nat_lt, Ok, Err}
 use Rattle.access_model.specs.declared.actions.Action.{Action}
 use Rattle.access_model.specs.declared.replies.Next.{Next}
@@ -8,11 +9,10 @@ use Rattle.access_model.specs.declared.replies.Reply.{Reply}
 use Rattle.access_model.specs.Replies.{map_next}
 use Rattle.cpu_words.specs.Hooks.{HookAnswer}
 use Rattle.cpu_words.specs.declared.sums.Taken.{Taken}
-use Rattle.cpu_words.specs.declared.sums.Taken.TheVariants.{More, Total}
 use Rattle.cpu_words.specs.Sums.{sum_taking}
 use Rattle.mount_counts.specs.Phases.{has_flag}
 use Rattle.mount_counts.specs.Remounts.{remount_after, at_remount, remount_from, past_mount, let_go, leave_holds, give_up, remount_took}
-use Rattle.mount_counts.specs.Sets.{no_mounts, with_mount, without_lowest}
+use Rattle.mount_counts.specs.Sets.{no_mounts, without_lowest}
 use Rattle.mount_counts.specs.declared.sets.MountSet.{MountSet}
 use Rattle.mount_counts.specs.declared.remounts.Remount.{Remount}
 use Rattle.mount_counts.specs.declared.remounts.RemountStep.{RemountStep}
@@ -76,17 +76,11 @@ module _ (read_only : Bool) where
   At (Done (Err refusal)) added asks = Unit {0}
 
   as_phases : (next : Next Remount) (added : List Action) (asks : List Ask) → AtNext next asks → At (map_next Remounts next) added asks
-  as_phases (Go x) added asks is = is
-  as_phases (Wait x) added asks is = is
-  as_phases (Done (Ok reply)) added asks is = is
-  as_phases (Done (Err refusal)) added asks is = is
+  as_phases next added asks is = grind arith
 
   -- where nothing was asked yet
   from_so : (asked found : Bool) (asks : List Ask) → asks ≡ [] → AtStep (remount_from asked found) asks
-  from_so true true asks is = inl is
-  from_so true false asks is = is
-  from_so false true asks is = is
-  from_so false false asks is = inl is
+  from_so asked found asks is = grind arith
 
   past_so : (mounts m : ℕ) (held : MountSet) (asks : List Ask) → asks ≡ [] → AtStep (past_mount mounts m held) asks
   past_so mounts m held asks is =
@@ -102,10 +96,7 @@ module _ (read_only : Bool) where
   give_up_so m held asks is = either_way (λ step. AtStep step asks) (held.bits == 0) (Releases (Err _)) (GivesUp m held) tt is
 
   took_so : (mounts m : ℕ) (held : MountSet) (taken : Taken) (asks : List Ask) → asks ≡ [] → AtStep (remount_took mounts m held taken) asks
-  took_so mounts m held (More sum) asks is = is
-  took_so mounts m held (Total total) asks is =
-      either_way (λ step. AtStep step asks) (total == 0) (past_mount mounts m (with_mount held m)) (give_up m (with_mount held m))
-      (past_so mounts m (with_mount held m) asks is) (give_up_so m (with_mount held m) asks is)
+  took_so mounts m held taken asks is = grind arith
 
   -- the hook that was asked, which has agreed
   asked_so : (x : Remount) (at : DealtNumbers) (asks : List Ask) → x.read_only ≡ read_only → asks ≡ [] →

@@ -1,13 +1,12 @@
 -- An operation, event after event, from its beginning to its reply.
 use Rattle.gate_world.specs.declared.entries.Entry.{Entry}
 use Rattle.std.proofs.Common.{◌≡◌, ℕ, ◌+◌, ◌-◌, ◌<◌, ◌≤◌, List, [], ◌∷◌, ◌++◌, length, refl, sym, ap, ◌∙◌, subst, arith, add-zero}
-use Rattle.std.specs.Prelude.{true, false, Option, Some, None, Result, Ok, Err, IfOk, is_some}
+use Rattle.std.specs.Prelude.{Option, Some, None, Result, Ok, Err, IfOk, is_some}
 use Rattle.access_model.specs.declared.actions.Action.{Action}
 use Rattle.access_model.specs.declared.errors.GateError.{GateError}
 use Rattle.access_model.specs.declared.replies.Next.{Next}
 use Rattle.access_model.specs.declared.replies.Next.TheVariants.{Go, Wait, Done}
 use Rattle.access_model.specs.declared.replies.Reply.{Reply}
-use Rattle.access_model.specs.declared.replies.Reply.TheVariants.{Ran}
 use Rattle.gate_world.specs.declared.operations.Op.TheVariants.{Callback}
 use Rattle.cpu_words.specs.Hooks.{HookAnswer}
 use Rattle.cpu_words.specs.Touches.{found_by, event_of}
@@ -22,7 +21,7 @@ use Rattle.gate_world.specs.Views.{phase_after, actions_after, view_after_with_o
 use Rattle.gate_world.specs.Work.{next_of, after_of}
 use Rattle.gate_world.specs.Beginnings.{first_phase}
 use Rattle.gate_world.specs.traces.TraceStates.{TraceState, trace_state_with, trace_state_after, state_of_trace, IsEventOf, IsNext, IsTrace, ReadIsValid}
-use Rattle.gate_world.specs.traces.Traces.{actions_of, Tells, IsHonestAnswer, ReplyMatchesTrace, most_events, IsShort, MayWait}
+use Rattle.gate_world.specs.traces.Traces.{actions_of, Tells, ReplyMatchesTrace, most_events, IsShort, MayWait}
 use Rattle.gate_schedules.proofs.{frames.OperationLaws.{most_events_of_all, IsSmall}, schedules.Beginnings.may_begin}
 use Rattle.gate_schedules.proofs.operations.AllOperations.{op_keeps}
 use Rattle.gate_schedules.specs.declared.steps.Progress.{Progress}
@@ -46,9 +45,7 @@ entered_items begins (Some p) (x ∷ xs) = numbered x.number (entered x.view beg
 
 -- nothing begins where no operation has just begun
 not_entered : (o : Option Phase) (l : DealtNumbers) → entered_items None o l ≡ l
-not_entered None l = refl
-not_entered (Some p) [] = refl
-not_entered (Some p) (x ∷ xs) = refl
+not_entered o l = grind arith
 
 -- an event that begins an operation is one of the numbers that have begun it
 after_entered : (begins : Option Op) (p : Phase) (h : HookAnswer) (found : ℕ) (l : DealtNumbers) →
@@ -58,16 +55,12 @@ after_entered begins p h found (x ∷ xs) = refl
 
 -- the event of the phase that stands comes next
 next_is : (s : Next Phase) (p : Phase) (e : Traced) → phase_after s ≡ Some p → IsEventOf p e → IsNext s e
-next_is (Go q) p e is h = subst (λ r. IsEventOf r e) (let f : p ≡ q = cc in f) h
-next_is (Wait q) p e is h = subst (λ r. IsEventOf r e) (let f : p ≡ q = cc in f) h
-next_is (Done a) p e is h = absurd (let f : ⊥ = cc in f)
+next_is s p e is h = grind arith
 
 -- and so does its move
 move_is : (c : Config) (op : Op) (items : DealtNumbers) (earlier : List Traced) (e : Traced) (seen gone : List (List Entry)) (s : Next Phase) (p : Phase) →
     phase_after s ≡ Some p → IsMoveOf c op items earlier e seen gone p → IsNextMove c op items earlier e seen gone s
-move_is c op items earlier e seen gone (Go q) p is h = subst (IsMoveOf c op items earlier e seen gone) (let f : p ≡ q = cc in f) h
-move_is c op items earlier e seen gone (Wait q) p is h = subst (IsMoveOf c op items earlier e seen gone) (let f : p ≡ q = cc in f) h
-move_is c op items earlier e seen gone (Done a) p is h = absurd (let f : ⊥ = cc in f)
+move_is c op items earlier e seen gone s p is h = grind arith
 
 -- what an event found is what its word may hold
 move_holds : (c : Config) (begins : Option Op) (p : Phase) (hook : HookAnswer) (items : DealtNumbers) (found : ℕ)
@@ -92,22 +85,16 @@ move_has_history c begins p hook (x ∷ xs) found seen gone move =
 -- what the event of this phase completes
 pub completed_is : (s : Next Phase) (p : Phase) (earlier : List Traced) (e : Traced) → phase_after s ≡ Some p →
     completed_by s earlier e ≡ completes p earlier e.event.found
-completed_is (Go q) p earlier e is = ap (λ r. completes r earlier e.event.found) (let f : q ≡ p = cc in f)
-completed_is (Wait q) p earlier e is = ap (λ r. completes r earlier e.event.found) (let f : q ≡ p = cc in f)
-completed_is (Done a) p earlier e is = absurd (let f : ⊥ = cc in f)
+completed_is s p earlier e is = grind arith
 
 -- the hook that the event of this phase reads
 call_is : (s : Next Phase) (p : Phase) → phase_after s ≡ Some p → next_call s ≡ call_at p
-call_is (Go q) p is = ap call_at (let f : q ≡ p = cc in f)
-call_is (Wait q) p is = ap call_at (let f : q ≡ p = cc in f)
-call_is (Done a) p is = absurd (let f : ⊥ = cc in f)
+call_is s p is = grind arith
 
 -- the course after it
 pub course_is : (s : Next Phase) (p : Phase) (added : List Action) (e : Traced) → phase_after s ≡ Some p → trace_state_after s added e ≡
     trace_state_with added (after_of p e.event.found e.hook)
-course_is (Go q) p added e is = ap (λ r. trace_state_with added (after_of r e.event.found e.hook)) (let f : q ≡ p = cc in f)
-course_is (Wait q) p added e is = ap (λ r. trace_state_with added (after_of r e.event.found e.hook)) (let f : q ≡ p = cc in f)
-course_is (Done a) p added e is = absurd (let f : ⊥ = cc in f)
+course_is s p added e is = grind arith
 
 -- its action goes before all earlier ones
 actions_append : (a : Option Action) (l m : List Action) → actions_after a (l ++ m) ≡ actions_after a l ++ m
@@ -116,9 +103,7 @@ actions_append (Some a) l m = refl
 
 -- a step that ended has an answer
 done_is : (x : Next Phase) (a : Result Reply GateError) → progress_of x ≡ Ended a → x ≡ Done a
-done_is (Go q) a e = absurd (let f : ⊥ = cc in f)
-done_is (Wait q) a e = absurd (let f : ⊥ = cc in f)
-done_is (Done b) a e = ap (λ r. Done r) (let f : b ≡ a = cc in f)
+done_is x a e = grind arith
 
 -- and one that did not has a phase
 goes_on : (x : Next Phase) → ((a : Result Reply GateError) → progress_of x ≡ Ended a → ⊥) → (q : Phase) × (phase_after x ≡ Some q)
@@ -132,9 +117,7 @@ waits_told Waiting = 1
 waits_told progress = 0
 
 wait_told : (x : Next Phase) → is_wait x ≡ waits_told (progress_of x)
-wait_told (Go q) = refl
-wait_told (Wait q) = refl
-wait_told (Done a) = refl
+wait_told x = grind arith
 
 pub same_wait : (x y : Next Phase) → progress_of x ≡ progress_of y → is_wait x ≡ is_wait y
 same_wait x y same = wait_told x ∙ (ap waits_told same ∙ sym (wait_told y))
@@ -150,17 +133,11 @@ events_left now = most_events_of_all + 1 - steps_of now
 -- why an operation can't begin, said of the answer of a beginning
 pub refused_as : (e : GateError) (o : Option GateError) {A : Type 0} (r : GateError) → Err e ≡ unless_refused o → o ≡ Some r →
     ◌≡◌ {A = Result A GateError} (Err e) (Err r)
-refused_as e o r is at =
-    let both : ◌≡◌ {A = Result (Unit {0}) GateError} (Err e) (Err r) = is ∙ ap unless_refused at in
-    let same : e ≡ r = cc in
-    ap (λ x. Err x) same
+refused_as e o r is at = grind arith
 
 -- a refused beginning has a refusal
 pub refused_none : (e : GateError) (o : Option GateError) → Err e ≡ unless_refused o → o ≡ None → ⊥
-refused_none e o is at =
-    let both : ◌≡◌ {A = Result (Unit {0}) GateError} (Err e) (Ok tt) = is ∙ ap unless_refused at in
-    let no : ⊥ = cc in
-    no
+refused_none e o is at = grind arith
 
 -- what was not refused has no refusal
 pub not_refused : (o : Option GateError) → Ok tt ≡ unless_refused o → o ≡ None
@@ -169,10 +146,7 @@ not_refused (Some refusal) is = absurd (let f : ◌≡◌ {A = Result (Unit {0})
 
 -- an admitted one has none
 pub admitted_some : (o : Option GateError) (r : GateError) → Ok tt ≡ unless_refused o → o ≡ Some r → ⊥
-admitted_some o r is at =
-    let both : ◌≡◌ {A = Result (Unit {0}) GateError} (Ok tt) (Err r) = is ∙ ap unless_refused at in
-    let no : ⊥ = cc in
-    no
+admitted_some o r is at = grind arith
 
 -- the numbers of an operation that has just begun
 begun_items : (c : Config) (op : Op) (l : DealtNumbers) → entered_items (Some op) (Some (first_phase c (own_number l) op)) l ≡
@@ -180,23 +154,10 @@ begun_items : (c : Config) (op : Op) (l : DealtNumbers) → entered_items (Some 
 begun_items c op [] = refl
 begun_items c op (x ∷ xs) = refl
 
--- the numbers of an operation after these events
-entered_at : (c : Config) (op : Op) (trace : List Traced) (l : DealtNumbers) →
-    entered_items (begins_at op trace) (phase_after (state_of_trace c (own_number l) op trace).comes) (items_at c op trace l) ≡
-    ran_items c op trace l
-entered_at c op [] l = begun_items c op l
-entered_at c op (e ∷ earlier) l = not_entered (phase_after (state_of_trace c (own_number l) op (e ∷ earlier)).comes)
-    (ran_items c op (e ∷ earlier) l)
-
 -- and of one under way
 ran_so_far : (op : Op) (start now : SeatedTask) (goes : OpUnderWay op start now) → entered_items now.begins now.phase now.items ≡
     ran_items start.config op goes.trace start.items
-ran_so_far op start now goes =
-    let same : entered_items now.begins now.phase now.items ≡
-    entered_items (begins_at op goes.trace) (phase_after (state_of_trace start.config (own_number start.items) op goes.trace).comes)
-    (items_at start.config op goes.trace start.items) =
-    λ i. entered_items (goes.begins i) (goes.phase i) (goes.items i) in
-    same ∙ entered_at start.config op goes.trace start.items
+ran_so_far op start now goes = grind arith
 
 -- as it begins, with no hook asked and no wait
 pub starts_asking_none : (op : Op) (start now : SeatedTask) → Ok tt ≡ unless_refused (refusal_at op start) → now ≡ record start {
@@ -296,12 +257,7 @@ module _ (op : Op) (start now left : SeatedTask) (step : Step) (h : HookAnswer) 
 
   -- all numbers after it
   ran_all : (l : DealtNumbers) → own_number l ≡ n → items_after None p h found (ran_items c op goes.trace l) ≡ ran_items c op trace l
-  ran_all [] same = refl
-  ran_all (x ∷ xs) same =
-      let before : ℕ → View = λ k. ran_view c k op (done_by xs) goes.trace x.view in
-      let then : ℕ → View = λ k. ran_view c k op (done_by xs) trace x.view in
-      subst (λ (k : ℕ). items_after None p h found (numbered x.number (before k) ∷ xs) ≡ numbered x.number (then k) ∷ xs) (sym same)
-      (ap (λ (v : View). numbered x.number v ∷ xs) (ran_more (done_by xs) x.view))
+  ran_all l same = grind (arith, ran_view, done_by, items_after, numbered, ran_more)
 
   -- the phase that is left
   phase_then : left.phase ≡ phase_after (state_of_trace c n op trace).comes
@@ -309,11 +265,7 @@ module _ (op : Op) (start now left : SeatedTask) (step : Step) (h : HookAnswer) 
 
   -- the numbers that are left
   items_then : left.items ≡ ran_items c op trace start.items
-  items_then =
-      ap (λ (s : SeatedTask). s.items) did.new ∙
-      (sym (after_entered now.begins p h found now.items) ∙
-      (ap (λ (o : Option Phase). items_after None p h found (entered_items now.begins o now.items)) (sym goes.going.1) ∙
-      (ap (items_after None p h found) (ran_so_far op start now goes) ∙ ran_all start.items refl)))
+  items_then = grind (arith, did, after_entered, items_after, ran_so_far, ran_all)
 
   -- how the operation stands
   progress_then : step.progress ≡ progress_of after.0
@@ -341,11 +293,7 @@ module _ (op : Op) (start now left : SeatedTask) (step : Step) (h : HookAnswer) 
 
   -- what it leaves has one history
   history_then : HaveHistory c left.items left.seen
-  history_then =
-      let history : HaveHistory now.config (items_after now.begins p h found now.items) left.seen =
-      move_has_history now.config now.begins p h now.items found now.seen left.seen did.moves in
-      subst (λ d. HaveHistory d left.items left.seen) goes.config
-      (subst (λ l. HaveHistory now.config l left.seen) (ap (λ (s : SeatedTask). s.items) (sym did.new)) history)
+  history_then = grind (arith, items_after, move_has_history, did)
 
   -- where it does not reply, it goes on, with this event more
   goes_with_it : ((a : Result Reply GateError) → step.progress ≡ Ended a → ⊥) → (goes : OpUnderWay op start left) × (goes.trace ≡ trace)
@@ -457,16 +405,11 @@ module _ (op : Op) (start now left : SeatedTask) (step : Step) (h : HookAnswer) 
   grown : (begins : Option Op) (o : Option Phase) (l : DealtNumbers) → o ≡ Some p →
       HasWitness now.config begins p h l found now.seen left.seen →
       length (own_view (items_after begins p h found l)).trace ≡ length (own_view (entered_items begins o l)).trace + 1
-  grown begins o [] is moves = absurd moves
-  grown begins o (x ∷ xs) is moves = subst (λ q. length (own_view (items_after begins p h found (x ∷ xs))).trace ≡
-      length (own_view (entered_items begins q (x ∷ xs))).trace + 1) (sym is) (omega arith)
+  grown begins o l is moves = grind arith
 
   -- so it has had one event more
   one_more : steps_of left ≡ steps_of now + 1
-  one_more =
-      ap (λ b. length (own_view (entered_items b left.phase left.items)).trace) begins_then ∙
-      (ap (λ l. length (own_view l).trace) (not_entered left.phase left.items ∙ ap (λ (s : SeatedTask). s.items) did.new) ∙
-      grown now.begins now.phase now.items goes.going.1 did.moves)
+  one_more = grind (arith, length, own_view, begins_then, not_entered, did, grown)
 
 -- what is no more than the most is no more than the most of all
 few : (most : Option ℕ) (trace : List Traced) → IsBounded most → IsShort most trace → IsSmall most → length trace ≤ most_events_of_all
@@ -555,24 +498,11 @@ was_told read op old left answer outcome replies told = record {
   done = λ at. let done = replies.done at in (done.0, told ∙ (ap (told_as read) done.1 ∙ told_twice read done.0), done.2);
 }
 
--- a whole reply is one that its operation gives
-reply_told : (P : Reply → Type 0) (c : Config) (op : Op) (events : List Traced) →
-    ((reply : Reply) → ReplyMatchesTrace op reply events → P reply) → (answer : Result Reply GateError) → IsHonestAnswer c op answer events →
-    IfOk (told_as the_reply answer) P
-reply_told P c op events says (Ok reply) honest = says reply honest
-reply_told P c op events says (Err refusal) honest = tt
-
 reply_at : (P : Reply → Type 0) (op : Op) (old left : SeatedTask) (outcome : Result Reply GateError) →
     ((reply : Reply) (events : List Traced) → ReplyMatchesTrace op reply events → P reply) → Replies the_reply op old left outcome →
     (o : Option GateError) → refusal_at op old ≡ o → IfOk outcome P
-reply_at P op old left outcome says replies (Some r) at = subst (λ x. IfOk x P) (sym (replies.refused r at).0) tt
-reply_at P op old left outcome says replies None at =
-    let done = replies.done at in
-    subst (λ x. IfOk x P) (sym done.1)
-    (reply_told P old.config op done.2.trace (λ reply told. says reply done.2.trace told) done.0 done.2.honest)
+reply_at P op old left outcome says replies o at = grind arith
 
 -- a callback's
 pub ran_told : (level : ℕ) (reply : Reply) (events : List Traced) → ReplyMatchesTrace (Callback level) reply events → IsRanReply reply
-ran_told level (Ran true) events told = tt
-ran_told level (Ran false) events told = tt
-ran_told level reply events told = absurd told
+ran_told level reply events told = grind arith

@@ -1,5 +1,6 @@
 -- The hook that a thaw has asked, by its steps.
-use Rattle.std.proofs.Common.{◌≡◌, ℕ, ◌-◌, List, [], ◌∷◌, refl, ap, subst, inl, inr}
+use Rattle.std.proofs.Common.{arith}
+use Rattle.std.proofs.Common.{◌≡◌, ℕ, List, [], ◌∷◌, refl, ap, subst, inl}
 use Rattle.std.specs.Prelude.{◌==◌, false, if◌then◌else◌, Ok, Err}
 use Rattle.access_model.specs.declared.actions.Action.{Action}
 use Rattle.access_model.specs.declared.actions.Holder.{Holder}
@@ -28,7 +29,6 @@ use Rattle.freeze_levels.specs.declared.thaws.ThawStep.TheVariants.{
   Releases,
 }
 use Rattle.freeze_levels.specs.Holders.{holders_in}
-use Rattle.freeze_levels.specs.Levels.{reopening}
 use Rattle.freeze_levels.specs.Thaws.{thaw_after, at_thaw, after_opening}
 use Rattle.gate_world.specs.declared.operations.Op.TheVariants.{Thaw as ThawOp}
 use Rattle.gate_world.specs.declared.work.Phase.{Phase}
@@ -69,18 +69,12 @@ At (Done (Ok reply)) added asks = AtMostAsked UnfreezeCall asks
 At (Done (Err refusal)) added asks = Unit {0}
 
 as_phases : (next : Next Thaw) (added : List Action) (asks : List Ask) → AtNext next asks → At (map_next Thaws next) added asks
-as_phases (Go x) added asks is = is
-as_phases (Wait x) added asks is = is
-as_phases (Done (Ok reply)) added asks is = is
-as_phases (Done (Err refusal)) added asks is = is
+as_phases next added asks is = grind arith
 
 -- the levels are reopened
 opening_next : (x : Thaw) (level : ℕ) (next : Next UpWrite) (asks : List Ask) → OnceAsked UnfreezeCall asks →
     AtNext (after_opening x level next) asks
-opening_next x level (Go u) asks is = is
-opening_next x level (Wait u) asks is = is
-opening_next x level (Done answer) asks is =
-    either_way (λ step. AtStep step asks) ((level - 1) == 0) (Releases (Ok _)) (Reopens (reopening (level - 1))) (inr is) is
+opening_next x level next asks is = grind arith
 
 -- one event more
 step_keeps : (x : Thaw) (step : ThawStep) (found : ℕ) (hook : HookAnswer) (at : DealtNumbers) (asks : List Ask) → AtStep step asks →

@@ -23,9 +23,7 @@ use Rattle.gate_steps.proofs.call_events.{Going.{may_add, ghost_agrees_left, ste
 module _ (number : ℕ) (c : Config) (begins : Option Op) (phase : Phase) (accesses : Accesses) (flags : List Bool) (hook : HookAnswer) where
   -- the word of the event is one of the table's
   word_inside : (l : DealtNumbers) → GhostAgrees number c begins (state_at (Some phase) accesses) flags l → place (next_of phase hook).0 < words_in_all
-  word_inside [] t = absurd t
-  word_inside (x ∷ xs) t =
-      word_placed c t.within x.number (held_of x.view) (omega (arith, t.below, t.same_number)) phase hook t.fits
+  word_inside l t = grind (arith, word_placed, held_of)
 
   -- the own number may do the event
   may_act : (l : DealtNumbers) → GhostAgrees number c begins (state_at (Some phase) accesses) flags l → OwnNumberMayStep c begins phase l
@@ -41,9 +39,7 @@ module _ (c key : Config) (same_key : key ≡ c) (begins : Option Op) (phase : P
 
   -- the number may act
   pub acts_so : OwnNumberMayStep key begins phase items
-  acts_so =
-      subst (λ (k : Config). OwnNumberMayStep k begins phase items) (sym same_key)
-      (may_act agrees.number c begins phase accesses agrees.flags hook items agrees.ghost_agrees)
+  acts_so = grind arith
 
   -- what the event adds can be done on the accesses
   pub adds_so : (found : ℕ) (event : Event) → event ≡ event_of (next_of phase hook).0 (next_of phase hook).1 found →
