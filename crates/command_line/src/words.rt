@@ -164,7 +164,7 @@ const SUBCOMMANDS: [Subcommand; 5] = [
             Argument::File("Its file; standard input, where none is named, or '-'"),
             Argument::Flag(
                 SCHEDULES,
-                "Prints a schedule for each outcome, with the fewest switches between tasks",
+                "Prints a schedule for each outcome, with few switches between tasks",
             ),
             Argument::Flag(COLUMNS, "Prints one too, in a column for each task"),
             Argument::Flag(
@@ -351,6 +351,17 @@ pub struct Outcomes<'a> {
     pub limit: u32,
     /// Whether states that are not needed for the outcomes may be left out.
     pub reduction: bool,
+}
+
+impl Outcomes<'_> {
+    /// Whether something is told that may name words of the gates: more than a line for each outcome.
+    fn names_words(&self) -> bool {
+        self.save.is_some()
+            || !matches!(
+                (self.form, self.schedules),
+                (OutcomeForm::Text, ScheduleForm::Untold)
+            )
+    }
 }
 
 /// What the words of a command line ask for.
@@ -639,10 +650,16 @@ fn outcomes_asked<'a, E: Write>(outcomes: &ArgMatches<'a>, errors: &mut E) -> Pr
         let (one, other) = first_two(outcomes, &[JSON, HTML, COLUMNS]);
         return excluded(one, other, OUTCOMES_USAGE, errors);
     };
-    match style_of(outcomes) {
-        Some(style) => ProgramRequest::Outcomes(outcomes_of(outcomes, form, style)),
-        None => misused(WHOSE, OUTCOMES_USAGE, errors),
+    let Some(style) = style_of(outcomes) else {
+        return misused(WHOSE, OUTCOMES_USAGE, errors);
+    };
+    let asked = outcomes_of(outcomes, form, style);
+    if (style.raw || style.kernel_names) && !asked.names_words() {
+        let why =
+            "the arguments '--raw' and '--names' need '--schedules', '--columns', '--json', '--html' or '--save'";
+        return misused(why, OUTCOMES_USAGE, errors);
     }
+    ProgramRequest::Outcomes(asked)
 }
 
 /// The form of outcomes; None where more than one is asked for.

@@ -24,6 +24,43 @@ pub struct Faulty<'a> {
     pub rest: &'a [u8],
 }
 
+/// A fault at a known place of a line, and how to mend it.
+#[derive(Clone, Copy)]
+pub struct Marked<'a> {
+    /// Its file; standard input, if none is named.
+    pub file: Option<&'a str>,
+    /// The number of the line, from 1.
+    pub number: u32,
+    pub line: &'a [u8],
+    /// How many bytes of the line stand before what is at fault, and how many that has.
+    pub before: usize,
+    pub length: usize,
+    pub error: &'a str,
+    pub help: &'a str,
+}
+
+impl Marked<'_> {
+    /// Returns its text, in the same form as `diagnosis`.
+    ///
+    /// # Errors
+    ///
+    /// `AllocError` if there was no memory for it.
+    pub fn told(self, alloc: Global) -> Result<String, AllocError> {
+        let behind = self.line.get(self.before..).unwrap_or(b"");
+        let place = Place {
+            part: behind.get(..self.length).unwrap_or(behind),
+            column: self.before.saturating_add(1),
+        };
+        let mut text = Text::new(alloc);
+        put_source(&mut text, self.file, self.number, Some(place));
+        text.put(self.error);
+        put_line(&mut text, self.line, place);
+        text.put("\nhelp: ");
+        text.put(self.help);
+        text.ended()
+    }
+}
+
 /// Tells a fault with its line, and how to mend it; the fault alone if there is no memory for more.
 pub fn tell_faulty<E: Write>(alloc: Global, faulty: Faulty<'_>, errors: &mut E) -> ProgramEnding
     ensures { result ≡ Refused }
@@ -89,16 +126,21 @@ fn tell_no_line(help: &mut Text, fault: &str) {
     }
 }
 
-/// Puts the place of a fault and its text.
-fn put_head(text: &mut Text, faulty: Faulty<'_>, place: Option<Place<'_>>) {
-    text.put(SourceName(faulty.file));
+/// Puts the place of a fault.
+fn put_source(text: &mut Text, file: Option<&str>, line: u32, place: Option<Place<'_>>) {
+    text.put(SourceName(file));
     text.put(":");
-    text.put(faulty.fault.line);
+    text.put(line);
     if let Some(place) = place {
         text.put(":");
         text.put(place.column);
     }
     text.put(": error: ");
+}
+
+/// Puts the place of a fault and its text.
+fn put_head(text: &mut Text, faulty: Faulty<'_>, place: Option<Place<'_>>) {
+    put_source(text, faulty.file, faulty.fault.line, place);
     text.put(faulty.fault.text);
     if let Some(cause) = faulty.fault.cause {
         text.put(" ");

@@ -24,6 +24,14 @@ pub(crate) static CONFIGS: [Form; 1] = [("config", CONFIG)];
 /// The commands that stand alone on their line, which is their form.
 pub(crate) static ALONE: [Form; 3] = [("words", "words"), ("tree", "tree"), ("model", "model")];
 
+/// The words by which a line behind `race` claims something, with their forms.
+pub(crate) static CLAIMS: [Form; 4] = [
+    ("never", "never CONDITION"),
+    ("sometimes", "sometimes CONDITION"),
+    ("always", "always CONDITION"),
+    ("invariant", "invariant CONDITION"),
+];
+
 /// The arguments of `hook`, the line of a race by which a hook fails in a task's last call.
 pub(crate) const HOOK: &str = "sync|freeze|unfreeze|reconfigure CODE";
 

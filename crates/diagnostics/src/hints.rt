@@ -2,7 +2,7 @@
 
 use crate::contexts::Context;
 use crate::forms::{
-    ALONE, CHOICES, CONFIG, CONFIGS, HOOKS, LIMITS, TYPED, arguments_of, put_form, told_of,
+    ALONE, CHOICES, CLAIMS, CONFIG, CONFIGS, HOOKS, LIMITS, TYPED, arguments_of, put_form, told_of,
     words_with,
 };
 use crate::places::{Place, byte_in, comment_in, empty_word, end_of, word_after, words_from};
@@ -134,7 +134,7 @@ fn find_in_command<'a>(
 ) -> Place<'a> {
     let first = word_after(line, 0);
     if !is_digits(first.part) {
-        return find_alone(help, fault, line);
+        return find_alone(help, fault, line, is_race);
     }
     match fault {
         "unknown command" => find_verb(help, word_after(line, 1), is_race),
@@ -165,11 +165,11 @@ fn find_in_call<'a>(help: &mut Text, fault: &str, line: &'a [u8], tasks: u8) -> 
 }
 
 /// Finds what is wrong with a line that doesn't begin with a number.
-fn find_alone<'a>(help: &mut Text, fault: &str, line: &'a [u8]) -> Place<'a> {
+fn find_alone<'a>(help: &mut Text, fault: &str, line: &'a [u8], is_race: bool) -> Place<'a> {
     let first = word_after(line, 0);
     match fault {
         "config twice" => help.put("a schedule has one configuration, its first line"),
-        "unknown command" => tell_no_command(help, line),
+        "unknown command" => tell_no_command(help, line, is_race),
         "task under way" => {
             help.put("each call before 'race' has to end there: 'T run' until it is answered");
         }
@@ -183,8 +183,9 @@ fn find_alone<'a>(help: &mut Text, fault: &str, line: &'a [u8]) -> Place<'a> {
     first
 }
 
-/// Tells what may be meant by a first word that is no command: one that stands alone, or one on a task, whose number is missing.
-fn tell_no_command(help: &mut Text, line: &[u8]) {
+/// Tells what may be meant by a first word that is no command: one that stands alone or claims something of a race, or one on a task, whose
+/// number is missing.
+fn tell_no_command(help: &mut Text, line: &[u8], is_race: bool) {
     let word = word_after(line, 0).part;
     if let Some(text) = told_of(TYPED.as_slice(), word) {
         return help.put(text);
@@ -194,7 +195,12 @@ fn tell_no_command(help: &mut Text, line: &[u8]) {
         help.bytes(line);
         return help.put("'");
     }
-    if let Some(name) = help.nearest(word, ALONE.as_slice()) {
+    let forms = if is_race {
+        CLAIMS.as_slice()
+    } else {
+        ALONE.as_slice()
+    };
+    if let Some(name) = help.nearest(word, forms) {
         return tell_near(help, name);
     }
     match help.nearest_verb(word) {
@@ -202,6 +208,9 @@ fn tell_no_command(help: &mut Text, line: &[u8]) {
             help.quoted("did you mean", name);
             help.put(", behind the number of a task?");
         }
+        None if is_race => help.put(
+            "a line begins with the number of a task, or with 'never', 'sometimes', 'always' or 'invariant'",
+        ),
         None => help.put(
             "a line is 'words', 'tree' or 'model', or begins with the number of a task",
         ),

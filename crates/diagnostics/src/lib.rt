@@ -12,6 +12,6 @@ mod race_hints;
 mod texts;
 
 pub use contexts::Context;
-pub use diagnoses::{Faulty, diagnosis, tell_faulty};
+pub use diagnoses::{Faulty, Marked, diagnosis, tell_faulty};
 pub use nearest::Nearest;
 pub use texts::Text;

@@ -1,6 +1,6 @@
 //! What a schedule prints, compared with what it says of it.
 
-use crate::claims::{Judged, VerdictForm, claims_some, tell_claims};
+use crate::claims::{Judged, VerdictForm, bad_claim, claims_some, tell_claims};
 use crate::playing::{STATES, Source, Stopped, expected_in};
 use diagnostics::{Text, diagnosis};
 use exit_status::SourceName;
@@ -123,6 +123,13 @@ impl Comparison<'_> {
             Ok(file) => file,
             Err(fault) => return self.stop(alloc, source, Stopped::Fault(fault)),
         };
+        if let Some(text) = bad_claim_in(alloc, source, &file)? {
+            drop(file);
+            self.passed = false;
+            self.told.put(text.as_str());
+            self.told.put("\n");
+            return Ok(());
+        }
         let mut told = Output::new(alloc);
         let judged = judge_claims(alloc, source.bytes, file, &mut told);
         told.settled()?;
@@ -183,6 +190,20 @@ impl Comparison<'_> {
     }
 }
 
+/// Returns what is told of the first line of a race's file that claims something by what is no condition.
+fn bad_claim_in(
+    alloc: Global,
+    source: Source<'_>,
+    file: &RaceFile,
+) -> Result<Option<String>, AllocError> {
+    let race = RaceSource {
+        alloc,
+        bytes: source.bytes,
+        calls: &file.calls,
+    };
+    bad_claim(race, &file.core, source.file)
+}
+
 /// Judges what a file claims of its race, and tells which claims are broken.
 fn judge_claims(
     alloc: Global,
@@ -200,6 +221,7 @@ fn judge_claims(
         broken_alone: true,
         records: false,
         has_schedules: false,
+        steps: None,
         mark: b"",
         margin: b"  ",
         style: Style::of(false, false),

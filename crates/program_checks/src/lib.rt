@@ -11,4 +11,4 @@ mod playing;
 
 pub use blessings::run_blessings;
 pub use checks::run_checks;
-pub use claims::{Judged, VerdictForm, tell_claims};
+pub use claims::{Judged, VerdictForm, bad_claim, tell_claims};

@@ -22,11 +22,11 @@ use exit_status::{ProgramEnding, read_bytes, refused_of, why_told, why_told_of};
 use exploration::{Observer, Stop};
 use gate_core::Core;
 use outcome_texts::{Method, OutcomeListing as RaceListing, SearchPlan};
-use program_checks::{Judged, VerdictForm, tell_claims};
+use program_checks::{Judged, VerdictForm, bad_claim, tell_claims};
 use race_files::{RaceFile, RaceSource, read_race};
 use schedule_lines::bytes::{ReplayFault, write_out};
 use schedule_text::Output;
-use shown_events::{Style, html};
+use shown_events::{Form, Style, html};
 use shown_outcomes::{
     Details, Exhibit, Schedules, Shape, save_outcomes, show_outcomes, tell, tell_ends,
 };
@@ -169,6 +169,7 @@ fn answer_file<R: Files + Clock + Alloc<A = Global>, E: Write>(
         bytes,
         calls: &calls,
     };
+    expect_claims(source, &core, asked, errors)?;
     let answered = list_judged(source, core, asked, watch, told);
     watch.end();
     match answered {
@@ -180,6 +181,22 @@ fn answer_file<R: Files + Clock + Alloc<A = Global>, E: Write>(
             }
         },
         Err(stop) => Err(stopped(stop, asked, errors)),
+    }
+}
+
+/// Tells the first line that claims something by what is no condition.
+fn expect_claims<E: Write>(
+    source: RaceSource<'_>,
+    core: &Core,
+    asked: Outcomes<'_>,
+    errors: &mut E,
+) -> Result<(), ProgramEnding>
+    ensures { IfErr result (λ ending. ending ≡ Refused) }
+{
+    match bad_claim(source, core, asked.file) {
+        Ok(None) => Ok(()),
+        Ok(Some(text)) => Err(why_told(text.as_str(), errors)),
+        Err(AllocError) => Err(refused_of(GateError::NoMemory, asked.file, errors)),
     }
 }
 
@@ -239,10 +256,16 @@ fn judge_claims<W: Observer>(
         style,
         ..
     } = details_of(asked);
+    let records = matches!(asked.form, OutcomeForm::Json);
     let form = VerdictForm {
         broken_alone: false,
-        records: matches!(asked.form, OutcomeForm::Json),
+        records,
         has_schedules: schedules.are_told(),
+        steps: if records {
+            Some(Form::Json)
+        } else {
+            schedules.form()
+        },
         mark: schedules.mark(),
         margin: schedules.margin(),
         style,

@@ -28,8 +28,9 @@ struct RefusalQuery<'a> {
     refusal: Option<&'a str>,
 }
 
-/// Writes what is to be known of a refusal of a call: of all of them, if no refusal is named; an index of the refusals, if no call is. A refusal may be
-/// named in the place of a call, and is then explained for all calls. A name that nobody has is told as a fault of the command line.
+/// Writes what is to be known of a refusal of a call: of all of them, if no refusal is named; an index of the refusals, if no call is. A
+/// refusal may be named before its call, and one without a call is explained for all calls. A name that nobody has is told as a fault of
+/// the command line.
 pub fn run_explanation<W: Write, E: Write>(
     alloc: Global,
     call: Option<&str>,
@@ -39,9 +40,9 @@ pub fn run_explanation<W: Write, E: Write>(
 ) -> ProgramEnding
     ensures { (result ≡ Told) ⊎ (result ≡ Refused) ⊎ (result ≡ Misused) }
 {
-    let asked = match (call, refusal) {
-        (Some(word), None) if call_named(word).is_none() && is_any_refusal(word) => RefusalQuery {
-            call: None,
+    let asked = match call {
+        Some(word) if call_named(word).is_none() && is_any_refusal(word) => RefusalQuery {
+            call: refusal,
             refusal: call,
         },
         _ => RefusalQuery { call, refusal },
@@ -248,7 +249,12 @@ fn unknown<E: Write>(alloc: Global, asked: RefusalQuery<'_>, errors: &mut E) -> 
 
 /// Puts that there is no such call, and the nearest name.
 fn put_unknown_call(alloc: Global, text: &mut Text, word: &str) {
-    text.put("there is no call or refusal '");
+    let is_refusal = is_any_refusal(word);
+    text.put(if is_refusal {
+        "there is no call '"
+    } else {
+        "there is no call or refusal '"
+    });
     text.bytes(word.as_bytes());
     text.put("'");
     match nearest_call(alloc, word) {
@@ -309,17 +315,24 @@ fn is_any_refusal(word: &str) -> bool {
     CAUSES.iter().any(|cause| is_refusal(cause, word))
 }
 
-/// Whether a refusal is named so: by its number, its name or that in Linux, in capitals or not.
+/// Whether a refusal is named so: by its number, its name or that in Linux, in capitals or not. A hook's may have its code behind it.
 fn is_refusal(cause: &Cause, word: &str) -> bool {
     let (refusal, errno, _) = cause;
-    if refusal.name().eq_ignore_ascii_case(word) {
-        return true;
-    }
     if let GateError::Hook(_) = refusal {
-        return false;
+        return refusal.name().eq_ignore_ascii_case(without_code(word));
     }
-    errno.eq_ignore_ascii_case(word)
+    refusal.name().eq_ignore_ascii_case(word)
+        || errno.eq_ignore_ascii_case(word)
         || word
             .parse::<u16>()
             .is_ok_and(|number| number == refusal.number())
+}
+
+/// Returns a word without a hook's code behind it, as in `Hook(5)`.
+fn without_code(word: &str) -> &str {
+    let (name, rest) = word.split_once('(').unwrap_or((word, ""));
+    match rest.strip_suffix(')') {
+        Some(code) if code == "code" || code.parse::<u16>().is_ok() => name,
+        _ => word,
+    }
 }

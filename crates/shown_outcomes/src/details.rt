@@ -3,7 +3,10 @@
 ghost use Rattle.std.specs.Prelude.{◌≡◌, ◌↔◌, IsTrue, false};
 ghost use Rattle.shown_outcomes.specs.Told.{AsksNone, margin_of, mark_of};
 
-use shown_events::Style;
+use shown_events::{Form, Style};
+
+/// How wide all columns are together: with the two spaces before them 100.
+const WIDTH: usize = 98;
 
 /// In which form a schedule of each outcome is told, if it is.
 #[derive(Clone, Copy)]
@@ -33,6 +36,14 @@ impl Schedules {
         match self {
             Schedules::Untold | Schedules::Columns => b"  ",
             Schedules::Lines => b"",
+        }
+    }
+
+    /// Returns the form in which the steps of a schedule are shown; None if its own lines are told.
+    pub fn form(self) -> Option<Form> {
+        match self {
+            Schedules::Untold | Schedules::Lines => None,
+            Schedules::Columns => Some(Form::Columns { width: WIDTH }),
         }
     }
 

@@ -71,10 +71,10 @@ never: force it after an error of the file system: it wants a check first.
 in Linux: `blockdev --getro DEVICE` tells whether the device is read-only, `dmesg` what the file system said.
 
 freeze: Busy
-means: Another freeze was closing level 1, or your holder has a freeze already.
+means: Another freeze was closing level 1, or your holder has a freeze already: another task's, or one of your own.
 state now: Unchanged.
-do next: It is another task's freeze. Pause and try again, or see by `try_snapshot` whether it serves you.
-never: thaw it: somebody else relies on it.
+do next: If you froze yourself and haven't thawed since, all is frozen already: go on, and thaw once when you are done. Else it is another task's freeze: pause and try again, or see by `try_snapshot` whether it serves you.
+never: thaw a freeze that isn't yours: somebody else relies on it.
 in Linux: `fsfreeze -f` fails with EBUSY. `ps -eo pid,stat,wchan:30,args` shows a freeze that is under way, and `/sys/block/dm-N/dm/suspended` is 1 for a suspended device.
 
 freeze: Hook
