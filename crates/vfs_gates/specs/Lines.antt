@@ -1,18 +1,22 @@
 -- Operations that are done in a line.
-use Rattle.std.specs.Prelude.{Bool, true, false, Ok}
+use Rattle.std.specs.Prelude.{◌≡◌, ℕ, Bool, true, false, Result, Ok}
 use Rattle.access_model.specs.Replies.{map_next}
+use Rattle.access_model.specs.declared.errors.GateError.{GateError}
 use Rattle.access_model.specs.declared.replies.Next.{Next}
 use Rattle.access_model.specs.declared.replies.Next.TheVariants.{Done}
+use Rattle.access_model.specs.declared.replies.Reply.{Reply}
 use Rattle.access_model.specs.declared.replies.Reply.TheVariants.{Unit as UnitReply}
 use Rattle.composite_ops.specs.declared.write_access.phases.WritePhase.{WritePhase}
 use Rattle.composite_ops.specs.declared.write_access.phases.WritePhase.TheVariants.{Takes}
+use Rattle.gate_steps.specs.call_events.Runs.{told_as, unit_of, Called}
+use Rattle.gate_steps.specs.call_events.SeatedTasks.{SeatedTask}
+use Rattle.gate_world.specs.declared.operations.Op.{Op}
 use Rattle.gate_world.specs.declared.work.Phase.{Phase}
-use Rattle.gate_world.specs.declared.work.Phase.TheVariants.{DownReads, Mounts, Writes}
+use Rattle.gate_world.specs.declared.work.Phase.TheVariants.{DownReads, Mounts}
 use Rattle.mount_counts.specs.declared.phases.MountPhase.TheVariants.{Want as Wants}
 use Rattle.mount_counts.specs.declared.phases.Want.{Want}
 use Rattle.percpu_rwsem.specs.declared.readers.DownRead.{DownRead}
-use Rattle.percpu_rwsem.specs.declared.readers.DownReadStep.TheVariants.{EntersSection}
-use Rattle.vfs_gates.specs.declared.fast_paths.Writer.{Writer}
+use Rattle.percpu_rwsem.specs.declared.readers.DownReadStep.{DownReadStep}
 
 -- what comes next of a want of an access at a mount, as phases
 abbrev pub of_want : Next Want → Next Phase
@@ -22,12 +26,15 @@ of_want next = map_next (λ want. Mounts (Wants want)) next
 abbrev pub of_read : Next DownRead → Next Phase
 of_read next = map_next DownReads next
 
--- the first phase of a taking of write access
-abbrev pub taking_first : Writer → Phase
-taking_first w =
-    Writes (Takes w.mount (record { level = 1; cpu = w.cpu; task = w.task; wait = true; step = EntersSection }))
+-- a taking of write access at this mount, on this processor, by this task, that stands at this step of its start
+abbrev pub taking_at : ℕ → ℕ → ℕ → DownReadStep → WritePhase
+taking_at mount cpu task step = Takes mount (record { level = 1; cpu = cpu; task = task; wait = true; step = step })
 
--- what comes next of it: it is done, or this
+-- what comes next of a taking: it is done, or this
 abbrev pub done_or : Bool → Next WritePhase → Next WritePhase
 done_or true rest = Done (Ok UnitReply)
 done_or false rest = rest
+
+-- an operation that was done whole, of which a call tells only whether it was
+abbrev pub PerformedFrom : Op → SeatedTask → SeatedTask → Result (Unit {0}) GateError → Type 0
+PerformedFrom op start left outcome = (answer : Result Reply GateError) × (outcome ≡ told_as unit_of answer) × Called op start left answer

@@ -6,20 +6,24 @@ ghost use Rattle.access_model.specs.declared.replies.Next.TheVariants.{Done};
 ghost use Rattle.access_model.specs.declared.replies.Reply.TheVariants.{Unit as UnitReply};
 ghost use Rattle.gate_world.specs.Views.{phase_after};
 ghost use Rattle.gate_world.specs.declared.operations.Op.{Op as OpType};
+ghost use Rattle.gate_world.specs.declared.operations.Op.TheVariants.{WantWrite};
 ghost use Rattle.gate_world.specs.declared.work.Phase.TheVariants.{Writes};
 ghost use Rattle.gate_steps.specs.call_events.SeatedTasks.{SeatedTask, task_state};
 ghost use Rattle.gate_steps.specs.call_events.Turns.{StateAgrees, AgreesAfter, of_write};
 ghost use Rattle.composite_ops.specs.declared.write_access.phases.WritePhase.TheVariants.{Drops, Takes};
+ghost use Rattle.composite_ops.specs.write_access.Phases.{after};
+ghost use Rattle.percpu_rwsem.specs.declared.readers.DownReadStep.TheVariants.{EntersSection, LoadsSync};
 ghost use Rattle.gate_steps.specs.call_events.Waited.{OpUnderWayWaiting, OpAfterStepWaiting};
-ghost use Rattle.vfs_gates.specs.Lines.{done_or, of_read, of_want, taking_first};
+ghost use Rattle.vfs_gates.specs.Lines.{done_or, of_read, of_want, taking_at};
 
 mod changes;
 mod grows;
 
 use access_model::{Next, Reply};
 use composite_ops::WritePhase;
+use cpu_words::{Touch, WordName};
 use gate_events::PendingOp;
-use gate_steps::call_events::{GateWords, GhostSeat, step_once};
+use gate_steps::call_events::{GateWords, GhostSeat, find, find_first, step_once};
 use gate_world::{Accesses, Op};
 use mount_counts::{MountPhase, Want, WantStep};
 use percpu_rwsem::{DownRead, DownReadStep, UpRead};
@@ -284,16 +288,35 @@ fn want_then(
 
 /// Who takes write access, where, and on which processor.
 #[derive(Clone, Copy)]
-pub(crate) struct Writer {
+struct Writer {
     mount: u8,
     cpu: u8,
     task: u8,
 }
 
+/// Whether this operation begins: write access at this mount, on this processor.
+#[inline(always)]
+fn is_want_write(begins: Option<Op>, mount: u8, cpu: u8) -> bool
+    ensures { IsTrue result → begins ≡ Some (WantWrite mount cpu) }
+{
+    let Some(op) = begins else {
+        return false;
+    };
+    let Op::WantWrite {
+        mount: at,
+        cpu: counted_on,
+    } = op
+    else {
+        return false;
+    };
+    at == mount && counted_on == cpu
+}
+
 /// The writer of a taking that begins; none of one that has gone on.
 #[inline(always)]
-fn first_writer(mount: u8, read: DownRead) -> Option<Writer>
-    ensures { IfSome result (λ writer. Writes (Takes mount read) ≡ taking_first writer) }
+fn first_writer(begins: Option<Op>, mount: u8, read: DownRead) -> Option<Writer>
+    ensures { IfSome result (λ writer. (begins ≡ Some (WantWrite writer.mount writer.cpu)) ×
+        (Takes mount read ≡ taking_at writer.mount writer.cpu writer.task EntersSection)) }
 {
     let DownRead {
         level,
@@ -308,10 +331,39 @@ fn first_writer(mount: u8, read: DownRead) -> Option<Writer>
     if !wait {
         return None;
     }
+    if !is_want_write(begins, mount, cpu) {
+        return None;
+    }
     match step {
         DownReadStep::EntersSection => Some(Writer { mount, cpu, task }),
         _ => None,
     }
+}
+
+/// A taking of write access at this mount that stands at this step of its start.
+#[inline(always)]
+fn taking_at(mount: u8, cpu: u8, task: u8, step: DownReadStep) -> WritePhase
+    ensures { result ≡ taking_at mount cpu task step }
+{
+    let read = DownRead {
+        level: 1,
+        cpu,
+        task,
+        wait: true,
+        step,
+    };
+    WritePhase::Takes { mount, read }
+}
+
+/// Leaves in `rest` what comes after the load of a sync word that isn't idle. It stands apart, so that the usual events are one straight
+/// line of instructions.
+#[cold]
+#[inline(never)]
+fn leave_at_sync(mount: u8, cpu: u8, task: u8, found: u64, rest: &mut Next<WritePhase>)
+    ensures { rest.new ≡ (after (taking_at mount cpu task LoadsSync) found).0 }
+{
+    let (next, _action) = taking_at(mount, cpu, task, DownReadStep::LoadsSync).after(found);
+    *rest = next;
 }
 
 /// Whether a taking of write access is done, and granted.
@@ -322,42 +374,45 @@ fn is_granted(next: Next<WritePhase>) -> bool
     matches!(next, Next::Done(Ok(Reply::Unit)))
 }
 
-/// The events of a taking of write access that begins, in a line. Whether it is done. Where it isn't, what comes after the last of them is left
-/// in `rest`: so the usual answer is one bit, and nothing lies in memory.
+/// The events of a taking of write access that begins, in a line. Whether it is done. Where it isn't, what comes after the last of them is
+/// left in `rest`: so the usual answer is one bit. It is handed numbers, which go into registers, and neither a phase nor an operation: an
+/// atomic addition waits for each store to memory before it.
 #[inline(never)]
 fn take_write(
     gates: &GateWords,
     seat: &mut GhostSeat,
     accesses: &mut Accesses,
-    begins: Option<Op>,
-    writer: Writer,
+    mount: u8,
+    cpu: u8,
+    task: u8,
     rest: &mut Next<WritePhase>,
 ) -> bool
     requires table { seat.old.table_id ≡ gates.now.table.shared.table_id }
-    requires agrees { StateAgrees gates.now.config begins (Some (taking_first writer)) accesses.old seat.old.me.0.items }
+    requires agrees { StateAgrees gates.now.config (Some (WantWrite mount cpu)) (Some (Writes (taking_at mount cpu task EntersSection)))
+        accesses.old seat.old.me.0.items }
     ensures table { seat.new.table_id ≡ seat.old.table_id }
     ensures slots { seat.new.me.1 ≡ seat.old.me.1 }
-    ensures agrees { AgreesAfter gates.now.config begins (Some (taking_first writer)) accesses.old seat.old.me.0.items
-        (phase_after (of_write (done_or result rest.new))) accesses.new seat.new.me.0.items }
+    ensures agrees { AgreesAfter gates.now.config (Some (WantWrite mount cpu)) (Some (Writes (taking_at mount cpu task EntersSection)))
+        accesses.old seat.old.me.0.items (phase_after (of_write (done_or result rest.new))) accesses.new seat.new.me.0.items }
     ensures went { (waits : ℕ) (op : OpType) (start : SeatedTask) →
-        OpUnderWayWaiting waits op start (task_state seat.old.table_id gates.now.config begins (Some (taking_first writer)) seat.old.me.0) →
+        OpUnderWayWaiting waits op start
+        (task_state seat.old.table_id gates.now.config (Some (WantWrite mount cpu)) (Some (Writes (taking_at mount cpu task EntersSection)))
+        seat.old.me.0) →
         OpAfterStepWaiting waits op start (of_write (done_or result rest.new))
         (task_state seat.new.table_id gates.now.config None (phase_after (of_write (done_or result rest.new))) seat.new.me.0) }
 {
-    let Writer { mount, cpu, task } = writer;
-    let read = DownRead {
-        level: 1,
-        cpu,
-        task,
-        wait: true,
-        step: DownReadStep::EntersSection,
-    };
-    let phase = WritePhase::Takes { mount, read };
-    let next = step_once(gates, seat, accesses, begins, phase, Ok(()));
-    let place = WritePlace::Enters(DownReadStep::LoadsSync);
-    let next = step_if_at(gates, seat, accesses, next, place);
-    let place = WritePlace::Enters(DownReadStep::CountsUpFast);
-    let next = step_if_at(gates, seat, accesses, next, place);
+    let op = Op::WantWrite { mount, cpu };
+    let phase = taking_at(mount, cpu, task, DownReadStep::EntersSection);
+    let section = WordName::Section(task);
+    let _section = find_first(gates, seat, accesses, op, phase, section, Touch::Add(1));
+    let phase = taking_at(mount, cpu, task, DownReadStep::LoadsSync);
+    let found = find(gates, seat, accesses, phase, WordName::Sync(1), Touch::Load);
+    if found != 0 {
+        leave_at_sync(mount, cpu, task, found, rest);
+        return false;
+    }
+    let phase = taking_at(mount, cpu, task, DownReadStep::CountsUpFast);
+    let next = step_once(gates, seat, accesses, None, phase, Ok(()));
     let place = WritePlace::Enters(DownReadStep::LeavesAdmitted);
     let next = step_if_at(gates, seat, accesses, next, place);
     let next = want_then(gates, seat, accesses, next);
@@ -430,11 +485,12 @@ impl FastPath for WritePhase {
     ) -> Next<WritePhase> {
         match self {
             WritePhase::Takes { mount, read } => {
-                let Some(writer) = first_writer(mount, read) else {
+                let Some(writer) = first_writer(begins, mount, read) else {
                     return step_out_of_line(gates, seat, accesses, begins, self);
                 };
+                let Writer { mount, cpu, task } = writer;
                 let mut rest = Next::Done(Ok(Reply::Unit));
-                if take_write(gates, seat, accesses, begins, writer, &mut rest) {
+                if take_write(gates, seat, accesses, mount, cpu, task, &mut rest) {
                     return Next::Done(Ok(Reply::Unit));
                 }
                 rest

@@ -34,6 +34,7 @@ impl Task {
     ghost use Rattle.gate_world.specs.Beginnings.{first_phase};
     ghost use Rattle.gate_world.specs.declared.operations.Op.TheVariants.{Want as WantOp, ChangeMount, RemountSb, Start, WantWrite, Callback as CallbackOp, Freeze as FreezeOp, Thaw as ThawOp};
     ghost use Rattle.vfs_gates.specs.Buffers.{is_of_snapshot};
+    ghost use Rattle.vfs_gates.specs.Lines.{PerformedFrom};
     ghost use Rattle.vfs_gates.specs.TaskStates.{IsFrom, own_number};
     ghost use Rattle.gate_steps.specs.call_events.Runs.{the_reply, Called, Replies, Performs};
     ghost use Rattle.gate_steps.specs.call_events.Asking.{PerformsAsking, RepliesAsking};
@@ -63,6 +64,16 @@ impl Task {
             }
         }
         unreachable!()
+    }
+
+    /// The same for a call that tells only whether the operation was done. It is a function of its own, so that the room for the whole
+    /// answer is cleared where the call has to wait, and not at its start.
+    #[inline(always)]
+    fn finish_performing<R: Wait>(&mut self, rt: &R, gates: &Gates) -> Result<(), GateError>
+        requires { IsFrom self.old gates.now }
+        ensures { (op : OpType) (start : SeatedTask) → OpUnderWay op start self.old → PerformedFrom op start self.new result }
+    {
+        outcome(self.finish_waiting(rt, gates))
     }
 
     /// Begins an operation that has this first phase, and does its events until it replies, however long it has to wait, with the hooks of
@@ -116,7 +127,7 @@ impl Task {
             Next::Done(answer) => outcome(answer),
             Next::Go(under_way) | Next::Wait(under_way) => {
                 self.state.phase = Some(under_way.phase());
-                outcome(self.finish_waiting(rt, gates))
+                self.finish_performing(rt, gates)
             }
         }
     }
