@@ -1,9 +1,7 @@
 //! Calls that wait for nobody.
 
-ghost use Rattle.std.specs.Prelude.{◌≡◌, false, Result};
+ghost use Rattle.std.specs.Prelude.{◌≡◌, false};
 ghost use Rattle.access_model.specs.Replies.{map_next};
-ghost use Rattle.access_model.specs.declared.errors.GateError.{GateError as GateErrorType};
-ghost use Rattle.access_model.specs.declared.replies.Reply.{Reply as ReplyType};
 ghost use Rattle.gate_world.specs.declared.operations.Op.{Op as OpType};
 ghost use Rattle.vfs_gates.specs.TaskStates.{SeatedTask};
 ghost use Rattle.vfs_gates.specs.Waits.{is_wait};
@@ -49,6 +47,7 @@ impl Task {
     ghost use Rattle.gate_world.specs.declared.work.Phase.TheVariants.{Mounts};
     ghost use Rattle.mount_counts.specs.declared.phases.MountPhase.TheVariants.{Change as Changes};
     ghost use Rattle.vfs_gates.specs.Buffers.{is_of_snapshot};
+    ghost use Rattle.vfs_gates.specs.Lines.{PerformedFrom};
     ghost use Rattle.vfs_gates.specs.TaskStates.{IsFrom, beginning_at, own_number};
     ghost use Rattle.gate_steps.specs.call_events.Runs.{Called, IsBounded, IsTrying, Performs};
 
@@ -86,11 +85,10 @@ impl Task {
     /// The same; answers only whether it was done. The place for what `finish` answers is made here: a call that finds nothing in its way
     /// makes none, since a store before a step on a word keeps that step waiting.
     #[inline(always)]
-    fn finish_performing(&mut self, gates: &Gates) -> Result<(), GateError>
+    fn finish_outcome(&mut self, gates: &Gates) -> Result<(), GateError>
         requires from { IsFrom self.old gates.now }
         requires trying { IsTrying self.old }
-        ensures { (op : OpType) (start : SeatedTask) → OpUnderWay op start self.old →
-            (answer : Result ReplyType GateErrorType) × (result ≡ told_as unit_of answer) × Called op start self.new answer }
+        ensures { (op : OpType) (start : SeatedTask) → OpUnderWay op start self.old → PerformedFrom op start self.new result }
     {
         outcome(self.finish(gates))
     }
@@ -120,7 +118,7 @@ impl Task {
             Next::Done(answer) => outcome(answer),
             Next::Go(under_way) | Next::Wait(under_way) => {
                 self.state.phase = Some(under_way.phase());
-                self.finish_performing(gates)
+                self.finish_outcome(gates)
             }
         }
     }

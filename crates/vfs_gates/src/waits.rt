@@ -69,7 +69,7 @@ impl Task {
     /// The same for a call that tells only whether the operation was done. It is a function of its own, so that the room for the whole
     /// answer is cleared where the call has to wait, and not at its start.
     #[inline(always)]
-    fn finish_performing<R: Wait>(&mut self, rt: &R, gates: &Gates) -> Result<(), GateError>
+    fn finish_waiting_outcome<R: Wait>(&mut self, rt: &R, gates: &Gates) -> Result<(), GateError>
         requires { IsFrom self.old gates.now }
         ensures { (op : OpType) (start : SeatedTask) → OpUnderWay op start self.old → PerformedFrom op start self.new result }
     {
@@ -127,7 +127,7 @@ impl Task {
             Next::Done(answer) => outcome(answer),
             Next::Go(under_way) | Next::Wait(under_way) => {
                 self.state.phase = Some(under_way.phase());
-                self.finish_performing(rt, gates)
+                self.finish_waiting_outcome(rt, gates)
             }
         }
     }

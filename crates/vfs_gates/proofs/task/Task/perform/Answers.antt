@@ -57,9 +57,9 @@ invariant_of-self-in-Go g c =
       left_tells (call g d) (left g d) c.waits-self-inside.result (once (map_next g.P.PendingOp.as_phase c.run_fast_path-next.result) c.waits-self-inside.result c.waits-self-inside.ensures),
     )
 
-pub finish_performing-requires-clause-trying : goal.finish_performing-requires-clause-trying
-finish_performing-requires-clause-trying g c =
-    let d = (goal.at.finish_performing-requires-clause-trying g c).After-run_fast_path-next in record {
+pub finish_outcome-requires-clause-trying : goal.finish_outcome-requires-clause-trying
+finish_outcome-requires-clause-trying g c =
+    let d = (goal.at.finish_outcome-requires-clause-trying g c).After-run_fast_path-next in record {
       op = (call g d).op;
       start = (call g d).start;
       goes = goes_at (call g d) (left g d) c.phase.result (stands_at g.P.PendingOp.as_phase c.run_fast_path-next.result c.in-Go.under_way c.in-Go.is ∙
@@ -76,10 +76,10 @@ returns-in-Done g c =
 pub returns-in-Go : goal.returns-in-Go
 returns-in-Go g c =
     let d = (goal.at.returns-in-Go g c).After-run_fast_path-next in
-    let told = c.finish_performing.ensures (call g d).op (call g d).start
+    let told = c.finish_outcome.ensures (call g d).op (call g d).start
     (goes_at (call g d) (left g d) c.phase.result (stands_at g.P.PendingOp.as_phase c.run_fast_path-next.result c.in-Go.under_way c.in-Go.is ∙
     ap (λ (p : Phase). Some p) (sym c.phase.ensures))) in
-    was_done unit_of (call g d).op (call g d).start c.finish_performing.new.self told.0 c.finish_performing.result told.1 (call g d).admitted told.2
+    was_done unit_of (call g d).op (call g d).start c.finish_outcome.new.self told.0 c.finish_outcome.result told.1 (call g d).admitted told.2
 
 pub returns-in-Err : goal.returns-in-Err
 returns-in-Err g c =

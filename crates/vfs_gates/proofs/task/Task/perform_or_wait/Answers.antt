@@ -66,10 +66,10 @@ returns-in-Done g c =
 pub returns-in-Go : goal.returns-in-Go
 returns-in-Go g c =
     let d = (goal.at.returns-in-Go g c).After-run_fast_path-next in
-    let done = c.finish_performing.ensures (call g d).op (call g d).start
+    let done = c.finish_waiting_outcome.ensures (call g d).op (call g d).start
     (goes_at (call g d) (left g d) c.phase.result (stands_at g.P.PendingOp.as_phase c.run_fast_path-next.result c.in-Go.under_way c.in-Go.is ∙
     ap (λ (p : Phase). Some p) (sym c.phase.ensures))) in
-    was_done unit_of (call g d).op (call g d).start c.finish_performing.new.self done.0 c.finish_performing.result done.1
+    was_done unit_of (call g d).op (call g d).start c.finish_waiting_outcome.new.self done.0 c.finish_waiting_outcome.result done.1
     (call g d).admitted done.2
 
 pub returns-in-Err : goal.returns-in-Err
