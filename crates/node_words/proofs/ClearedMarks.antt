@@ -1,15 +1,14 @@
 -- The dirty mark of a node's word, cleared. This file alone sees its bit.
-use Rattle.std.proofs.Common.{◌≡◌, ℕ, ◌+◌, ◌*◌, ◌/◌, ◌%◌, ◌<◌, false, refl, sym, ap, ◌∙◌, subst, arith}
+use Rattle.std.proofs.Common.{◌≡◌, ℕ, ◌+◌, ◌*◌, ◌/◌, ◌%◌, ◌<◌, false, refl, sym, ap, ◌∙◌, arith}
 use Rattle.std.specs.Prelude.{◌==◌, bit_and, option_map, Some}
 use Rattle.std.proofs.lemmas.Bool.{eq-eqb, ne_eqb}
 use Rattle.std.proofs.lemmas.Nat.{and_comm, and-not}
 use Rattle.std.proofs.lemmas.Nat.Bits.{and_pow}
-use Rattle.access_model.specs.declared.actions.Kind.TheVariants.{File, Dir}
+use Rattle.access_model.specs.declared.actions.Kind.TheVariants.{File}
 use Rattle.access_model.specs.Actions.{marked}
 use Rattle.access_model.specs.States.{is_dirty, IsFile, IsDirectory}
 use Rattle.node_words.specs.Nodes.{kind_in, dirty_in, removed_in, opens_in, parent_in, size_in, IsPacked, IsNode, mark_bit, word_of, node_of, node_shown, marked_node}
 use Rattle.node_words.proofs.Packing.{bit_back, word_returns}
-use Rattle.node_words.proofs.Words.{dirty_shown}
 
 -- a word after an `and` with not 4
 abbrev pub without_mark : ℕ → ℕ
@@ -37,14 +36,7 @@ packed_below word h = omega (arith, h.size)
 
 -- a word that is less by its mark is cleared
 lesser_cleared : (word cleared : ℕ) → cleared + 4 * (word / 4 % 2) ≡ word → IsCleared word cleared
-lesser_cleared word cleared e = record {
-  kind = omega arith;
-  dirty = omega arith;
-  removed = omega arith;
-  opens = omega arith;
-  parent = omega arith;
-  size = omega arith;
-}
+lesser_cleared word cleared e = grind arith
 
 -- the cleared word of a node is cleared
 pub clears_mark : (word : ℕ) → IsPacked word → IsCleared word (without_mark word)
@@ -56,20 +48,11 @@ clean_stays word h clean = omega (arith, mark_taken word (packed_below word h.pa
 
 -- the cleared word is that of the same node, clean
 pub cleared_is : (word : ℕ) → IsPacked word → without_mark word ≡ word_of (marked_node false (node_of word))
-cleared_is word h =
-    let back = word_returns word h in
-    let bit : mark_bit (dirty_in word == 1) ≡ dirty_in word = bit_back (dirty_in word) (omega arith) in
-    omega (arith, mark_taken word (packed_below word h), back.1, bit)
+cleared_is word h = grind (arith, word_returns, mark_bit, dirty_in, bit_back, mark_taken, packed_below)
 
 -- only a file's word has the mark
 pub marked_file : (word : ℕ) → IsNode word → dirty_in word ≡ 1 → kind_in word ≡ 1
-marked_file word h marked =
-    let dir : kind_in word ≡ 2 → ⊥ = λ e. absurd (omega (arith, h.plain e, marked)) in
-    let free : kind_in word ≡ 0 → ⊥ =
-    λ e.
-    let none : word ≡ 0 = h.packed.free e in
-    absurd (omega (arith, none, marked)) in
-    omega (arith, h.packed.kind, dir, free)
+marked_file word h marked = grind arith
 
 -- what a file's word shows
 pub file_shown : (word : ℕ) → kind_in word ≡ 1 →
@@ -84,10 +67,7 @@ file_shown word file = rw (ne_eqb (kind_in word) 0 (λ e. absurd (omega (arith, 
 
 -- no directory is dirty
 pub directory_clean : (word : ℕ) → IsNode word → IsDirectory (node_shown word) → is_dirty (node_shown word) ≡ false
-directory_clean word h dir =
-    dirty_shown word h.packed ∙ ne_eqb (dirty_in word) 1 (λ marked.
-    let wrong : File ≡ Dir = subst IsDirectory (file_shown word (marked_file word h marked)) dir in
-    absurd cc)
+directory_clean word h dir = grind arith
 
 -- where the mark is set, the word shows a file, and the cleared word the same file, clean
 pub cleared_shown : (word : ℕ) → IsNode word → dirty_in word ≡ 1 →

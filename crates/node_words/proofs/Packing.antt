@@ -21,16 +21,7 @@ record IsPlain (word : ℕ) : Type 0 where
 
 -- it passes all tests
 plain_tested : (word : ℕ) → IsPlain word → is_stray word ≡ false
-plain_tested word h =
-    let low : word / 16 % 16 ≡ 0 = h.low in
-    let gap : word / 16384 % 4 ≡ 0 = h.gap in
-    let high : word / 8388608 % 512 ≡ 0 = h.high in
-    let kind : word % 4 < 3 = h.kind in
-    let free : word % 4 ≡ 0 → word ≡ 0 = h.free in
-    let few : word / 65536 % 128 ≤ 64 = h.few in
-    let closed : word % 4 ≡ 2 → word / 65536 % 128 ≡ 0 = h.closed in
-    let marked : word / 8 % 2 ≡ 1 → (word % 4 ≡ 1) × (word / 4 % 2 ≡ 0) × (1 ≤ word / 65536 % 128) = h.marked in
-    grind (arith, nat_tests)
+plain_tested word h = grind arith
 
 -- so it unpacks to the node of its fields
 plain_unpacks : (word : ℕ) → IsPlain word → unpacked word ≡ Some (node_of word)
@@ -68,11 +59,6 @@ unpacks_packed word node lt e = elim (cases_Bool (is_stray word)) [
   }
 ]
 
--- a mark as its bit, and back
-pub mark_back : (b : Bool) → (mark_bit b == 1) ≡ b
-mark_back true = refl
-mark_back false = refl
-
 -- a mark's bit is 0 or 1
 pub mark_below : (b : Bool) → mark_bit b < 2
 mark_below true = omega arith
@@ -97,9 +83,7 @@ bit_is false e = absurd (omega (arith, e))
 
 -- a kind comes back from its bits, which are below 3
 pub kind_again : (kind : Option Kind) → (kind_of (kind_bits kind) ≡ kind) × (kind_bits kind < 3)
-kind_again None = (refl, omega arith)
-kind_again (Some File) = (refl, omega arith)
-kind_again (Some Dir) = (refl, omega arith)
+kind_again kind = grind arith
 
 -- bits of a kind that are 1 are a file's, those that are 2 a directory's, and those that are 0 no node's
 bits_none : (kind : Option Kind) → kind_bits kind ≡ 0 → kind ≡ None
@@ -114,13 +98,7 @@ file_bits kind e = ap kind_bits e
 
 -- a node's fields come back from its word, one by one
 pub fields_again : (node : NodeWord) → node.parent < 64 → node.opens < 128 → node_of (word_of node) ≡ node
-fields_again node parent opens =
-    let f = fields_placed (kind_bits node.kind) (mark_bit node.dirty) (mark_bit node.removed) node.parent node.opens node.size
-    (kind_again node.kind).1 (mark_below node.dirty) (mark_below node.removed) parent opens in
-    let k : kind_of (kind_in (word_of node)) ≡ node.kind = ap kind_of f.0 ∙ (kind_again node.kind).0 in
-    let d : (dirty_in (word_of node) == 1) ≡ node.dirty = ap (λ x. x == 1) f.1 ∙ mark_back node.dirty in
-    let r : (removed_in (word_of node) == 1) ≡ node.removed = ap (λ x. x == 1) f.2 ∙ mark_back node.removed in
-    λ j. record { kind = k j; dirty = d j; removed = r j; parent = f.3 j; opens = f.4 j; size = f.5 j }
+fields_again node parent opens = grind arith
 
 -- the word of a node that a word can say is that of some node
 lawful_plain : (node : NodeWord) → IsLawful node → IsPlain (word_of node)

@@ -1,13 +1,12 @@
 -- What the words of nodes say and show: of a node that a call makes, and of one that it loaded.
-use Rattle.std.proofs.Common.{◌≡◌, ℕ, Bool, true, false, ◌<◌, ◌≤◌, refl, sym, ap, ◌∙◌, subst, inl, inr, arith}
+use Rattle.std.proofs.Common.{◌≡◌, ℕ, Bool, true, false, ◌<◌, ◌≤◌, refl, sym, ap, ◌∙◌, subst, arith}
 use Rattle.std.specs.Prelude.{◌==◌, Option, Some, None, Ok, if◌then◌else◌, option_map}
-use Rattle.std.proofs.lemmas.Bool.Decides.{eqb_tells}
 use Rattle.access_model.specs.declared.actions.Kind.{Kind}
 use Rattle.access_model.specs.declared.actions.Kind.TheVariants.{File, Dir}
 use Rattle.access_model.specs.States.{is_dirty, is_removed, IsDirectory}
 use Rattle.node_words.specs.declared.nodes.NodeWord.{NodeWord}
-use Rattle.node_words.specs.Nodes.{kind_in, dirty_in, removed_in, opens_in, IsPacked, IsNode, IsLawful, kind_bits, mark_bit, word_of, kind_of, node_of, is_stray, info_of, node_shown, new_node, as_file, as_any_file, as_directory, file_in, any_file_in, directory_in}
-use Rattle.node_words.proofs.Packing.{packed_unpacks, mark_below, kind_again, fields_placed, fields_again, lawful_packed, word_returns, fields_shown}
+use Rattle.node_words.specs.Nodes.{kind_in, dirty_in, removed_in, opens_in, IsPacked, IsNode, IsLawful, word_of, kind_of, node_of, is_stray, info_of, node_shown, new_node, as_file, as_any_file, file_in, any_file_in, directory_in}
+use Rattle.node_words.proofs.Packing.{packed_unpacks, fields_placed, fields_again, lawful_packed, fields_shown}
 
 -- a node whose parent and count fit their bits comes back from its word
 pub node_again : (node : NodeWord) → node.parent < 64 → node.opens ≤ 64 → node_of (word_of node) ≡ node
@@ -21,18 +20,9 @@ word_shows node parent opens = sym (fields_shown (word_of node)) ∙ ap info_of 
 pub word_opens : (node : NodeWord) → node.parent < 64 → node.opens ≤ 64 → opens_in (word_of node) ≡ node.opens
 word_opens node parent opens = ap (λ (x : NodeWord). x.opens) (node_again node parent opens)
 
--- and its kind
-word_kind : (node : NodeWord) → node.parent < 64 → node.opens ≤ 64 → kind_in (word_of node) ≡ kind_bits node.kind
-word_kind node parent opens =
-    (fields_placed (kind_bits node.kind) (mark_bit node.dirty) (mark_bit node.removed) node.parent node.opens node.size
-    (kind_again node.kind).1 (mark_below node.dirty) (mark_below node.removed) parent (omega (arith, opens))).0
-
 -- the word of a file that a word can say, whose size fits, is a node's
 pub lawful_file : (node : NodeWord) → node.kind ≡ Some File → IsLawful node → node.size < 4294967296 → IsNode (word_of node)
-lawful_file node file h size = record {
-  packed = lawful_packed node h size;
-  plain = λ e. absurd (omega (arith, e, word_kind node h.parent h.few, ap kind_bits file));
-}
+lawful_file node file h size = grind arith
 
 -- a file that wasn't removed is one that a word can say
 linked_lawful : (node : NodeWord) → node.kind ≡ Some File → node.parent < 64 → node.opens ≤ 64 → node.removed ≡ false → IsLawful node
@@ -111,24 +101,11 @@ some_is a b e = cc
 -- a node that was taken for a file is one, that wasn't removed
 as_file_is : (node file : NodeWord) (removed : Bool) (kind : Option Kind) → as_file node removed kind ≡ Ok file →
     (kind ≡ Some File) × (removed ≡ false) × (node ≡ file)
-as_file_is node file true None e = absurd cc
-as_file_is node file false None e = absurd cc
-as_file_is node file true (Some File) e = absurd cc
-as_file_is node file false (Some File) e = (refl, refl, cc)
-as_file_is node file true (Some Dir) e = absurd cc
-as_file_is node file false (Some Dir) e = absurd cc
+as_file_is node file removed kind e = grind arith
 
 -- a node that was taken for a file, removed or not, is one
 as_any_file_is : (node file : NodeWord) (kind : Option Kind) → as_any_file node kind ≡ Ok file → (kind ≡ Some File) × (node ≡ file)
-as_any_file_is node file None e = absurd cc
-as_any_file_is node file (Some File) e = (refl, cc)
-as_any_file_is node file (Some Dir) e = absurd cc
-
--- a node that was taken for a directory is one
-as_directory_is : (node dir : NodeWord) (kind : Option Kind) → as_directory node kind ≡ Ok dir → kind ≡ Some Dir
-as_directory_is node dir None e = absurd cc
-as_directory_is node dir (Some File) e = absurd cc
-as_directory_is node dir (Some Dir) e = refl
+as_any_file_is node file kind e = grind arith
 
 -- what a load found, of a file that is loaded, removed or not
 pub record IsLoaded (word : ℕ) (file : NodeWord) : Type 0 where
@@ -140,15 +117,7 @@ pub record IsLoaded (word : ℕ) (file : NodeWord) : Type 0 where
 
 -- the node of the fields of a word, where it is this file
 node_loaded : (word : ℕ) (file : NodeWord) → IsPacked word → kind_of (kind_in word) ≡ Some File → node_of word ≡ file → IsLoaded word file
-node_loaded word file h kind is =
-    let back = word_returns word h in
-    record {
-      same = sym (ap word_of is) ∙ back.1;
-      kind = sym (ap (λ node. node.kind) is) ∙ kind;
-      lawful = subst IsLawful is back.0;
-      opens = ap (λ (node : NodeWord). node.opens) is;
-      removed = ap (λ (node : NodeWord). node.removed) is;
-    }
+node_loaded word file h kind is = grind arith
 
 -- what a load of a file's node found is the word of that file, which wasn't removed
 pub file_loaded : (word : ℕ) (file : NodeWord) → IsPacked word → file_in word ≡ Some (Ok file) → IsLoaded word file × (file.removed ≡ false)
@@ -168,42 +137,21 @@ any_file_loaded word file h e =
 
 -- what a load of a directory's node found is a directory
 pub directory_loaded : (word : ℕ) (dir : NodeWord) → IsPacked word → directory_in word ≡ Some (Ok dir) → IsDirectory (node_shown word)
-directory_loaded word dir h e =
-    let read : as_directory (node_of word) (kind_of (kind_in word)) ≡ Ok dir =
-    some_is _ _ (sym (ap (option_map (λ node. as_directory node node.kind)) (packed_unpacks word h)) ∙ e) in
-    let is : kind_of (kind_in word) ≡ Some Dir = as_directory_is (node_of word) dir (kind_of (kind_in word)) read in
-    subst IsDirectory (fields_shown word) (subst (λ kind. IsDirectory (info_of (record (node_of word) { kind = kind }))) (sym is) refl)
+directory_loaded word dir h e = grind arith
 
 -- a word shows a dirty node just where it has the mark
 pub dirty_shown : (word : ℕ) → IsPacked word → is_dirty (node_shown word) ≡ (dirty_in word == 1)
-dirty_shown word h = elim (eqb_tells (kind_in word) 0) [
-  | inl e ↦
-      let none : word ≡ 0 = h.free e.1 in
-      rw e.0 (sym (ap (λ w. dirty_in w == 1) none))
-  | inr e ↦ rw e.0 refl
-]
+dirty_shown word h = grind arith
 
 -- a word shows a removed file just where it has the mark
 pub removed_shown : (word : ℕ) → IsPacked word → is_removed (node_shown word) ≡ (removed_in word == 1)
-removed_shown word h = elim (eqb_tells (kind_in word) 0) [
-  | inl e ↦
-      let none : word ≡ 0 = h.free e.1 in
-      rw e.0 (sym (ap (λ w. removed_in w == 1) none))
-  | inr e ↦ rw e.0 refl
-]
+removed_shown word h = grind arith
 
 -- the parent of a file that any word has fits its bits
 narrow_unless : (stray : Bool) (word : ℕ) (file : NodeWord) →
     option_map (λ node. as_file node node.removed node.kind) (if stray then None else Some (node_of word)) ≡ Some (Ok file) →
     node_of word ≡ file
-narrow_unless true word file e = absurd cc
-narrow_unless false word file e =
-    (as_file_is (node_of word) file (node_of word).removed (kind_of (kind_in word)) (some_is _ _ e)).2
-
-any_narrow_unless : (stray : Bool) (word : ℕ) (file : NodeWord) →
-    option_map (λ node. as_any_file node node.kind) (if stray then None else Some (node_of word)) ≡ Some (Ok file) → node_of word ≡ file
-any_narrow_unless true word file e = absurd cc
-any_narrow_unless false word file e = (as_any_file_is (node_of word) file (kind_of (kind_in word)) (some_is _ _ e)).1
+narrow_unless stray word file e = grind arith
 
 pub file_narrow : (word : ℕ) (file : NodeWord) → file_in word ≡ Some (Ok file) → file.parent < 64
 file_narrow word file e = subst (λ node. node.parent < 64) (narrow_unless (is_stray word) word file e) (omega arith)
