@@ -1,18 +1,13 @@
 -- Nobody holds what is closed, action by action.
 use Rattle.std.proofs.Common.{◌≡◌, ℕ, zero, suc, ◌+◌, ◌-◌, ◌<◌, ◌≤◌, Bool, true, false, refl, sym, subst, ◌∙◌, inl, inr, arith}
-use Rattle.std.specs.Prelude.{List, [], ◌∷◌}
-use Rattle.std.proofs.lemmas.Bool.{both_ways, false≢true}
-use Rattle.std.proofs.lemmas.Bool.Decides.{eqb_tells}
+use Rattle.std.proofs.lemmas.Bool.{both_ways, false≢true, Decides.{eqb_tells}}
+use Rattle.std.specs.Prelude.{List, [], ◌∷◌, Option}
 use Rattle.finite_sums.specs.Sums.{update}
 use Rattle.finite_sums.proofs.Totals.{update_off, each_updated}
 use Rattle.access_model.specs.declared.actions.Action.{Action}
 use Rattle.access_model.specs.declared.actions.Action.TheVariants.{Grant, Return, MountRo, MountRw, SbRo, SbRw, Stage, Hold, Leave, Pass, Reopen, Create, Remove, Grow, MoveTo, Dirty, Clean, Open, Close}
-use Rattle.access_model.specs.declared.actions.Gate.TheVariants.{Mount, Level}
-use Rattle.access_model.specs.declared.actions.NodeInfo.{NodeInfo}
-use Rattle.std.specs.Prelude.{Option}
-use Rattle.access_model.specs.States.{Limits, State}
-use Rattle.access_model.specs.Actions.{MayStage, MayDo, after_action}
-use Rattle.access_model.specs.Histories.{Done, end_of, IsLegal}
+use Rattle.access_model.specs.{declared.actions.{Gate.TheVariants.{Mount, Level}, NodeInfo.{NodeInfo}}, States.{Limits, State}}
+use Rattle.access_model.specs.{Actions.{MayStage, MayDo, after_action}, Histories.{Done, end_of, IsLegal}}
 use Rattle.access_model.specs.Laws.{IsReadOnly, NobodyHoldsClosed}
 
 -- a mount whose flags are both clear is not read-only

@@ -1,18 +1,16 @@
 -- What is frozen is shut, and so its tree stays, action by action.
 use Rattle.std.proofs.Common.{◌≡◌, ℕ, zero, suc, ◌<◌, ◌≤◌, Bool, true, false, refl, sym, ◌∙◌, inl, inr, arith}
-use Rattle.std.specs.Prelude.{◌==◌, ◌&&◌, option_map, Option, Some, None, List, [], ◌∷◌, ◌++◌}
 use Rattle.std.proofs.lemmas.Bool.{both_ways, cases_Bool, false≢true, Decides.eqb_tells}
+use Rattle.std.specs.Prelude.{◌==◌, ◌&&◌, option_map, Option, Some, None, List, [], ◌∷◌, ◌++◌}
 use Rattle.finite_sums.proofs.Totals.{each_updated}
 use Rattle.access_model.specs.declared.actions.Action.{Action}
 use Rattle.access_model.specs.declared.actions.Action.TheVariants.{Grant, Return, MountRo, MountRw, SbRo, SbRw, Stage, Hold, Leave, Pass, Reopen, Create, Remove, Grow, MoveTo, Dirty, Clean, Open, Close}
 use Rattle.access_model.specs.declared.actions.{Holder.{Holder, TheVariants.{Kernel, User}}, NodeInfo.NodeInfo}
-use Rattle.access_model.specs.Holders.{held_by, nobody}
-use Rattle.access_model.specs.States.{Limits, State, IsClean, NoneRemoved, is_dirty, is_removed}
+use Rattle.access_model.specs.{Holders.{held_by, nobody}, States.{Limits, State, IsClean, NoneRemoved, is_dirty, is_removed}}
 use Rattle.access_model.specs.Actions.{HoldsSomeMount, MayStage, MayDo, IsAllowed, after_action, after_close, marked}
 use Rattle.access_model.specs.Histories.{Done, end_of, IsLegal}
 use Rattle.access_model.specs.Laws.{NobodyHoldsClosed, FrozenIsShut, TreeStays, NeverLeaves, IsFrozenStill}
-use Rattle.access_model.proofs.Closed.{closed}
-use Rattle.access_model.proofs.Held.{some_held, stays_frozen}
+use Rattle.access_model.proofs.{Closed.{closed}, Held.{some_held, stays_frozen}}
 
 -- a node whose mark is cleared is clean, and removed as before; and where it was clean it is the same
 marked_clean : (node : Option NodeInfo) → is_dirty (option_map (marked false) node) ≡ false

@@ -1,14 +1,9 @@
 -- What one holder has frozen stays frozen until that holder leaves, action by action.
-use Rattle.std.proofs.Common.{◌≡◌, ℕ, zero, suc, Bool, true, false, refl, ap, inl, inr, arith}
-use Rattle.std.proofs.lemmas.Bool.{false≢true}
+use Rattle.std.proofs.{Common.{◌≡◌, ℕ, zero, suc, Bool, true, false, refl, ap, inl, inr, arith}, lemmas.Bool.{false≢true}}
 use Rattle.access_model.specs.declared.actions.Action.{Action}
 use Rattle.access_model.specs.declared.actions.Action.TheVariants.{Grant, Return, MountRo, MountRw, SbRo, SbRw, Stage, Hold, Leave, Pass, Reopen, Create, Remove, Grow, MoveTo, Dirty, Clean, Open, Close}
-use Rattle.access_model.specs.declared.actions.Holder.{Holder}
-use Rattle.access_model.specs.declared.actions.Holder.TheVariants.{Kernel, User}
-use Rattle.access_model.specs.declared.actions.Holders.{Holders}
-use Rattle.access_model.specs.Holders.{held_by, with_holder, is_unheld}
-use Rattle.access_model.specs.States.{Limits, State}
-use Rattle.access_model.specs.Actions.{MayStage, MayDo, after_action}
+use Rattle.access_model.specs.declared.actions.{Holder.{Holder, TheVariants.{Kernel, User}}, Holders.{Holders}}
+use Rattle.access_model.specs.{Holders.{held_by, with_holder, is_unheld}, States.{Limits, State}, Actions.{MayStage, MayDo, after_action}}
 use Rattle.access_model.specs.Laws.{IsFrozenFor, StaysFrozen}
 
 -- who holds a freeze isn't nobody

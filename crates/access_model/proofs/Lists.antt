@@ -1,14 +1,11 @@
 -- What a task holds is what its own list leaves.
-use Rattle.std.proofs.Common.{◌≡◌, ℕ, refl, sym, ap, ◌∙◌, subst, inl, inr}
+use Rattle.std.proofs.{Common.{◌≡◌, ℕ, refl, sym, ap, ◌∙◌, subst, inl, inr}, lemmas.Bool.Decides.{eqb_tells}}
 use Rattle.std.specs.Prelude.{cond, List, [], ◌∷◌}
-use Rattle.std.proofs.lemmas.Bool.Decides.{eqb_tells}
 use Rattle.finite_sums.proofs.Totals.{update_at, update_off}
 use Rattle.access_model.specs.declared.actions.Action.{Action}
 use Rattle.access_model.specs.declared.actions.Action.TheVariants.{Grant, Return, MountRo, MountRw, SbRo, SbRw, Stage, Hold, Leave, Pass, Reopen, Create, Remove, Grow, MoveTo, Dirty, Clean, Open, Close}
-use Rattle.access_model.specs.States.{State}
-use Rattle.access_model.specs.Actions.{after_action, mounts_after, levels_after, opens_after}
-use Rattle.access_model.specs.Histories.{Done, end_of, own_part, mounts_of, levels_of, opens_of}
-use Rattle.access_model.specs.Laws.{FollowsOwnList}
+use Rattle.access_model.specs.{States.{State}, Actions.{after_action, mounts_after, levels_after, opens_after}}
+use Rattle.access_model.specs.{Histories.{Done, end_of, own_part, mounts_of, levels_of, opens_of}, Laws.{FollowsOwnList}}
 
 -- an action leaves its own task's accesses as `mounts_after` says
 mounts_own : (s : State) (t : ℕ) (a : Action) → (after_action s t a).mounts t ≡ mounts_after a (s.mounts t)

@@ -3,8 +3,7 @@ use Rattle.std.specs.Prelude.{◌≡◌, ℕ, zero, suc, ◌+◌, ◌-◌, ◌<�
 use Rattle.finite_sums.specs.Sums.{update}
 use Rattle.access_model.specs.declared.actions.Action.{Action}
 use Rattle.access_model.specs.declared.actions.Action.TheVariants.{Grant, Return, MountRo, MountRw, SbRo, SbRw, Stage, Hold, Leave, Pass, Reopen, Create, Remove, Grow, MoveTo, Dirty, Clean, Open, Close}
-use Rattle.access_model.specs.declared.actions.Gate.TheVariants.{Mount, Level}
-use Rattle.access_model.specs.declared.actions.NodeInfo.{NodeInfo}
+use Rattle.access_model.specs.declared.actions.{Gate.TheVariants.{Mount, Level}, NodeInfo.{NodeInfo}}
 use Rattle.access_model.specs.Holders.{held_by, with_holder, is_unheld}
 use Rattle.access_model.specs.States.{Limits, State, IsLevel, NobodyHolds, IsFile, IsDirectory, used_blocks, IsClean, IsLinkedFile, is_removed, openers, NoneRemoved}
 

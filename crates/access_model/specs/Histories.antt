@@ -1,7 +1,6 @@
 -- Histories: lists of actions with their tasks, the newest first.
 use Rattle.std.specs.Prelude.{◌≡◌, ℕ, ◌==◌, Bool, false, List, [], ◌∷◌, if◌then◌else◌}
-use Rattle.access_model.specs.declared.actions.Action.{Action}
-use Rattle.access_model.specs.States.{Limits, State, opening_state}
+use Rattle.access_model.specs.{declared.actions.Action.{Action}, States.{Limits, State, opening_state}}
 use Rattle.access_model.specs.Actions.{IsAllowed, after_action, mounts_after, levels_after, opens_after}
 
 -- an action with the number of its task

@@ -1,8 +1,6 @@
 -- Who holds a freeze.
 use Rattle.std.specs.Prelude.{Bool, false, not, ◌&&◌}
-use Rattle.access_model.specs.declared.actions.Holder.{Holder}
-use Rattle.access_model.specs.declared.actions.Holder.TheVariants.{Kernel, User}
-use Rattle.access_model.specs.declared.actions.Holders.{Holders}
+use Rattle.access_model.specs.declared.actions.{Holder.{Holder, TheVariants.{Kernel, User}}, Holders.{Holders}}
 
 -- no freeze is held
 abbrev pub nobody : Holders

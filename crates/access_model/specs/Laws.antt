@@ -1,11 +1,7 @@
 -- Laws of whole histories.
 use Rattle.std.specs.Prelude.{◌≡◌, ℕ, ◌<◌, ◌≤◌, ◌⊎◌, true, false, List, [], ◌∷◌}
-use Rattle.access_model.specs.declared.actions.Action.{Action}
-use Rattle.access_model.specs.declared.actions.Action.TheVariants.{Leave}
-use Rattle.access_model.specs.declared.actions.Holder.{Holder}
-use Rattle.access_model.specs.Holders.{held_by}
-use Rattle.access_model.specs.States.{Limits, State, IsClean, NoneRemoved}
-use Rattle.access_model.specs.Actions.{IsAllowed, after_action}
+use Rattle.access_model.specs.{declared.actions.{Action.{Action, TheVariants.{Leave}}, Holder.{Holder}}, Holders.{held_by}}
+use Rattle.access_model.specs.{States.{Limits, State, IsClean, NoneRemoved}, Actions.{IsAllowed, after_action}}
 use Rattle.access_model.specs.Histories.{Done, end_of, own_part, mounts_of, levels_of, opens_of}
 
 -- writes through the mount are refused, by its own flag or the superblock's

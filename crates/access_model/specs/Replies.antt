@@ -1,6 +1,5 @@
 -- What comes after an event, with other phases.
-use Rattle.access_model.specs.declared.replies.Next.{Next}
-use Rattle.access_model.specs.declared.replies.Next.TheVariants.{Go, Wait, Done}
+use Rattle.access_model.specs.declared.replies.Next.{Next, TheVariants.{Go, Wait, Done}}
 
 -- the same, with what a function gives in the place of its phase
 abbrev pub map_next : {A B : Type 0} → (A → B) → Next A → Next B

@@ -1,12 +1,8 @@
 -- The state of the access model.
 use Rattle.std.specs.Prelude.{◌≡◌, ℕ, ◌<◌, ◌≤◌, Bool, true, false, Option, Some, None}
 use Rattle.finite_sums.specs.Sums.{update, total}
-use Rattle.access_model.specs.declared.actions.Gate.{Gate}
-use Rattle.access_model.specs.declared.actions.Gate.TheVariants.{Mount, Level}
-use Rattle.access_model.specs.declared.actions.Holders.{Holders}
-use Rattle.access_model.specs.declared.actions.Kind.TheVariants.{File, Dir}
-use Rattle.access_model.specs.declared.actions.NodeInfo.{NodeInfo}
-use Rattle.access_model.specs.Holders.{nobody}
+use Rattle.access_model.specs.declared.actions.{Gate.{Gate, TheVariants.{Mount, Level}}, Holders.{Holders}, Kind.TheVariants.{File, Dir}}
+use Rattle.access_model.specs.{declared.actions.NodeInfo.{NodeInfo}, Holders.{nobody}}
 
 -- how many tasks, mounts and nodes there are, and how many blocks all files may have together
 pub record Limits : Type 0 where

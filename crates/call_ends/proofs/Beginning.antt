@@ -2,27 +2,15 @@
 use Rattle.std.proofs.Common.{◌≡◌, ℕ, Bool, List, [], ◌∷◌, arith, sym, ap, subst}
 use Rattle.std.specs.Prelude.{Some}
 use Rattle.access_model.specs.declared.replies.Next.TheVariants.{Go}
-use Rattle.freeze_levels.specs.declared.freezes.Freeze.{Freeze}
-use Rattle.freeze_levels.specs.declared.freezes.FreezeStep.TheVariants.{Locks as FreezeLocks}
-use Rattle.freeze_levels.specs.declared.thaws.Thaw.{Thaw}
+use Rattle.freeze_levels.specs.declared.{freezes.{Freeze.{Freeze}, FreezeStep.TheVariants.{Locks as FreezeLocks}}, thaws.Thaw.{Thaw}}
 use Rattle.freeze_levels.specs.declared.thaws.ThawStep.TheVariants.{Locks as ThawLocks}
-use Rattle.gate_world.specs.Beginnings.{first_phase}
-use Rattle.gate_world.specs.declared.accesses.Accesses.{Accesses}
-use Rattle.gate_world.specs.declared.config.Config.{Config}
-use Rattle.gate_world.specs.declared.operations.Op.{Op}
+use Rattle.gate_world.specs.{Beginnings.{first_phase}, declared.{accesses.Accesses.{Accesses}, config.Config.{Config}, operations.Op.{Op}}}
 use Rattle.gate_world.specs.declared.work.Phase.{Phase, TheVariants.{Callbacks, Freezes, Remounts, Thaws}}
-use Rattle.mount_counts.specs.declared.remounts.Remount.{Remount}
-use Rattle.mount_counts.specs.declared.remounts.RemountStep.TheVariants.{Locks as RemountLocks}
-use Rattle.percpu_rwsem.specs.declared.callbacks.Callback.{Callback}
-use Rattle.percpu_rwsem.specs.declared.callbacks.CallbackStep.{CallbackStep, TheVariants.{Claims}}
+use Rattle.mount_counts.specs.declared.remounts.{Remount.{Remount}, RemountStep.TheVariants.{Locks as RemountLocks}}
+use Rattle.percpu_rwsem.specs.declared.callbacks.{Callback.{Callback}, CallbackStep.{CallbackStep, TheVariants.{Claims}}}
 use Rattle.percpu_rwsem.specs.declared.transitions.Transition.TheVariants.{Loads}
-use Rattle.gate_steps.specs.Seating.{DealtNumbers}
-use Rattle.call_lines.specs.CallingBack.{calling_at}
-use Rattle.call_lines.specs.Closings.{standing}
-use Rattle.call_lines.specs.Remounting.{remounting_at}
-use Rattle.call_lines.specs.Reopenings.{thaw_at}
-use Rattle.gate_steps.specs.call_events.GhostAgrees.{GhostAgrees}
-use Rattle.gate_steps.specs.call_events.Turns.{StateAgrees, state_at}
+use Rattle.gate_steps.specs.{Seating.{DealtNumbers}, call_events.{GhostAgrees.{GhostAgrees}, Turns.{StateAgrees, state_at}}}
+use Rattle.call_lines.specs.{CallingBack.{calling_at}, Closings.{standing}, Remounting.{remounting_at}, Reopenings.{thaw_at}}
 
 -- where one that may wait begins
 abbrev IsFirst : Phase → Type 0

@@ -2,20 +2,13 @@
 use Rattle.std.proofs.Common.{◌≡◌, ℕ, ◌+◌, ◌-◌, ◌^◌, min, arith, ap, sym, subst, ◌∙◌}
 use Rattle.std.specs.Prelude.{Some, None, Result}
 use Rattle.atomic_table.specs.Seated.{TableId}
-use Rattle.access_model.specs.declared.errors.GateError.{GateError}
-use Rattle.access_model.specs.declared.replies.Next.{Next, TheVariants.{Go, Wait, Done}}
-use Rattle.access_model.specs.declared.replies.Reply.{Reply}
+use Rattle.access_model.specs.declared.{errors.GateError.{GateError}, replies.{Next.{Next, TheVariants.{Go, Wait, Done}}, Reply.{Reply}}}
 use Rattle.cpu_words.specs.Hooks.{HookAnswer}
 use Rattle.freeze_levels.specs.declared.hooks.HookCall.{HookCall}
-use Rattle.gate_world.specs.Views.{phase_after}
-use Rattle.gate_world.specs.declared.config.Config.{Config}
-use Rattle.gate_world.specs.declared.operations.Op.{Op}
-use Rattle.gate_world.specs.declared.work.Phase.{Phase}
-use Rattle.gate_steps.specs.Seating.{DealtNumbers}
-use Rattle.gate_steps.specs.declared.seating.Knowledge.{Knowledge}
+use Rattle.gate_world.specs.{Views.{phase_after}, declared.{config.Config.{Config}, operations.Op.{Op}, work.Phase.{Phase}}}
+use Rattle.gate_steps.specs.{Seating.{DealtNumbers}, declared.seating.Knowledge.{Knowledge}}
 use Rattle.gate_steps.specs.call_events.Asking.{CalledAsking, OpUnderWayAsking, OpAfterStepAsking, WereAsked}
-use Rattle.gate_steps.specs.call_events.SeatedTasks.{SeatedTask, task_state}
-use Rattle.gate_steps.specs.call_events.Waited.{counted}
+use Rattle.gate_steps.specs.call_events.{SeatedTasks.{SeatedTask, task_state}, Waited.{counted}}
 
 -- a count that stands still at its end is of a sum the same
 counted_more : (n : ℕ) → counted (counted n + 1) ≡ counted (n + 1)

@@ -1,20 +1,14 @@
 -- What comes after each event of a callback's line.
 use Rattle.std.proofs.Common.{◌≡◌, ℕ, refl, sym, ap}
-use Rattle.std.specs.Prelude.{Some, None, Ok}
-use Rattle.access_model.specs.declared.replies.Next.{Next, TheVariants.{Go, Done}}
-use Rattle.access_model.specs.declared.replies.Reply.TheVariants.{Ran}
+use Rattle.std.specs.Prelude.{Some, None, Ok, Bool, true, false}
+use Rattle.access_model.specs.declared.replies.{Next.{Next, TheVariants.{Go, Done}}, Reply.TheVariants.{Ran}}
 use Rattle.gate_world.specs.Work.{after_of}
-use Rattle.percpu_rwsem.specs.Graces.{looked, started}
-use Rattle.percpu_rwsem.specs.SyncWords.{on_callback, on_claim, pack, unpack}
-use Rattle.percpu_rwsem.specs.declared.callbacks.Callback.{Callback}
-use Rattle.percpu_rwsem.specs.declared.callbacks.CallbackStep.TheVariants.{AwaitsSections, CallsBack, Claims}
-use Rattle.percpu_rwsem.specs.declared.grace.Grace.{Grace}
-use Rattle.percpu_rwsem.specs.declared.grace.GraceNext.TheVariants.{More, Wait as WaitsFor, Ended}
-use Rattle.percpu_rwsem.specs.declared.sync_word.SyncWord.{SyncWord}
-use Rattle.percpu_rwsem.specs.declared.transitions.Transition.TheVariants.{Loads, Exchanges}
+use Rattle.percpu_rwsem.specs.{Graces.{looked, started}, SyncWords.{on_callback, on_claim, pack, unpack}}
+use Rattle.percpu_rwsem.specs.declared.callbacks.{Callback.{Callback}, CallbackStep.TheVariants.{AwaitsSections, CallsBack, Claims}}
+use Rattle.percpu_rwsem.specs.declared.grace.{Grace.{Grace}, GraceNext.TheVariants.{More, Wait as WaitsFor, Ended}}
+use Rattle.percpu_rwsem.specs.declared.{sync_word.SyncWord.{SyncWord}, transitions.Transition.TheVariants.{Loads, Exchanges}}
 use Rattle.call_lines.specs.CallingBack.{called_or, calling_at, of_callback, sections_ended}
 use Rattle.call_lines.proofs.Closing.{same_number, other_number}
-use Rattle.std.specs.Prelude.{Bool, true, false}
 
 module _ (level tasks : ℕ) where
   -- the claim

@@ -1,35 +1,20 @@
 -- What comes after each event of the closing of a level.
 use Rattle.std.proofs.Common.{◌≡◌, ℕ, ◌-◌, ◌<◌, Bool, true, false, refl, sym, ap, ◌∙◌, arith}
 use Rattle.std.specs.Prelude.{Some, None, Ok, Err, ◌==◌, if◌then◌else◌}
-use Rattle.access_model.specs.declared.actions.Action.TheVariants.{Clean, Pass}
-use Rattle.access_model.specs.declared.replies.Next.{Next, TheVariants.{Go, Wait, Done}}
+use Rattle.access_model.specs.declared.{actions.Action.TheVariants.{Clean, Pass}, replies.Next.{Next, TheVariants.{Go, Wait, Done}}}
 use Rattle.access_model.specs.declared.replies.Reply.{TheVariants.{Unit as UnitReply}}
-use Rattle.cpu_words.specs.Hooks.{HookAnswer}
-use Rattle.cpu_words.specs.Sums.{sum_taking}
-use Rattle.cpu_words.specs.declared.sums.Sum.{Sum}
-use Rattle.cpu_words.specs.declared.sums.Taken.{Taken}
+use Rattle.cpu_words.specs.{Hooks.{HookAnswer}, Sums.{sum_taking}, declared.sums.{Sum.{Sum}, Taken.{Taken}}}
 use Rattle.cpu_words.specs.declared.sums.Taken.TheVariants.{More as MoreWords, Total}
-use Rattle.freeze_levels.specs.Freezes.{after_closing, at_freeze, level_closed}
-use Rattle.freeze_levels.specs.Levels.{closing}
-use Rattle.freeze_levels.specs.declared.freezes.Freeze.{Freeze}
-use Rattle.freeze_levels.specs.declared.freezes.FreezeStep.{FreezeStep}
-use Rattle.freeze_levels.specs.declared.freezes.FreezeStep.TheVariants.{Closes, Cleans, Locks, LocksAgain, LoadsStage}
+use Rattle.freeze_levels.specs.{Freezes.{after_closing, at_freeze, level_closed}, Levels.{closing}, declared.freezes.Freeze.{Freeze}}
+use Rattle.freeze_levels.specs.declared.freezes.FreezeStep.{FreezeStep, TheVariants.{Closes, Cleans, Locks, LocksAgain, LoadsStage}}
 use Rattle.freeze_levels.specs.declared.freezes.FreezeStep.TheVariants.{LoadsSuperblock, SetsWrite, SetsPageFault, SetsFs, SetsComplete}
-use Rattle.gate_world.specs.declared.work.Phase.TheVariants.{Freezes}
-use Rattle.gate_world.specs.Accesses.{accesses_after}
-use Rattle.gate_world.specs.Work.{after_of}
+use Rattle.gate_world.specs.{declared.work.Phase.TheVariants.{Freezes}, Accesses.{accesses_after}, Work.{after_of}}
 use Rattle.gate_world.specs.declared.accesses.Accesses.{Accesses}
-use Rattle.node_words.specs.Nodes.{dirty_in, node_after}
-use Rattle.node_words.specs.declared.marks.ClearMarks.{ClearMarks}
-use Rattle.percpu_rwsem.specs.Graces.{looked}
-use Rattle.percpu_rwsem.specs.SyncWords.{on_enter, on_callback, pack, unpack}
-use Rattle.percpu_rwsem.specs.Writers.{at_down_write, entered_from, down_write_summed, sum_begun}
-use Rattle.percpu_rwsem.specs.declared.grace.Grace.{Grace}
-use Rattle.percpu_rwsem.specs.declared.grace.GraceNext.TheVariants.{More, Wait as WaitsFor, Ended}
-use Rattle.percpu_rwsem.specs.declared.sync_word.SyncWord.{SyncWord}
-use Rattle.percpu_rwsem.specs.declared.transitions.Transition.{Transition}
-use Rattle.percpu_rwsem.specs.declared.transitions.Transition.TheVariants.{Loads, Exchanges}
-use Rattle.percpu_rwsem.specs.declared.writers.DownWrite.{DownWrite}
+use Rattle.node_words.specs.{Nodes.{dirty_in, node_after}, declared.marks.ClearMarks.{ClearMarks}}
+use Rattle.percpu_rwsem.specs.{Graces.{looked}, SyncWords.{on_enter, on_callback, pack, unpack}}
+use Rattle.percpu_rwsem.specs.{Writers.{at_down_write, entered_from, down_write_summed, sum_begun}, declared.grace.Grace.{Grace}}
+use Rattle.percpu_rwsem.specs.declared.{grace.GraceNext.TheVariants.{More, Wait as WaitsFor, Ended}, sync_word.SyncWord.{SyncWord}}
+use Rattle.percpu_rwsem.specs.declared.{transitions.Transition.{Transition, TheVariants.{Loads, Exchanges}}, writers.DownWrite.{DownWrite}}
 use Rattle.percpu_rwsem.specs.declared.writers.DownWriteStep.{DownWriteStep}
 use Rattle.percpu_rwsem.specs.declared.writers.DownWriteStep.TheVariants.{Enters, AwaitsSections, CallsBack, SetsBlock, Sums}
 use Rattle.call_lines.specs.Closings.{closed_or, closing_at, awaited, summed, of_freeze, standing}

@@ -1,23 +1,13 @@
 -- What comes after each event of a remount's line.
-use Rattle.std.proofs.Common.{◌≡◌, ℕ, ◌+◌, ◌<◌, Bool, true, false, true≢false, refl, sym, ap, ◌∙◌, subst, arith}
-use Rattle.std.proofs.lemmas.Nat.{and_le_l}
-use Rattle.std.specs.Int.{bit_not, w8}
-use Rattle.std.specs.Prelude.{bit_and, Some, None, Ok, Err, ◌==◌, nat_lt, not, if◌then◌else◌}
-use Rattle.access_model.specs.declared.actions.Action.TheVariants.{Clean}
-use Rattle.access_model.specs.declared.replies.Next.TheVariants.{Go}
-use Rattle.cpu_words.specs.Hooks.{HookAnswer}
-use Rattle.cpu_words.specs.Sums.{sum_taking}
-use Rattle.cpu_words.specs.declared.sums.Sum.{Sum}
-use Rattle.cpu_words.specs.declared.sums.Taken.TheVariants.{More as MoreWords, Total}
-use Rattle.gate_world.specs.Accesses.{accesses_after}
-use Rattle.gate_world.specs.Work.{after_of}
-use Rattle.gate_world.specs.declared.accesses.Accesses.{Accesses}
+use Rattle.std.proofs.{Common.{◌≡◌, ℕ, ◌+◌, ◌<◌, Bool, true, false, true≢false, refl, sym, ap, ◌∙◌, subst, arith}, lemmas.Nat.{and_le_l}}
+use Rattle.std.specs.{Int.{bit_not, w8}, Prelude.{bit_and, Some, None, Ok, Err, ◌==◌, nat_lt, not, if◌then◌else◌}}
+use Rattle.access_model.specs.declared.{actions.Action.TheVariants.{Clean}, replies.Next.TheVariants.{Go}}
+use Rattle.cpu_words.specs.{Hooks.{HookAnswer}, Sums.{sum_taking}, declared.sums.{Sum.{Sum}, Taken.TheVariants.{More as MoreWords, Total}}}
+use Rattle.gate_world.specs.{Accesses.{accesses_after}, Work.{after_of}, declared.accesses.Accesses.{Accesses}}
 use Rattle.gate_world.specs.declared.work.Phase.TheVariants.{Remounts}
-use Rattle.mount_counts.specs.Phases.{has_flag}
-use Rattle.mount_counts.specs.Remounts.{let_go, past_mount, remount_from}
+use Rattle.mount_counts.specs.{Phases.{has_flag}, Remounts.{let_go, past_mount, remount_from}}
 use Rattle.mount_counts.specs.Sets.{has_mount, lowest, no_mounts, one_mount, with_mount, without_lowest}
-use Rattle.mount_counts.specs.declared.remounts.Remount.{Remount}
-use Rattle.mount_counts.specs.declared.remounts.RemountStep.{RemountStep}
+use Rattle.mount_counts.specs.declared.remounts.{Remount.{Remount}, RemountStep.{RemountStep}}
 use Rattle.mount_counts.specs.declared.remounts.RemountStep.TheVariants.{
   ClearsHold,
   ClearsMark,

@@ -1,24 +1,15 @@
 -- What comes after each event of the reopening of the levels.
 use Rattle.std.proofs.Common.{◌≡◌, ℕ, Bool, true, false, refl, sym, ap, ◌∙◌, subst}
 use Rattle.std.specs.Prelude.{Some, None, Ok, Err, ◌==◌, if◌then◌else◌}
-use Rattle.access_model.specs.Holders.{held_by, with_holder, is_unheld}
-use Rattle.access_model.specs.declared.actions.Holders.{Holders}
+use Rattle.access_model.specs.{Holders.{held_by, with_holder, is_unheld}, declared.actions.Holders.{Holders}}
 use Rattle.access_model.specs.declared.replies.Next.TheVariants.{Go}
 use Rattle.cpu_words.specs.Hooks.{HookAnswer}
-use Rattle.freeze_levels.specs.Holders.{holders_in}
-use Rattle.freeze_levels.specs.Thaws.{after_opening, thaw_finds}
-use Rattle.freeze_levels.specs.declared.thaws.Thaw.{Thaw}
-use Rattle.freeze_levels.specs.declared.thaws.ThawStep.{ThawStep}
+use Rattle.freeze_levels.specs.{Holders.{holders_in}, Thaws.{after_opening, thaw_finds}, declared.thaws.{Thaw.{Thaw}, ThawStep.{ThawStep}}}
 use Rattle.freeze_levels.specs.declared.thaws.ThawStep.TheVariants.{LeavesLast, LoadsHolders, LoadsStage, LoadsSuperblock, Locks}
-use Rattle.gate_world.specs.Accesses.{accesses_after}
-use Rattle.gate_world.specs.Work.{after_of}
-use Rattle.gate_world.specs.declared.accesses.Accesses.{Accesses}
+use Rattle.gate_world.specs.{Accesses.{accesses_after}, Work.{after_of}, declared.accesses.Accesses.{Accesses}}
 use Rattle.gate_world.specs.declared.work.Phase.TheVariants.{Thaws}
-use Rattle.percpu_rwsem.specs.SyncWords.{on_exit, pack, unpack}
-use Rattle.percpu_rwsem.specs.Writers.{exit_made}
-use Rattle.percpu_rwsem.specs.declared.sync_word.SyncWord.{SyncWord}
-use Rattle.percpu_rwsem.specs.declared.transitions.Transition.TheVariants.{Loads, Exchanges}
-use Rattle.percpu_rwsem.specs.declared.transitions.TransitionNext.TheVariants.{More, Made}
+use Rattle.percpu_rwsem.specs.{SyncWords.{on_exit, pack, unpack}, Writers.{exit_made}, declared.sync_word.SyncWord.{SyncWord}}
+use Rattle.percpu_rwsem.specs.declared.transitions.{Transition.TheVariants.{Loads, Exchanges}, TransitionNext.TheVariants.{More, Made}}
 use Rattle.percpu_rwsem.specs.declared.writers.UpWriteStep.TheVariants.{Exits}
 use Rattle.call_lines.specs.Reopenings.{opening_at, of_thaw, reopened, thaw_at}
 use Rattle.call_lines.proofs.Closing.{same_number}

@@ -1,16 +1,9 @@
 -- Where a remount stands in its line.
 use Rattle.std.specs.Prelude.{ℕ, Bool, true, false, Option, Some, None, Ok}
-use Rattle.access_model.specs.Replies.{map_next}
-use Rattle.access_model.specs.declared.replies.Next.{Next}
-use Rattle.access_model.specs.declared.replies.Next.TheVariants.{Go}
-use Rattle.access_model.specs.declared.replies.Reply.TheVariants.{Unit as UnitReply}
-use Rattle.gate_world.specs.declared.work.Phase.{Phase}
-use Rattle.gate_world.specs.declared.work.Phase.TheVariants.{Remounts}
-use Rattle.mount_counts.specs.Remounts.{at_remount, past_mount}
-use Rattle.mount_counts.specs.Sets.{with_mount}
-use Rattle.mount_counts.specs.declared.remounts.Remount.{Remount}
-use Rattle.mount_counts.specs.declared.remounts.RemountStep.{RemountStep}
-use Rattle.mount_counts.specs.declared.remounts.RemountStep.TheVariants.{LoadsRemovedAgain, Releases, Sums}
+use Rattle.access_model.specs.{Replies.{map_next}, declared.replies.{Next.{Next, TheVariants.{Go}}, Reply.TheVariants.{Unit as UnitReply}}}
+use Rattle.gate_world.specs.declared.work.Phase.{Phase, TheVariants.{Remounts}}
+use Rattle.mount_counts.specs.{Remounts.{at_remount, past_mount}, Sets.{with_mount}, declared.remounts.Remount.{Remount}}
+use Rattle.mount_counts.specs.declared.remounts.RemountStep.{RemountStep, TheVariants.{LoadsRemovedAgain, Releases, Sums}}
 use Rattle.mount_counts.specs.declared.sets.MountSet.{MountSet}
 
 -- a remount at this step

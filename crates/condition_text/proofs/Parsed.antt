@@ -2,18 +2,13 @@
 use Rattle.std.proofs.Common.{zero, suc, ◌≡◌, ℕ, ◌<◌, ◌-◌, refl, sym, ap, ◌∙◌, arith}
 use Rattle.std.specs.Prelude.{true, false, List, codes, Result, Ok, Err}
 use Rattle.gate_world.specs.declared.config.Config.{Config}
-use Rattle.race_conditions.specs.Conditions.{Formula, Is, Not}
+use Rattle.race_conditions.specs.{Conditions.{Formula, Is, Not}, declared.conditions.Fact.{Fact}}
 use Rattle.condition_text.specs.Parsing.{◌>>=◌, Read, IsFaultOf, after_piece, both, condition_at, fact_at, joined, part_of, read_by, sign_text}
-use Rattle.condition_text.specs.Pieces.{end_of, is_next, unexpected}
-use Rattle.race_conditions.specs.declared.conditions.Fact.{Fact}
-use Rattle.condition_text.specs.declared.faults.ConditionFault.{ConditionFault}
+use Rattle.condition_text.specs.{Pieces.{end_of, is_next, unexpected}, declared.faults.ConditionFault.{ConditionFault}}
 use Rattle.condition_text.specs.declared.faults.ConditionFault.TheVariants.{Unexpected as IsUnexpected, NoMemory as OutOfMemory}
-use Rattle.condition_text.specs.declared.faults.Expected.TheVariants as expect
-use Rattle.condition_text.specs.declared.faults.Unexpected.{Unexpected}
-use Rattle.condition_text.specs.declared.parsing.Rank.{Rank}
-use Rattle.condition_text.specs.declared.parsing.Rank.TheVariants.{Joined, One}
-use Rattle.condition_text.specs.declared.parsing.Sign.{Sign}
+use Rattle.condition_text.specs.declared.{faults.Unexpected.{Unexpected}, parsing.{Rank.{Rank, TheVariants.{Joined, One}}, Sign.{Sign}}}
 use Rattle.condition_text.specs.declared.parsing.Sign.TheVariants.{Or as OrSign}
+use Rattle.condition_text.specs.declared.faults.Expected.TheVariants as expect
 
 -- a fault of what fails with another one is one of that
 pub carried : {A B : Type 0} (part : Result A Unexpected) (whole : Result B Unexpected) (fault : ConditionFault) →

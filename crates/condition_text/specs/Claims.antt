@@ -1,12 +1,9 @@
 -- The lines of a race's file that claim something.
 use Rattle.std.specs.Prelude.{ℕ, List, Option, Some, None, Result, Ok, Err}
 use Rattle.gate_world.specs.declared.config.Config.{Config}
-use Rattle.race_conditions.specs.Claims.{kind_named}
-use Rattle.race_conditions.specs.Conditions.{Formula, formula_of}
-use Rattle.condition_text.specs.Parsing.{condition_in}
-use Rattle.race_conditions.specs.declared.claims.Claim.{Claim}
+use Rattle.race_conditions.specs.{Claims.{kind_named}, Conditions.{Formula, formula_of}, declared.claims.Claim.{Claim}}
 use Rattle.race_conditions.specs.declared.claims.ClaimKind.{ClaimKind}
-use Rattle.condition_text.specs.declared.faults.Unexpected.{Unexpected}
+use Rattle.condition_text.specs.{Parsing.{condition_in}, declared.faults.Unexpected.{Unexpected}}
 use Rattle.schedule_lines.specs.Words.{first_word, after_word}
 
 -- a claim: what is claimed, and of which condition

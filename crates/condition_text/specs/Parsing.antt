@@ -13,30 +13,19 @@
 --
 -- So `!` binds most, and `&` more than `|`.
 use Rattle.std.specs.Prelude.{◌≡◌, ℕ, zero, suc, nat_lt, Bool, true, false, if◌then◌else◌, List, [], ◌∷◌, codes, bytes_eq, find, Option, Some, None, Result, Ok, Err, slice_index}
-use Rattle.access_model.specs.Errors.{name_of}
-use Rattle.access_model.specs.declared.actions.Gate.TheVariants.{Mount as MountGate, Level as LevelGate}
-use Rattle.access_model.specs.declared.actions.Holder.{Holder}
-use Rattle.access_model.specs.declared.actions.Holder.TheVariants.{Kernel, User}
-use Rattle.access_model.specs.declared.errors.GateError.{GateError}
+use Rattle.access_model.specs.{Errors.{name_of}, declared.actions.Gate.TheVariants.{Mount as MountGate, Level as LevelGate}}
+use Rattle.access_model.specs.declared.{actions.Holder.{Holder, TheVariants.{Kernel, User}}, errors.GateError.{GateError}}
 use Rattle.access_model.specs.declared.errors.GateError.TheVariants.{NoEntry, Again, NoMemory, Busy, NotDir, IsDir, Invalid, TooMany, NoSpace, ReadOnly, Order, Hook}
 use Rattle.gate_world.specs.declared.config.Config.{Config}
-use Rattle.race_conditions.specs.Conditions.{Formula, Is, Not, And, Or}
-use Rattle.condition_text.specs.Pieces.{end_of, is_next, piece_at, unexpected}
-use Rattle.race_conditions.specs.declared.conditions.CallAnswer.{CallAnswer}
-use Rattle.race_conditions.specs.declared.conditions.CallAnswer.TheVariants.{Done, Refused, RefusedFor, Skipped}
-use Rattle.race_conditions.specs.declared.conditions.Fact.{Fact}
+use Rattle.race_conditions.specs.{Conditions.{Formula, Is, Not, And, Or}, declared.conditions.CallAnswer.{CallAnswer}}
+use Rattle.race_conditions.specs.declared.conditions.{CallAnswer.TheVariants.{Done, Refused, RefusedFor, Skipped}, Fact.{Fact}}
 use Rattle.race_conditions.specs.declared.conditions.Fact.TheVariants.{Answered, Waits, Holds, HasOpen, Superblock, Mount, Stage, FrozenBy, Node}
-use Rattle.race_conditions.specs.declared.conditions.NodeFact.{NodeFact}
-use Rattle.race_conditions.specs.declared.conditions.NodeFact.TheVariants.{Free, File, Dir, Dirty, Removed}
-use Rattle.condition_text.specs.declared.faults.ConditionFault.{ConditionFault}
+use Rattle.race_conditions.specs.declared.conditions.NodeFact.{NodeFact, TheVariants.{Free, File, Dir, Dirty, Removed}}
+use Rattle.condition_text.specs.{Pieces.{end_of, is_next, piece_at, unexpected}, declared.faults.ConditionFault.{ConditionFault}}
 use Rattle.condition_text.specs.declared.faults.ConditionFault.TheVariants.{Unexpected as IsUnexpected, NoMemory as OutOfMemory}
-use Rattle.condition_text.specs.declared.faults.Expected.{Expected}
+use Rattle.condition_text.specs.declared.{faults.{Expected.{Expected}, Unexpected.{Unexpected}}, parsing.Rank.{Rank}}
+use Rattle.condition_text.specs.declared.parsing.{Rank.TheVariants.{Joined, One}, Sign.{Sign, TheVariants.{Or as OrSign, And as AndSign}}}
 use Rattle.condition_text.specs.declared.faults.Expected.TheVariants as expect
-use Rattle.condition_text.specs.declared.faults.Unexpected.{Unexpected}
-use Rattle.condition_text.specs.declared.parsing.Rank.{Rank}
-use Rattle.condition_text.specs.declared.parsing.Rank.TheVariants.{Joined, One}
-use Rattle.condition_text.specs.declared.parsing.Sign.{Sign}
-use Rattle.condition_text.specs.declared.parsing.Sign.TheVariants.{Or as OrSign, And as AndSign}
 use Rattle.schedule_lines.specs.Numbers.{code_of, is_digits, number_of}
 
 -- one after the other, up to the first fault

@@ -1,9 +1,7 @@
 -- The pieces of a condition's text: words of letters and digits, and each other byte alone. Blanks stand between them, where one likes.
 use Rattle.std.specs.Prelude.{ℕ, ◌+◌, ◌==◌, not, Bool, nat_lt, if◌then◌else◌, List, length, take, drop, bytes_eq}
-use Rattle.std.specs.Char.{is_ascii_alphanumeric}
-use Rattle.std.specs.List.{position_or_len}
-use Rattle.condition_text.specs.declared.faults.Expected.{Expected}
-use Rattle.condition_text.specs.declared.faults.Unexpected.{Unexpected}
+use Rattle.std.specs.{Char.{is_ascii_alphanumeric}, List.{position_or_len}}
+use Rattle.condition_text.specs.declared.faults.{Expected.{Expected}, Unexpected.{Unexpected}}
 
 abbrev pub is_no_blank : ℕ → Bool
 is_no_blank byte = not (byte == 32)

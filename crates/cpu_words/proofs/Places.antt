@@ -1,14 +1,9 @@
 -- Each word has a place of its own, at whatever limits: a list that has every word has every word after a write of one.
 use Rattle.std.proofs.Common.{◌≡◌, ℕ, zero, suc, subst, ◌<◌, List, length, refl, sym, ap, ◌∙◌, inl, inr, arith, get_or-set_same, get_or-set_other}
+use Rattle.std.proofs.{Math.ListN.{length-set}, lemmas.{List.{length-replicate}, Bool.Decides.{eqb_tells}}}
 use Rattle.std.specs.Prelude.{slice_index, slice_set, replicate}
-use Rattle.std.proofs.Math.ListN.{length-set}
-use Rattle.std.proofs.lemmas.List.{length-replicate}
-use Rattle.std.proofs.lemmas.Bool.Decides.{eqb_tells}
-use Rattle.cpu_words.specs.declared.names.WordName.{WordName}
-use Rattle.cpu_words.specs.declared.names.WordName.TheVariants.{Node}
-use Rattle.cpu_words.specs.Names.{Extents, IsWord, place, words_in_all}
-use Rattle.cpu_words.specs.Words.{Words, put, no_words, opening_words}
-use Rattle.cpu_words.specs.Lists.{AreFew, ListShows, AreOpening}
+use Rattle.cpu_words.specs.{declared.names.WordName.{WordName, TheVariants.{Node}}, Names.{Extents, IsWord, place, words_in_all}}
+use Rattle.cpu_words.specs.{Words.{Words, put, no_words, opening_words}, Lists.{AreFew, ListShows, AreOpening}}
 use Rattle.cpu_words.proofs.Writes.{read_put_same, read_put_other, read_no_words}
 
 -- a list of zeros has 0 at each index, also past its end

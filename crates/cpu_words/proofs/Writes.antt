@@ -1,7 +1,6 @@
 -- What a word has after a write of one.
 use Rattle.std.proofs.Common.{◌≡◌, ℕ, arith}
-use Rattle.cpu_words.specs.declared.names.WordName.{WordName}
-use Rattle.cpu_words.specs.Words.{Words, read, put, no_words}
+use Rattle.cpu_words.specs.{declared.names.WordName.{WordName}, Words.{Words, read, put, no_words}}
 
 -- after a write of a word it has what was written
 pub read_put_same : (w : Words) (name : WordName) (v : ℕ) → read (put w name v) name ≡ v

@@ -1,8 +1,6 @@
 -- All words in one list, each at an index that its place gives.
 use Rattle.std.specs.Prelude.{◌≡◌, ℕ, ◌≤◌, List, length, slice_index}
-use Rattle.cpu_words.specs.declared.names.WordName.{WordName}
-use Rattle.cpu_words.specs.declared.names.WordName.TheVariants.{Node}
-use Rattle.cpu_words.specs.Names.{Extents, IsWord, largest, place}
+use Rattle.cpu_words.specs.{declared.names.WordName.{WordName, TheVariants.{Node}}, Names.{Extents, IsWord, largest, place}}
 use Rattle.cpu_words.specs.Words.{Words, read}
 
 -- there are no more of each than there may be

@@ -1,10 +1,7 @@
 -- Sums over the words of a gate, read one after the other.
 use Rattle.std.specs.Prelude.{ℕ, ◌+◌, ◌%◌, nat_lt, nat_le, if◌then◌else◌, List, length, sum}
 use Rattle.finite_sums.specs.Sums.{total}
-use Rattle.cpu_words.specs.declared.sums.Sum.{Sum}
-use Rattle.cpu_words.specs.declared.sums.Taken.{Taken}
-use Rattle.cpu_words.specs.declared.sums.Taken.TheVariants.{More, Total}
-use Rattle.cpu_words.specs.Touches.{wrap_add}
+use Rattle.cpu_words.specs.{declared.sums.{Sum.{Sum}, Taken.{Taken, TheVariants.{More, Total}}}, Touches.{wrap_add}}
 
 -- what a sum is after one word more, of so many processors
 abbrev pub sum_taking : Sum → ℕ → ℕ → Taken

@@ -1,9 +1,7 @@
 -- What an event does to its word.
 use Rattle.std.specs.Prelude.{ℕ, ◌+◌, ◌-◌, ◌%◌, ◌==◌, if◌then◌else◌, bit_and, bit_or}
-use Rattle.cpu_words.specs.declared.names.WordName.{WordName}
-use Rattle.cpu_words.specs.declared.events.Touch.{Touch}
-use Rattle.cpu_words.specs.declared.events.Touch.TheVariants.{Load, Store, Add, Sub, Or, And, Swap, Cas}
-use Rattle.cpu_words.specs.declared.events.Event.{Event}
+use Rattle.cpu_words.specs.declared.{names.WordName.{WordName}, events.Touch.{Touch}}
+use Rattle.cpu_words.specs.declared.events.{Touch.TheVariants.{Load, Store, Add, Sub, Or, And, Swap, Cas}, Event.{Event}}
 
 -- a sum at 2^64, which is written out so that arithmetic sees the number
 abbrev pub wrap_add : ℕ → ℕ → ℕ

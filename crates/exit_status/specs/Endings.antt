@@ -1,8 +1,6 @@
 -- The endings of replays, and what is read.
-use Rattle.std.specs.Prelude.{◌≡◌, ℕ, List, Option, Some, None, codes}
-use Rattle.std.specs.Borrow.{Bor}
-use Rattle.exit_status.specs.declared.ends.ProgramEnding.{ProgramEnding}
-use Rattle.exit_status.specs.declared.ends.ProgramEnding.TheVariants.{Done, DoneOfFile}
+use Rattle.std.specs.{Prelude.{◌≡◌, ℕ, List, Option, Some, None, codes}, Borrow.{Bor}}
+use Rattle.exit_status.specs.declared.ends.ProgramEnding.{ProgramEnding, TheVariants.{Done, DoneOfFile}}
 
 -- the ending of a replay of a file, where it would be this of standard input
 abbrev pub of_file : ProgramEnding → ProgramEnding

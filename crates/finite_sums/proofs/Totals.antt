@@ -1,8 +1,6 @@
 -- sums below a bound, where one place changes
 use Rattle.std.proofs.Common.{◌≡◌, ℕ, zero, suc, ◌+◌, ◌*◌, ◌%◌, ◌<◌, ◌≤◌, refl, sym, ap, ◌∙◌, subst, inl, inr, arith}
-use Rattle.std.proofs.lemmas.Bool.{eq-eqb, ne_eqb}
-use Rattle.std.proofs.lemmas.Bool.Decides.{eqb_tells}
-use Rattle.std.proofs.Math.Path.{fun_ext}
+use Rattle.std.proofs.{lemmas.Bool.{eq-eqb, ne_eqb, Decides.{eqb_tells}}, Math.Path.{fun_ext}}
 use Rattle.finite_sums.specs.Sums.{update, total}
 
 pub update_at : {A : Type 0} (f : ℕ → A) (t : ℕ) (v : A) → update f t v t ≡ v

@@ -1,9 +1,7 @@
 -- Where an event reads no hook's answer, it is the same for any two answers, and so is what comes after it.
 use Rattle.std.specs.Prelude.{◌≡◌, ℕ, None}
 use Rattle.cpu_words.specs.Hooks.{HookAnswer}
-use Rattle.freeze_levels.specs.declared.freezes.Freeze.{Freeze}
-use Rattle.freeze_levels.specs.declared.thaws.Thaw.{Thaw}
-use Rattle.freeze_levels.specs.Freezes.{freeze_hook, freeze_next, freeze_after}
+use Rattle.freeze_levels.specs.{declared.{freezes.Freeze.{Freeze}, thaws.Thaw.{Thaw}}, Freezes.{freeze_hook, freeze_next, freeze_after}}
 use Rattle.freeze_levels.specs.Thaws.{thaw_hook, thaw_next, thaw_after}
 
 -- the next event of a freeze

@@ -1,27 +1,15 @@
 -- The order of events of a freeze of the superblock: which word an event touches and how, and what comes after it. Two events are decided
 -- by the answer of the file system.
 use Rattle.std.specs.Prelude.{ℕ, ◌+◌, ◌-◌, ◌==◌, if◌then◌else◌, true, Option, Some, None, Ok, Err}
-use Rattle.access_model.specs.declared.actions.Action.{Action}
-use Rattle.access_model.specs.declared.actions.Action.TheVariants.{Stage as StageAction, Hold}
-use Rattle.access_model.specs.declared.actions.Holders.{Holders}
-use Rattle.access_model.specs.declared.errors.GateError.TheVariants.{Busy, Hook}
-use Rattle.access_model.specs.declared.replies.Next.{Next}
-use Rattle.access_model.specs.declared.replies.Next.TheVariants.{Go, Wait, Done}
-use Rattle.access_model.specs.declared.replies.Reply.TheVariants.{Unit as UnitReply}
-use Rattle.access_model.specs.Holders.{nobody, held_by, with_holder}
-use Rattle.cpu_words.specs.declared.names.WordName.{WordName}
-use Rattle.cpu_words.specs.declared.names.WordName.TheVariants.{Umount, Stage, Holders as HoldersWord, SbFlags}
-use Rattle.cpu_words.specs.declared.events.Touch.{Touch}
-use Rattle.cpu_words.specs.declared.events.Touch.TheVariants.{Load, Store, Cas}
-use Rattle.cpu_words.specs.Hooks.{HookAnswer}
-use Rattle.node_words.specs.declared.marks.ClearMarks.{ClearMarks}
-use Rattle.node_words.specs.Phases.{clear_next, clear_after}
-use Rattle.percpu_rwsem.specs.declared.writers.DownWrite.{DownWrite}
-use Rattle.percpu_rwsem.specs.declared.writers.UpWrite.{UpWrite}
+use Rattle.access_model.specs.declared.actions.{Action.{Action, TheVariants.{Stage as StageAction, Hold}}, Holders.{Holders}}
+use Rattle.access_model.specs.declared.{errors.GateError.TheVariants.{Busy, Hook}, replies.Next.{Next, TheVariants.{Go, Wait, Done}}}
+use Rattle.access_model.specs.{declared.replies.Reply.TheVariants.{Unit as UnitReply}, Holders.{nobody, held_by, with_holder}}
+use Rattle.cpu_words.specs.declared.names.WordName.{WordName, TheVariants.{Umount, Stage, Holders as HoldersWord, SbFlags}}
+use Rattle.cpu_words.specs.{declared.events.Touch.{Touch, TheVariants.{Load, Store, Cas}}, Hooks.{HookAnswer}}
+use Rattle.node_words.specs.{declared.marks.ClearMarks.{ClearMarks}, Phases.{clear_next, clear_after}}
+use Rattle.percpu_rwsem.specs.declared.writers.{DownWrite.{DownWrite}, UpWrite.{UpWrite}}
 use Rattle.percpu_rwsem.specs.Writers.{down_write_next, down_write_after, up_write_next, up_write_after}
-use Rattle.freeze_levels.specs.declared.hooks.HookKind.{HookKind}
-use Rattle.freeze_levels.specs.declared.hooks.HookKind.TheVariants.{Sync, FreezeFs}
-use Rattle.freeze_levels.specs.declared.freezes.Freeze.{Freeze}
+use Rattle.freeze_levels.specs.declared.{hooks.HookKind.{HookKind, TheVariants.{Sync, FreezeFs}}, freezes.Freeze.{Freeze}}
 use Rattle.freeze_levels.specs.declared.freezes.FreezeStep.{FreezeStep}
 use Rattle.freeze_levels.specs.declared.freezes.FreezeStep.TheVariants.{
   Locks,
@@ -41,8 +29,7 @@ use Rattle.freeze_levels.specs.declared.freezes.FreezeStep.TheVariants.{
   Reopens,
   Releases,
 }
-use Rattle.freeze_levels.specs.Holders.{word_of, holders_in}
-use Rattle.freeze_levels.specs.Levels.{closing, reopening}
+use Rattle.freeze_levels.specs.{Holders.{word_of, holders_in}, Levels.{closing, reopening}}
 
 -- the hook whose answer a step reads
 abbrev pub freeze_hook : FreezeStep → Option HookKind

@@ -1,9 +1,7 @@
 -- A level that a freeze closes, and one that a failed freeze or a thaw reopens, before its first event.
 use Rattle.std.specs.Prelude.{ℕ}
-use Rattle.percpu_rwsem.specs.declared.transitions.Transition.TheVariants.{Loads}
-use Rattle.percpu_rwsem.specs.declared.writers.DownWrite.{DownWrite}
-use Rattle.percpu_rwsem.specs.declared.writers.DownWriteStep.TheVariants.{Enters}
-use Rattle.percpu_rwsem.specs.declared.writers.UpWrite.{UpWrite}
+use Rattle.percpu_rwsem.specs.declared.{transitions.Transition.TheVariants.{Loads}, writers.DownWrite.{DownWrite}}
+use Rattle.percpu_rwsem.specs.declared.writers.{DownWriteStep.TheVariants.{Enters}, UpWrite.{UpWrite}}
 use Rattle.percpu_rwsem.specs.declared.writers.UpWriteStep.TheVariants.{ClearsBlock}
 
 -- the down-write of a level that begins, among so many tasks and processors

@@ -1,16 +1,10 @@
 -- The order of events of a freeze or a thaw.
 use Rattle.std.specs.Prelude.{ℕ, Option}
-use Rattle.access_model.specs.declared.actions.Action.{Action}
-use Rattle.access_model.specs.declared.replies.Next.{Next}
-use Rattle.access_model.specs.Replies.{map_next}
-use Rattle.cpu_words.specs.declared.names.WordName.{WordName}
-use Rattle.cpu_words.specs.declared.events.Touch.{Touch}
-use Rattle.cpu_words.specs.Hooks.{HookAnswer}
-use Rattle.freeze_levels.specs.declared.hooks.HookKind.{HookKind}
-use Rattle.freeze_levels.specs.declared.phases.FreezePhase.{FreezePhase}
+use Rattle.access_model.specs.{declared.{actions.Action.{Action}, replies.Next.{Next}}, Replies.{map_next}}
+use Rattle.cpu_words.specs.{declared.{names.WordName.{WordName}, events.Touch.{Touch}}, Hooks.{HookAnswer}}
+use Rattle.freeze_levels.specs.declared.{hooks.HookKind.{HookKind}, phases.FreezePhase.{FreezePhase}}
 use Rattle.freeze_levels.specs.declared.phases.FreezePhase.TheVariants.{Freeze as Freezes, Thaw as Thaws}
-use Rattle.freeze_levels.specs.Freezes.{freeze_hook, freeze_next, freeze_after}
-use Rattle.freeze_levels.specs.Thaws.{thaw_hook, thaw_next, thaw_after}
+use Rattle.freeze_levels.specs.{Freezes.{freeze_hook, freeze_next, freeze_after}, Thaws.{thaw_hook, thaw_next, thaw_after}}
 
 -- the hook whose answer the next event reads
 abbrev pub phase_hook : FreezePhase → Option HookKind

@@ -1,25 +1,13 @@
 -- The order of events of a thaw of the superblock: which word an event touches and how, and what comes after it. One event is decided by
 -- the answer of the file system.
 use Rattle.std.specs.Prelude.{ℕ, ◌+◌, ◌-◌, ◌==◌, if◌then◌else◌, false, Option, Some, None, Ok, Err}
-use Rattle.access_model.specs.declared.actions.Action.{Action}
-use Rattle.access_model.specs.declared.actions.Action.TheVariants.{Stage as StageAction, Leave}
-use Rattle.access_model.specs.declared.actions.Holders.{Holders}
-use Rattle.access_model.specs.declared.errors.GateError.TheVariants.{Invalid, Hook}
-use Rattle.access_model.specs.declared.replies.Next.{Next}
-use Rattle.access_model.specs.declared.replies.Next.TheVariants.{Go, Wait, Done}
-use Rattle.access_model.specs.declared.replies.Reply.TheVariants.{Unit as UnitReply}
-use Rattle.access_model.specs.Holders.{held_by, with_holder, is_unheld}
-use Rattle.cpu_words.specs.declared.names.WordName.{WordName}
-use Rattle.cpu_words.specs.declared.names.WordName.TheVariants.{Umount, Stage, Holders as HoldersWord, SbFlags}
-use Rattle.cpu_words.specs.declared.events.Touch.{Touch}
-use Rattle.cpu_words.specs.declared.events.Touch.TheVariants.{Load, Store, Cas}
-use Rattle.cpu_words.specs.Hooks.{HookAnswer}
-use Rattle.percpu_rwsem.specs.declared.writers.UpWrite.{UpWrite}
-use Rattle.percpu_rwsem.specs.Writers.{up_write_next, up_write_after}
-use Rattle.freeze_levels.specs.declared.hooks.HookKind.{HookKind}
-use Rattle.freeze_levels.specs.declared.hooks.HookKind.TheVariants.{UnfreezeFs}
-use Rattle.freeze_levels.specs.declared.thaws.Thaw.{Thaw}
-use Rattle.freeze_levels.specs.declared.thaws.ThawStep.{ThawStep}
+use Rattle.access_model.specs.declared.actions.{Action.{Action, TheVariants.{Stage as StageAction, Leave}}, Holders.{Holders}}
+use Rattle.access_model.specs.declared.{errors.GateError.TheVariants.{Invalid, Hook}, replies.Next.{Next, TheVariants.{Go, Wait, Done}}}
+use Rattle.access_model.specs.{declared.replies.Reply.TheVariants.{Unit as UnitReply}, Holders.{held_by, with_holder, is_unheld}}
+use Rattle.cpu_words.specs.declared.names.WordName.{WordName, TheVariants.{Umount, Stage, Holders as HoldersWord, SbFlags}}
+use Rattle.cpu_words.specs.{declared.events.Touch.{Touch, TheVariants.{Load, Store, Cas}}, Hooks.{HookAnswer}}
+use Rattle.percpu_rwsem.specs.{declared.writers.UpWrite.{UpWrite}, Writers.{up_write_next, up_write_after}}
+use Rattle.freeze_levels.specs.declared.{hooks.HookKind.{HookKind, TheVariants.{UnfreezeFs}}, thaws.{Thaw.{Thaw}, ThawStep.{ThawStep}}}
 use Rattle.freeze_levels.specs.declared.thaws.ThawStep.TheVariants.{
   Locks,
   LoadsStage,
@@ -33,8 +21,7 @@ use Rattle.freeze_levels.specs.declared.thaws.ThawStep.TheVariants.{
   Reopens,
   Releases,
 }
-use Rattle.freeze_levels.specs.Holders.{word_of, holders_in}
-use Rattle.freeze_levels.specs.Levels.{reopening}
+use Rattle.freeze_levels.specs.{Holders.{word_of, holders_in}, Levels.{reopening}}
 
 -- the hook whose answer a step reads
 abbrev pub thaw_hook : ThawStep → Option HookKind

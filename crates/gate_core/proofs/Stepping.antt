@@ -9,20 +9,15 @@ use Rattle.cpu_words.specs.{Hooks.HookAnswer, Names.{IsWord, place}, Touches.{le
 use Rattle.cpu_words.specs.declared.{events.{Event.Event, Touch.Touch}, names.WordName.WordName}
 use Rattle.gate_world.specs.{Accesses.{held_in, accesses_after}, Configs.extents_kept, Fits.{PhaseFits, Fits, ActionFits}}
 use Rattle.gate_world.specs.{Holdings.{Holdings, Agree, held_after}, Views.{held_of, phase_after, view_after}, Work.{next_of, after_of}}
-use Rattle.gate_world.specs.Worlds.{World, after_step, happens, run, opening}
-use Rattle.gate_world.specs.declared.entries.Entry.{TheVariants.{Steps}}
+use Rattle.gate_world.specs.{Worlds.{World, after_step, happens, run, opening}, declared.entries.Entry.TheVariants.{Steps}}
 use Rattle.gate_world.specs.declared.{accesses.Accesses.Accesses, config.Config.Config, views.View.View, work.Phase.Phase}
 use Rattle.gate_schedules.proofs.frames.{Accesses.{holdings_of_after, long_after, wide_after, deep_after, agree_after}, Agreeing.{agree_self, agree_sym}}
 use Rattle.gate_schedules.proofs.{frames.Places.are_few, schedules.{Phases.{word_there, word_placed, action_fits, fits_after, fits_agree}, Runs.run_more}}
 use Rattle.gate_core.proofs.Each.{seat_cases}
-use Rattle.gate_schedules.specs.Answers.{progress_of, step_answer}
+use Rattle.gate_schedules.specs.{Answers.{progress_of, step_answer}, TaskStates.{task_holdings}, declared.task_states.TaskState.{TaskState}}
+use Rattle.gate_schedules.specs.declared.steps.{Progress.{Progress}, Step.{Step}}
 use Rattle.gate_core.specs.Memory.{Memory, Represents, IsSound, no_seat, seat_of}
-use Rattle.gate_schedules.specs.TaskStates.{task_holdings}
-use Rattle.gate_core.specs.Moves.{phase_in, stepped_of, stepped, progress_by, progress_in}
-use Rattle.gate_core.specs.Stepped.{IsStep}
-use Rattle.gate_schedules.specs.declared.task_states.TaskState.{TaskState}
-use Rattle.gate_schedules.specs.declared.steps.Progress.{Progress}
-use Rattle.gate_schedules.specs.declared.steps.Step.{Step}
+use Rattle.gate_core.specs.{Moves.{phase_in, stepped_of, stepped, progress_by, progress_in}, Stepped.{IsStep}}
 
 module _ (memory : Memory) (sound : IsSound memory) (t : ℕ) (lt : t < memory.config.tasks) (phase : Phase)
     (is : (seat_of memory t).phase ≡ Some phase) (hook : HookAnswer) where

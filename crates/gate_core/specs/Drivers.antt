@@ -1,13 +1,10 @@
 -- What a driver answers of a word, and what the core shows of a world.
 use Rattle.std.specs.Prelude.{◌≡◌, ℕ, Bool, true, ◌&&◌, List, Option, Some, None, nat_lt, nat_le, if◌then◌else◌, slice_get, slice_index}
-use Rattle.cpu_words.specs.declared.names.WordName.{WordName}
-use Rattle.cpu_words.specs.declared.names.WordRow.{WordRow}
+use Rattle.cpu_words.specs.declared.names.{WordName.{WordName}, WordRow.{WordRow}}
 use Rattle.cpu_words.specs.declared.names.WordRow.TheVariants.{OfAll, OfMount, CountOfMount, OfLevel, CountOfLevel, OfTask, OfNode}
 use Rattle.cpu_words.specs.Names.{Extents, row, place}
 use Rattle.gate_core.specs.Memory.{Memory, Represents}
-use Rattle.gate_world.specs.Configs.{IsWithin, extents_of}
-use Rattle.gate_world.specs.Worlds.{World}
-use Rattle.gate_world.specs.declared.config.Config.{Config}
+use Rattle.gate_world.specs.{Configs.{IsWithin, extents_of}, Worlds.{World}, declared.config.Config.{Config}}
 
 -- whether there is that word
 abbrev pub has_row : Extents → WordRow → Bool

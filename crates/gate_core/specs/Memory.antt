@@ -1,16 +1,9 @@
 -- The core in memory: a list of words and one seat per task, and the world that they show.
 use Rattle.std.specs.Prelude.{◌≡◌, ℕ, ◌<◌, None, List, [], length, slice_index, slice_index_or}
-use Rattle.cpu_words.specs.declared.names.WordName.{WordName}
-use Rattle.cpu_words.specs.Names.{IsWord, place, words_in_all}
-use Rattle.cpu_words.specs.Words.{read}
-use Rattle.gate_world.specs.declared.config.Config.{Config}
-use Rattle.gate_world.specs.Configs.{IsWithin, extents_kept}
-use Rattle.gate_world.specs.{Holdings.Agree, Views.held_of}
-use Rattle.gate_world.specs.Worlds.{World, run, opening}
-use Rattle.gate_world.specs.declared.entries.Entry.{Entry}
-use Rattle.gate_world.specs.Fits.{Fits}
-use Rattle.gate_schedules.specs.declared.task_states.TaskState.{TaskState}
-use Rattle.gate_schedules.specs.TaskStates.{task_holdings}
+use Rattle.cpu_words.specs.{declared.names.WordName.{WordName}, Names.{IsWord, place, words_in_all}, Words.{read}}
+use Rattle.gate_world.specs.{declared.config.Config.{Config}, Configs.{IsWithin, extents_kept}, Holdings.{Agree}, Views.{held_of}}
+use Rattle.gate_world.specs.{Worlds.{World, run, opening}, declared.entries.Entry.{Entry}, Fits.{Fits}}
+use Rattle.gate_schedules.specs.{declared.task_states.TaskState.{TaskState}, TaskStates.{task_holdings}}
 
 -- the fields of the core
 pub record Memory : Type 0 where

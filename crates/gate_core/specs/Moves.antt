@@ -5,9 +5,7 @@ use Rattle.cpu_words.specs.{Hooks.HookAnswer, Names.place, Touches.{left, found_
 use Rattle.freeze_levels.specs.declared.hooks.HookKind.{HookKind}
 use Rattle.gate_world.specs.{Accesses.accesses_after, Beginnings.{first_phase, refusal}, Views.phase_after, Work.{next_of, after_of}}
 use Rattle.gate_world.specs.declared.{operations.Op.Op, work.Phase.Phase}
-use Rattle.gate_schedules.specs.Answers.{progress_of, asked_by}
-use Rattle.gate_schedules.specs.TaskStates.{task_holdings}
-use Rattle.gate_schedules.specs.declared.steps.Progress.{Progress}
+use Rattle.gate_schedules.specs.{Answers.{progress_of, asked_by}, TaskStates.{task_holdings}, declared.steps.Progress.{Progress}}
 use Rattle.gate_schedules.specs.declared.steps.Progress.TheVariants.{Idle}
 use Rattle.gate_core.specs.Memory.{Memory, seat_of}
 

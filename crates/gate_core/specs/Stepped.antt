@@ -1,12 +1,9 @@
 -- What the core's step is, as one fact.
 use Rattle.std.specs.Prelude.{◌≡◌, ℕ}
 use Rattle.cpu_words.specs.Hooks.{HookAnswer}
-use Rattle.gate_world.specs.Worlds.{World, happens}
-use Rattle.gate_world.specs.declared.entries.Entry.{TheVariants.{Steps}}
-use Rattle.gate_schedules.specs.Answers.{step_answer}
-use Rattle.gate_core.specs.Memory.{Memory, Represents}
-use Rattle.gate_core.specs.Moves.{stepped, progress_in}
-use Rattle.gate_schedules.specs.declared.steps.Step.{Step}
+use Rattle.gate_world.specs.{Worlds.{World, happens}, declared.entries.Entry.TheVariants.{Steps}}
+use Rattle.gate_schedules.specs.{Answers.{step_answer}, declared.steps.Step.{Step}}
+use Rattle.gate_core.specs.{Memory.{Memory, Represents}, Moves.{stepped, progress_in}}
 
 -- A task's next event makes the second memory of the first: it is that of the task's phase, shows what the entry makes of each world that
 -- the first one shows, and is told as it is of that world.

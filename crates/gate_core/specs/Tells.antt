@@ -1,19 +1,11 @@
 -- A law of drivers, of the core: what it tells of a word is its value in the world which it shows.
-use Rattle.std.specs.Prelude.{◌≡◌, ℕ, Bool, true, Option, Some, None, if◌then◌else◌, slice_index}
-use Rattle.std.proofs.Common.{refl, sym, ap, subst, ◌∙◌}
-use Rattle.std.proofs.lemmas.Bool.{lt-ltb, le-leb}
-use Rattle.std.proofs.Math.Nat.{le_trans}
-use Rattle.std.specs.Cmp.Derive.{both_true}
-use Rattle.cpu_words.specs.declared.names.WordName.{WordName}
-use Rattle.cpu_words.specs.declared.names.WordRow.{WordRow}
+use Rattle.std.specs.{Prelude.{◌≡◌, ℕ, Bool, true, Option, Some, None, if◌then◌else◌, slice_index}, Cmp.Derive.{both_true}}
+use Rattle.std.proofs.{Common.{refl, sym, ap, subst, ◌∙◌}, lemmas.Bool.{lt-ltb, le-leb}, Math.Nat.{le_trans}}
+use Rattle.cpu_words.specs.declared.names.{WordName.{WordName}, WordRow.{WordRow}}
 use Rattle.cpu_words.specs.declared.names.WordRow.TheVariants.{OfAll, OfMount, CountOfMount, OfLevel, CountOfLevel, OfTask, OfNode}
-use Rattle.cpu_words.specs.Names.{Extents, HasRow, IsWord, row, place}
-use Rattle.cpu_words.specs.Words.{read}
-use Rattle.gate_core.specs.Memory.{Memory}
-use Rattle.gate_world.specs.Configs.{IsWithin, extents_of, extents_kept}
-use Rattle.gate_world.specs.Worlds.{World}
-use Rattle.gate_world.specs.declared.config.Config.{Config}
-use Rattle.gate_core.specs.Drivers.{has_row, core_word, CoreShows}
+use Rattle.cpu_words.specs.{Names.{Extents, HasRow, IsWord, row, place}, Words.{read}}
+use Rattle.gate_core.specs.{Memory.{Memory}, Drivers.{has_row, core_word, CoreShows}}
+use Rattle.gate_world.specs.{Configs.{IsWithin, extents_of, extents_kept}, Worlds.{World}, declared.config.Config.{Config}}
 
 -- the test finds a word that there is
 found : (e : Extents) (r : WordRow) → HasRow e r → has_row e r ≡ true

@@ -2,21 +2,13 @@
 use Rattle.std.proofs.Common.{◌≡◌, ℕ, suc, ◌+◌, ◌-◌, refl, subst, sym, ◌∙◌, arith, inl, inr}
 use Rattle.std.specs.Prelude.{◌⊎◌, Result, Ok, Err, IfErr, IfOk}
 use Rattle.access_model.specs.declared.errors.GateError.{GateError}
-use Rattle.run_plans.specs.declared.counts.Remounts.{Remounts}
-use Rattle.run_plans.specs.declared.counts.Writes.{Writes}
-use Rattle.run_plans.specs.declared.plans.Plan.{Plan}
-use Rattle.run_rounds.specs.Counts.{both}
-use Rattle.run_rounds.specs.Keeping.{ThawsNothing}
-use Rattle.run_rounds.specs.Observers.{was_held}
-use Rattle.gate_runs.specs.Refusals.{RunRefused}
-use Rattle.gate_runs.specs.declared.threads.Met.{Met}
-use Rattle.gate_runs.specs.declared.threads.Met.TheVariants.{Remounter, Writer}
+use Rattle.run_plans.specs.declared.{counts.{Remounts.{Remounts}, Writes.{Writes}}, plans.Plan.{Plan}}
+use Rattle.run_rounds.specs.{Counts.{both}, Keeping.{ThawsNothing}, Observers.{was_held}}
+use Rattle.gate_runs.specs.{Refusals.{RunRefused}, declared.threads.Met.{Met, TheVariants.{Remounter, Writer}}}
 use Rattle.gate_runs.specs.Homes.{ComesHome, DoesRounds, IsReady, NeverThawed, TaskShare, TookBack, with_met}
 use Rattle.gate_runs.specs.Parts.{Among, Remounted, Wrote, AllWrote}
 use Rattle.gate_runs.proofs.Staying.{all_wrote_before, all_wrote_on, remounted_on, remounter_part, writer_part}
-use Rattle.vfs_gates.specs.declared.Gates.{Gates}
-use Rattle.vfs_gates.specs.Splitting.{HasBegun}
-use Rattle.vfs_gates.specs.TaskStates.{SeatedTask}
+use Rattle.vfs_gates.specs.{declared.Gates.{Gates}, Splitting.{HasBegun}, TaskStates.{SeatedTask}}
 
 -- a task that thaws nothing comes back with its number
 pub comes_back : (gates : Gates) (plan : Plan) (number : ℕ) (first last : SeatedTask) → IsReady gates plan number first → ThawsNothing first last →

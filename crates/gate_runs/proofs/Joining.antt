@@ -2,18 +2,12 @@
 use Rattle.std.proofs.Common.{◌≡◌, ℕ, zero, suc, ◌+◌, ◌<◌, ◌≤◌, false, List, [], ◌∷◌, ◌++◌, length, refl, sym, ◌∙◌, subst, inl, inr, arith}
 use Rattle.std.proofs.lemmas.Bool.Decides.{eqb_tells}
 use Rattle.access_model.specs.declared.actions.Holder.TheVariants.{User}
-use Rattle.gate_world.specs.declared.config.Config.{Config}
-use Rattle.gate_world.specs.declared.views.View.{View}
-use Rattle.vfs_gates.specs.Frozen.{NeverThaws}
-use Rattle.vfs_gates.specs.Grown.{StaySeen}
-use Rattle.vfs_gates.proofs.Grown.{both_stay_seen, same_stays_seen, stays_seen_on}
-use Rattle.vfs_gates.proofs.Rounds.{own_times, times-append}
+use Rattle.gate_world.specs.declared.{config.Config.{Config}, views.View.{View}}
+use Rattle.vfs_gates.specs.{Frozen.{NeverThaws}, Grown.{StaySeen}, Ended.{EndedWith, HasAll}}
+use Rattle.vfs_gates.specs.{Seating.{DealtNumbers, HaveViews, one_if, times}, TaskStates.{SeatedTask, own_number, spare_of}}
+use Rattle.vfs_gates.proofs.{Grown.{both_stay_seen, same_stays_seen, stays_seen_on}, Rounds.{own_times, times-append}}
 use Rattle.vfs_gates.proofs.FrozenUntilThawed.{stands}
-use Rattle.vfs_gates.specs.Ended.{EndedWith, HasAll}
-use Rattle.run_rounds.specs.Keeping.{HaveNotThawed}
-use Rattle.run_rounds.specs.Refusals.{FoundThawed}
-use Rattle.vfs_gates.specs.Seating.{DealtNumbers, HaveViews, one_if, times}
-use Rattle.vfs_gates.specs.TaskStates.{SeatedTask, own_number, spare_of}
+use Rattle.run_rounds.specs.{Keeping.{HaveNotThawed}, Refusals.{FoundThawed}}
 use Rattle.gate_runs.specs.Homes.{HasBack, NeverThawed, TookBack}
 
 have_not_both : (a b : DealtNumbers) → HaveNotThawed a → HaveNotThawed b → HaveNotThawed (a ++ b)

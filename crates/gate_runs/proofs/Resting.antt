@@ -1,10 +1,7 @@
 -- Tasks at rest: one that begins, and one that takes back the numbers of another.
 use Rattle.std.proofs.Common.{◌≡◌, ℕ, ◌≤◌, List, [], ◌∷◌, ◌++◌, length, refl, ap, sym, subst, ◌∙◌, arith}
-use Rattle.access_model.specs.declared.actions.Action.{Action}
-use Rattle.access_model.specs.Histories.{mounts_of, levels_of, opens_of}
-use Rattle.vfs_gates.specs.TaskStates.{SeatedTask, IsIdle, HoldsNothing, own_view}
-use Rattle.vfs_gates.specs.Splitting.{HasBegun}
-use Rattle.vfs_gates.specs.Seating.{DealtNumbers}
+use Rattle.access_model.specs.{declared.actions.Action.{Action}, Histories.{mounts_of, levels_of, opens_of}}
+use Rattle.vfs_gates.specs.{TaskStates.{SeatedTask, IsIdle, HoldsNothing, own_view}, Splitting.{HasBegun}, Seating.{DealtNumbers}}
 use Rattle.vfs_gates.specs.Held.{Rests}
 
 -- a task that is idle and has done nothing rests

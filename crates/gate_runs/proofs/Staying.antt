@@ -1,18 +1,12 @@
 -- What a task is among others in the end.
 use Rattle.std.proofs.Common.{◌≡◌, ℕ, suc, ◌+◌, ◌-◌, ◌≤◌, List, [], ◌∷◌, ◌++◌, length, refl, ap, sym, subst, ◌∙◌, arith, inl, inr}
 use Rattle.gate_world.specs.declared.views.View.{View}
-use Rattle.vfs_gates.specs.Seating.{DealtNumbers, HaveViews, numbered, times}
-use Rattle.vfs_gates.specs.TaskStates.{SeatedTask, own_number, own_view}
-use Rattle.run_plans.specs.declared.counts.Details.{Details}
-use Rattle.run_plans.specs.declared.counts.Remounts.{Remounts}
-use Rattle.run_plans.specs.declared.counts.Writes.{Writes}
-use Rattle.run_rounds.specs.Counts.{both, no_remounts, no_writes, remounts_of}
-use Rattle.run_rounds.specs.Keeping.{KeepsNumbers}
-use Rattle.run_rounds.specs.Observers.{was_held}
-use Rattle.run_rounds.specs.Rounds.{Repeats, RemountRound, WriterRound}
+use Rattle.vfs_gates.specs.{Seating.{DealtNumbers, HaveViews, numbered, times}, TaskStates.{SeatedTask, own_number, own_view}}
 use Rattle.vfs_gates.specs.Splitting.{Gives, HasBegun, HaveDoneNothing}
-use Rattle.gate_runs.specs.Homes.{TookBack}
-use Rattle.gate_runs.specs.Parts.{EachFrom, Among, EndsAs, Remounted, Wrote, AllWrote, AllDid}
+use Rattle.run_plans.specs.declared.counts.{Details.{Details}, Remounts.{Remounts}, Writes.{Writes}}
+use Rattle.run_rounds.specs.{Counts.{both, no_remounts, no_writes, remounts_of}, Keeping.{KeepsNumbers}, Observers.{was_held}}
+use Rattle.run_rounds.specs.Rounds.{Repeats, RemountRound, WriterRound}
+use Rattle.gate_runs.specs.{Homes.{TookBack}, Parts.{EachFrom, Among, EndsAs, Remounted, Wrote, AllWrote, AllDid}}
 use Rattle.run_rounds.proofs.Keeping.{remounts_thaw_none, writes_thaw_none}
 
 -- who stands among these does so among more

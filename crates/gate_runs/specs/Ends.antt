@@ -1,15 +1,10 @@
 -- How the threads of a run end.
 use Rattle.std.specs.Prelude.{◌≡◌, ℕ, ◌⊎◌, Result, IfErr, IfOk}
 use Rattle.access_model.specs.declared.errors.GateError.{GateError}
-use Rattle.run_plans.specs.declared.counts.Details.{Details}
-use Rattle.run_plans.specs.declared.plans.Plan.{Plan}
-use Rattle.vfs_gates.specs.declared.Gates.{Gates}
-use Rattle.vfs_gates.specs.Ended.{HasAll}
-use Rattle.run_rounds.specs.Keeping.{HaveNotThawed}
-use Rattle.gate_runs.specs.Refusals.{RunRefused}
-use Rattle.run_rounds.specs.Refusals.{FoundThawed}
-use Rattle.vfs_gates.specs.TaskStates.{IsFrom, SeatedTask, spare_of}
-use Rattle.gate_runs.specs.Parts.{AllDid, Among}
+use Rattle.run_plans.specs.declared.{counts.Details.{Details}, plans.Plan.{Plan}}
+use Rattle.vfs_gates.specs.{declared.Gates.{Gates}, Ended.{HasAll}, TaskStates.{IsFrom, SeatedTask, spare_of}}
+use Rattle.run_rounds.specs.{Keeping.{HaveNotThawed}, Refusals.{FoundThawed}}
+use Rattle.gate_runs.specs.{Refusals.{RunRefused}, Parts.{AllDid, Among}}
 
 -- All tasks were joined, whatever they met. The task that took them back is from these gates, rests and has all numbers, and none of the others has
 -- thawed. Each has done its part; or a call was refused so, or the backup found thawed what it had frozen.

@@ -1,24 +1,12 @@
 -- What the task of a thread comes home with: the remounter, which has number 1, and each writer.
 use Rattle.std.specs.Prelude.{◌≡◌, ℕ, ◌+◌, ◌<◌, ◌≤◌, ◌++◌, Result, IfErr, IfOk, length}
 use Rattle.access_model.specs.declared.errors.GateError.{GateError}
-use Rattle.run_plans.specs.Plans.{run_config}
-use Rattle.run_plans.specs.declared.plans.Plan.{Plan}
-use Rattle.run_plans.specs.declared.counts.Remounts.{Remounts}
-use Rattle.run_plans.specs.declared.counts.Writes.{Writes}
-use Rattle.run_rounds.specs.Counts.{both, no_remounts, no_writes}
-use Rattle.run_rounds.specs.Keeping.{HaveNotThawed}
-use Rattle.run_rounds.specs.Observers.{was_held}
-use Rattle.run_rounds.specs.Refusals.{MetBy}
+use Rattle.run_plans.specs.{Plans.{run_config}, declared.{plans.Plan.{Plan}, counts.{Remounts.{Remounts}, Writes.{Writes}}}}
+use Rattle.run_rounds.specs.{Counts.{both, no_remounts, no_writes}, Keeping.{HaveNotThawed}, Observers.{was_held}, Refusals.{MetBy}}
 use Rattle.run_rounds.specs.Rounds.{RemountRound, Repeats, WriterRound}
-use Rattle.gate_runs.specs.declared.threads.Met.{Met}
-use Rattle.gate_runs.specs.declared.threads.Met.TheVariants.{Remounter, Writer}
-use Rattle.gate_runs.specs.Parts.{Remounted, Wrote}
-use Rattle.vfs_gates.specs.Held.{Rests}
-use Rattle.vfs_gates.specs.declared.Gates.{Gates}
-use Rattle.vfs_gates.specs.Seating.{times}
-use Rattle.vfs_gates.specs.Splitting.{HasBegun}
-use Rattle.vfs_gates.specs.TaskStates.{IsFrom, SeatedTask, own_number, spare_of}
-use Rattle.vfs_gates.specs.Grown.{StaySeen}
+use Rattle.gate_runs.specs.{declared.threads.Met.{Met, TheVariants.{Remounter, Writer}}, Parts.{Remounted, Wrote}}
+use Rattle.vfs_gates.specs.{Held.{Rests}, declared.Gates.{Gates}, Seating.{times}, Splitting.{HasBegun}}
+use Rattle.vfs_gates.specs.{TaskStates.{IsFrom, SeatedTask, own_number, spare_of}, Grown.{StaySeen}}
 
 -- all rounds of the task with this number, and nothing else, which met this
 abbrev pub DoesRounds : (ℕ → ℕ → Type 0) → ℕ → ℕ → ℕ → SeatedTask → SeatedTask → Met → Type 0

@@ -1,16 +1,10 @@
 -- What each task of a run has done, from where it began, and how it stands at the end.
 use Rattle.std.specs.Prelude.{◌≡◌, ℕ, suc, ◌+◌, ◌-◌, ◌⊎◌, List, [], ◌∷◌, length}
 use Rattle.gate_world.specs.declared.views.View.{View}
-use Rattle.vfs_gates.specs.Seating.{DealtNumbers, numbered}
-use Rattle.vfs_gates.specs.TaskStates.{SeatedTask, own_number, own_view}
-use Rattle.run_plans.specs.declared.counts.Copies.{Copies}
-use Rattle.run_plans.specs.declared.counts.Details.{Details}
-use Rattle.run_plans.specs.declared.counts.Remounts.{Remounts}
-use Rattle.run_plans.specs.declared.counts.Writes.{Writes}
-use Rattle.run_rounds.specs.Counts.{all_writes, no_copies, no_remounts, no_writes, remounts_of}
-use Rattle.run_rounds.specs.Observers.{was_frozen, was_held}
+use Rattle.vfs_gates.specs.{Seating.{DealtNumbers, numbered}, TaskStates.{SeatedTask, own_number, own_view}, Splitting.{HasBegun}}
+use Rattle.run_plans.specs.declared.counts.{Copies.{Copies}, Details.{Details}, Remounts.{Remounts}, Writes.{Writes}}
+use Rattle.run_rounds.specs.{Counts.{all_writes, no_copies, no_remounts, no_writes, remounts_of}, Observers.{was_frozen, was_held}}
 use Rattle.run_rounds.specs.Rounds.{Repeats, CreatesFiles, RemountRound, WriterRound, BackupRound}
-use Rattle.vfs_gates.specs.Splitting.{HasBegun}
 
 -- each of a list, by its number from this one on
 abbrev pub EachFrom : {A : Type 0} → (ℕ → A → Type 0) → ℕ → List A → Type 0

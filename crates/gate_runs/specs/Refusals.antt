@@ -1,7 +1,6 @@
 -- Why a run is refused whose numbers are within their limits.
 use Rattle.std.specs.Prelude.{◌≡◌, ℕ, ◌⊎◌}
-use Rattle.access_model.specs.declared.errors.GateError.{GateError}
-use Rattle.access_model.specs.declared.errors.GateError.TheVariants.{NoMemory}
+use Rattle.access_model.specs.declared.errors.GateError.{GateError, TheVariants.{NoMemory}}
 use Rattle.gate_world.specs.declared.config.Config.{Config}
 use Rattle.run_rounds.specs.Refusals.{MetBy}
 

@@ -1,10 +1,7 @@
 -- What a run tells of its gates once they are closed.
 use Rattle.std.specs.Prelude.{◌≡◌, ℕ, ◌*◌, slice_index}
-use Rattle.cpu_words.specs.Names.{place, stride}
-use Rattle.cpu_words.specs.declared.names.WordName.TheVariants.{Used}
-use Rattle.run_plans.specs.declared.counts.Totals.{Totals}
-use Rattle.run_plans.specs.Plans.{run_config}
-use Rattle.run_plans.specs.declared.counts.Details.{Details}
+use Rattle.cpu_words.specs.{Names.{place, stride}, declared.names.WordName.TheVariants.{Used}}
+use Rattle.run_plans.specs.{declared.counts.{Totals.{Totals}, Details.{Details}}, Plans.{run_config}}
 use Rattle.gate_runs.specs.Parts.{AllDid, EndsAs}
 use Rattle.vfs_gates.specs.Ended.{Ended, ClosedState}
 

@@ -1,20 +1,11 @@
 -- What the core's calls answer, in the world that its memory shows.
 use Rattle.std.specs.Prelude.{ℕ, nat_lt, if◌then◌else◌, Option, Some, None, Result}
-use Rattle.access_model.specs.declared.errors.GateError.{GateError}
-use Rattle.access_model.specs.declared.replies.Next.{Next}
-use Rattle.access_model.specs.declared.replies.Next.TheVariants.{Go, Wait, Done}
-use Rattle.cpu_words.specs.Touches.{event_of}
-use Rattle.cpu_words.specs.Hooks.{HookAnswer}
+use Rattle.access_model.specs.declared.{errors.GateError.{GateError}, replies.Next.{Next, TheVariants.{Go, Wait, Done}}}
+use Rattle.cpu_words.specs.{Touches.{event_of}, Hooks.{HookAnswer}}
 use Rattle.freeze_levels.specs.declared.hooks.HookKind.{HookKind}
-use Rattle.gate_world.specs.declared.config.Config.{Config}
-use Rattle.gate_world.specs.declared.operations.Op.{Op}
-use Rattle.gate_world.specs.declared.work.Phase.{Phase}
-use Rattle.gate_world.specs.Beginnings.{or_refusal}
-use Rattle.gate_world.specs.Work.{next_of, after_of, hook_of}
-use Rattle.gate_world.specs.Worlds.{World, begin_refusal, value_at, found_at}
-use Rattle.gate_schedules.specs.declared.steps.Progress.{Progress}
-use Rattle.gate_schedules.specs.declared.steps.Progress.TheVariants.{Idle, Going, Waiting, Done as Ended}
-use Rattle.gate_schedules.specs.declared.steps.Step.{Step}
+use Rattle.gate_world.specs.{declared.{config.Config.{Config}, operations.Op.{Op}, work.Phase.{Phase}}, Beginnings.{or_refusal}}
+use Rattle.gate_world.specs.{Work.{next_of, after_of, hook_of}, Worlds.{World, begin_refusal, value_at, found_at}}
+use Rattle.gate_schedules.specs.declared.steps.{Progress.{Progress, TheVariants.{Idle, Going, Waiting, Done as Ended}}, Step.{Step}}
 
 -- the refusal, where there is one
 abbrev pub unless_refused : Option GateError → Result (Unit {0}) GateError

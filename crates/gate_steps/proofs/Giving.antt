@@ -2,28 +2,23 @@
 use Rattle.std.specs.Prelude.{Option, Some, None}
 use Rattle.gate_world.specs.{Moments.HasMoment, Owners.KnowsWords, Rules.{IsGood, Part, Owner, Fitting, AtMount, Holds, owns, Known, Stages, Holding, Tree}}
 use Rattle.gate_world.specs.{Rules.{Files, AtLevel, SyncAt, Sections}, Trees.tree_role_of, Worlds.World, declared.{config.Config.Config, views.View.View}}
-use Rattle.gate_world.specs.declared.{views.Traced.Traced, work.Phase.Phase}
+use Rattle.gate_world.specs.declared.{views.Traced.{Traced}, work.Phase.{Phase}, entries.Entry.{Entry}}
 use Rattle.std.proofs.Common.{◌≡◌, ℕ, zero, suc, ◌+◌, ◌<◌, ◌≤◌, ◌≢◌, ◌⊎◌, cond, eqb, List, [], ◌∷◌, ◌++◌, set, sym, refl, ap, ◌∙◌, subst, inl, inr, ⊎_elim}
-use Rattle.std.proofs.Common.{arith, eq-eqb, ne_eqb}
-use mathlib.Core.Logic.{dite}
-use mathlib.Core.Option.{some, some-injective, some-ne-none}
-use native.Mathlib.Decide.{ℕ_discrete}
+use Rattle.std.proofs.{Common.{arith, eq-eqb, ne_eqb, map}, lemmas.List.{map-set, map-append}}
+use mathlib.Core.{Logic.{dite}, Option.{some, some-injective, some-ne-none}}
+use native.Mathlib.Decide.{ℕ_discrete, dec_le}
 use lib.ListN.{get_elem?}
 use Rattle.finite_sums.specs.Sums.{update}
 use Rattle.finite_sums.proofs.Totals.{update_at, update_off, each_updated}
 use Rattle.access_model.specs.Histories.{own_part}
 use Rattle.atomic_table.specs.Table.{Splits, Joins}
 use Rattle.atomic_table.proofs.Lists.{at_set, at_snoc, at_map, at_longer, set_else}
-use Rattle.std.proofs.Common.{map}
-use Rattle.std.proofs.lemmas.List.{map-set, map-append}
-use native.Mathlib.Decide.{dec_le}
-use Rattle.gate_world.specs.declared.entries.Entry.{Entry}
 use Rattle.gate_steps.specs.declared.seating.Knowledge.{Knowledge}
 use Rattle.gate_steps.specs.Seating.{knows, items_of, HaveSeen, known_kept, known_given, known_both}
-use Rattle.cpu_words.specs.Words.{Words}
-use Rattle.gate_schedules.proofs.frames.Frames.{left_alone, shown_still}
 use Rattle.gate_steps.specs.{Histories.HasHistory, Seating.{DealtNumbers, numbered, one_if, times, times_all, HaveViews, Dealt, without, view_in, renewed}}
 use Rattle.gate_steps.specs.{Seating.{given_of, Spares, trace_kept}, declared.seating.Numbered.Numbered}
+use Rattle.cpu_words.specs.Words.{Words}
+use Rattle.gate_schedules.proofs.frames.Frames.{left_alone, shown_still}
 use Rattle.gate_steps.proofs.{Dealing.{one_if-same, one_if-other, times-append, times_all-set, times_all-one, times_all-snoc, known, apart}, TableSimulation.holds}
 use Rattle.gate_steps.proofs.Reaching.{renewed_reached}
 

@@ -1,15 +1,13 @@
 -- The schedule goes on from what each seat has seen.
 use Rattle.std.proofs.Common.{◌≡◌, ℕ, zero, suc, ◌≤◌, List, [], ◌∷◌, ◌++◌, map, set, sym, refl, ap, ◌∙◌, subst, ⊎_elim, arith}
-use Rattle.std.specs.Prelude.{Option, Some, None}
 use Rattle.std.proofs.lemmas.List.{append_assoc, append-nil}
+use Rattle.std.specs.Prelude.{Option, Some, None}
 use mathlib.Core.Option.{some, some-injective, some-ne-none}
 use lib.ListN.{get_elem?}
 use Rattle.atomic_table.proofs.Lists.{at_set, at_map}
 use Rattle.cpu_words.specs.Hooks.{HookAnswer}
-use Rattle.gate_world.specs.declared.entries.Entry.{Entry, TheVariants.{Begins, Steps}}
-use Rattle.gate_world.specs.declared.{operations.Op.Op, views.View.View}
-use Rattle.gate_steps.specs.declared.seating.{Numbered.Numbered, Knowledge.Knowledge}
-use Rattle.gate_steps.specs.Histories.{then_begins, then_steps}
+use Rattle.gate_world.specs.declared.{entries.Entry.{Entry, TheVariants.{Begins, Steps}}, operations.Op.{Op}, views.View.{View}}
+use Rattle.gate_steps.specs.{declared.seating.{Numbered.{Numbered}, Knowledge.{Knowledge}}, Histories.{then_begins, then_steps}}
 use Rattle.gate_steps.specs.Seating.{DealtNumbers, knows, items_of, times, NoneOf, IsPrefix, HaveSeen, Dealt}
 use Rattle.gate_steps.proofs.Dealing.{times-at, times_all-two, known}
 

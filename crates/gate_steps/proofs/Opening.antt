@@ -1,24 +1,17 @@
 -- The table as it begins: the words of an opening, and one seat with all numbers.
 use Rattle.std.proofs.Common.{◌≡◌, ℕ, zero, suc, ◌+◌, ◌<◌, ◌≤◌, eqb, List, [], ◌∷◌, sym, refl, ap, ◌∙◌, subst, arith}
-use mathlib.Core.Logic.{dite}
-use mathlib.Core.Option.{some, some-injective, some-ne-none}
+use mathlib.Core.{Logic.{dite}, Option.{some, some-injective, some-ne-none}}
 use native.Mathlib.Decide.{ℕ_discrete}
 use lib.ListN.{get_elem?}
-use Rattle.cpu_words.specs.Words.{opening_words}
-use Rattle.cpu_words.specs.Lists.{AreOpening}
+use Rattle.cpu_words.specs.{Words.{opening_words}, Lists.{AreOpening}}
 use Rattle.cpu_words.proofs.Places.{opening_listed}
-use Rattle.gate_world.specs.declared.config.Config.{Config}
-use Rattle.gate_world.specs.Configs.{IsWithin, extents_kept}
-use Rattle.gate_world.specs.Views.{opening_view}
-use Rattle.gate_world.specs.Worlds.{opening}
+use Rattle.gate_world.specs.{declared.config.Config.{Config}, Configs.{IsWithin, extents_kept}, Views.{opening_view}, Worlds.{opening}}
 use Rattle.gate_schedules.proofs.{frames.Places.are_few, schedules.Schedule.{opening_good, opening_shown}}
 use Rattle.gate_steps.specs.declared.seating.Numbered.{Numbered}
 use Rattle.gate_steps.specs.Seating.{DealtNumbers, numbered, one_if, times, knows, HaveViews, HaveSeen, deal}
 use Rattle.gate_steps.specs.Rules.{table_index, table_length, TableShows, TableInvariantHolds, first_items, first_known}
 use Rattle.gate_steps.specs.declared.seating.Knowledge.{Knowledge}
-use Rattle.gate_steps.proofs.Dealing.{one_if-same, one_if-other}
-use Rattle.gate_steps.proofs.TableWords.{apart}
-use Rattle.gate_steps.proofs.{Growing.seen_now, Reaching.opening_reached}
+use Rattle.gate_steps.proofs.{Dealing.{one_if-same, one_if-other}, TableWords.{apart}, Growing.{seen_now}, Reaching.{opening_reached}}
 
 -- numbers below those that are dealt stand nowhere
 pub times-deal_below : (m from k : ℕ) → m < from → times m (deal from k) ≡ 0

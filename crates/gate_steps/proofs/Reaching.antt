@@ -1,6 +1,5 @@
 -- What some schedule makes of the opening, a table's world is again after each beginning, event and gift of a number.
-use Rattle.std.proofs.Common.{arith}
-use Rattle.std.proofs.{Common.{◌≡◌, ℕ, ◌<◌, [], ◌∷◌, ◌++◌, refl, sym, ap, ◌∙◌, subst}, lemmas.Bool.{lt-ltb}}
+use Rattle.std.proofs.{Common.{arith, ◌≡◌, ℕ, ◌<◌, [], ◌∷◌, ◌++◌, refl, sym, ap, ◌∙◌, subst}, lemmas.Bool.{lt-ltb}}
 use Rattle.std.specs.Prelude.{is_some, Some, None, List}
 use Rattle.finite_sums.specs.Sums.{update}
 use Rattle.finite_sums.proofs.Totals.{each_updated}

@@ -1,17 +1,27 @@
 -- No event stores into the word of a node or a sync word, so what it finds there is what the word held.
-use Rattle.std.proofs.Common.{arith}
-use Rattle.std.proofs.Common.{ℕ}
+use Rattle.std.proofs.Common.{arith, ℕ}
 use Rattle.std.specs.Prelude.{Ok, Err}
-use Rattle.mount_counts.specs.declared.phases.MountPhase.TheVariants.{Want as MWants, Change as MChanges}
-use Rattle.mount_counts.specs.declared.phases.WantStep.TheVariants.{CountsUp}
+use Rattle.mount_counts.specs.declared.phases.{MountPhase.TheVariants.{Want as MWants, Change as MChanges}, WantStep.TheVariants.{CountsUp}}
 use Rattle.mount_counts.specs.declared.phases.ChangeStep.TheVariants.{Locks}
-use Rattle.mount_counts.specs.declared.remounts.RemountStep.TheVariants.{SetsWritable, SetsReadOnly as RSetsReadOnly}
+use Rattle.mount_counts.specs.declared.{remounts.RemountStep.TheVariants.{SetsWritable, SetsReadOnly as RSetsReadOnly}, phases.Want.{Want}}
+use Rattle.mount_counts.specs.declared.{phases.{Change.{Change}, WantStep.{WantStep}, ChangeStep.{ChangeStep}}, remounts.Remount.{Remount}}
+use Rattle.mount_counts.specs.{declared.remounts.RemountStep.{RemountStep}, Phases.{want_next, change_next}, Remounts.{remount_next}}
 use Rattle.percpu_rwsem.specs.declared.transitions.Transition.TheVariants.{Loads, Exchanges}
 use Rattle.percpu_rwsem.specs.declared.readers.DownReadStep.TheVariants.{EntersSection}
 use Rattle.percpu_rwsem.specs.declared.writers.DownWriteStep.TheVariants.{Enters, CallsBack as WCallsBack}
-use Rattle.percpu_rwsem.specs.declared.writers.UpWriteStep.TheVariants.{ClearsBlock, Exits}
+use Rattle.percpu_rwsem.specs.declared.{writers.UpWriteStep.TheVariants.{ClearsBlock, Exits}, transitions.Transition.{Transition}}
+use Rattle.percpu_rwsem.specs.declared.{readers.DownRead.{DownRead}, callbacks.Callback.{Callback}, writers.DownWrite.{DownWrite}}
+use Rattle.percpu_rwsem.specs.{declared.{writers.UpWrite.{UpWrite}, readers.DownReadStep.{DownReadStep}}, Transitions.{transition_next}}
+use Rattle.percpu_rwsem.specs.declared.{callbacks.CallbackStep.{CallbackStep}, writers.DownWriteStep.{DownWriteStep}}
+use Rattle.percpu_rwsem.specs.{declared.writers.UpWriteStep.{UpWriteStep}, Readers.{down_read_next}, Callbacks.{callback_next}}
+use Rattle.percpu_rwsem.specs.Writers.{down_write_next, up_write_next}
 use Rattle.composite_ops.specs.declared.write_access.phases.WritePhase.TheVariants.{Takes, Wants as WWants}
-use Rattle.freeze_levels.specs.declared.freezes.FreezeStep.TheVariants.{Closes}
+use Rattle.composite_ops.specs.{file_closes.Phases.{next as close_next}, write_access.Phases.{next as write_next}}
+use Rattle.composite_ops.specs.declared.file_closes.phases.ClosePhase.{ClosePhase}
+use Rattle.composite_ops.specs.declared.file_closes.phases.ClosePhase.TheVariants.{LoadsFile as LoadsFileToClose, LowersCount, Enters as EntersLevel, FreesNode as FreesFile, RefundsBlocks as RefundsFile, Uncounts, Leaves as LeavesLevel}
+use Rattle.composite_ops.specs.declared.write_access.phases.WritePhase.{WritePhase}
+use Rattle.freeze_levels.specs.declared.{freezes.{FreezeStep.{TheVariants.{Closes}, FreezeStep}, Freeze.{Freeze}}, thaws.Thaw.{Thaw}}
+use Rattle.freeze_levels.specs.{declared.thaws.ThawStep.{ThawStep}, Thaws.{thaw_next}, Freezes.{freeze_next}}
 use Rattle.gated_tree.specs.declared.changes.CreateStep.TheVariants.{LoadsDirectory}
 use Rattle.gated_tree.specs.declared.changes.RemoveStep.TheVariants.{LoadsFile as LoadsFileToRemove}
 use Rattle.gated_tree.specs.declared.growth.GrowStep.TheVariants.{LoadsFile as LoadsFileToGrow}
@@ -19,65 +29,17 @@ use Rattle.gated_tree.specs.declared.changes.MoveStep.TheVariants.{LoadsFile as 
 use Rattle.gated_tree.specs.declared.marks.MarkStep.TheVariants.{LoadsFile as LoadsFileToMark, MarksFile}
 use Rattle.gated_tree.specs.declared.snapshots.SnapshotStep.TheVariants.{Locks as SLocks}
 use Rattle.gated_tree.specs.declared.phases.TreePhase.TheVariants.{OpenFile as OpensOne}
-use Rattle.gate_world.specs.declared.work.Phase.TheVariants.{Mounts, Remounts, DownReads, Callbacks, Writes, Freezes, Thaws, Trees, Closes}
 use Rattle.gated_tree.specs.Phases.{next as tree_next, remove_next, grow_next, move_next, mark_next, create_next, snapshot_next, open_next}
-use Rattle.composite_ops.specs.file_closes.Phases.{next as close_next}
-use Rattle.composite_ops.specs.write_access.Phases.{next as write_next}
-use Rattle.cpu_words.specs.declared.names.WordName.TheVariants.{Node, Sync}
-use Rattle.cpu_words.specs.declared.events.Touch.{Touch}
-use Rattle.cpu_words.specs.declared.events.Touch.TheVariants.{Load, Store, Add, Sub, Or, And, Swap, Cas}
-use Rattle.cpu_words.specs.Touches.{found_by}
-use Rattle.gate_world.specs.traces.TraceStates.{WordIsValid, ReadIsValid, OpenReadIsValid}
-use Rattle.composite_ops.specs.declared.file_closes.phases.ClosePhase.{ClosePhase}
-use Rattle.composite_ops.specs.declared.file_closes.phases.ClosePhase.TheVariants.{LoadsFile as LoadsFileToClose, LowersCount, Enters as EntersLevel, FreesNode as FreesFile, RefundsBlocks as RefundsFile, Uncounts, Leaves as LeavesLevel}
-use Rattle.gated_tree.specs.declared.opens.OpenFile.{OpenFile}
-use Rattle.gated_tree.specs.declared.opens.OpenStep.{OpenStep}
-use Rattle.gated_tree.specs.declared.opens.OpenStep.TheVariants.{LoadsFile as LoadsFileToOpen, OpensFile}
-use Rattle.cpu_words.specs.declared.names.WordName.{WordName}
-use Rattle.mount_counts.specs.declared.phases.Want.{Want}
-use Rattle.mount_counts.specs.declared.phases.Change.{Change}
-use Rattle.mount_counts.specs.declared.remounts.Remount.{Remount}
-use Rattle.percpu_rwsem.specs.declared.transitions.Transition.{Transition}
-use Rattle.percpu_rwsem.specs.declared.readers.DownRead.{DownRead}
-use Rattle.percpu_rwsem.specs.declared.callbacks.Callback.{Callback}
-use Rattle.percpu_rwsem.specs.declared.writers.DownWrite.{DownWrite}
-use Rattle.percpu_rwsem.specs.declared.writers.UpWrite.{UpWrite}
-use Rattle.composite_ops.specs.declared.write_access.phases.WritePhase.{WritePhase}
-use Rattle.freeze_levels.specs.declared.freezes.Freeze.{Freeze}
-use Rattle.freeze_levels.specs.declared.thaws.Thaw.{Thaw}
-use Rattle.gated_tree.specs.declared.changes.Create.{Create}
-use Rattle.gated_tree.specs.declared.changes.Remove.{Remove}
-use Rattle.gated_tree.specs.declared.growth.Grow.{Grow}
-use Rattle.gated_tree.specs.declared.changes.MoveTo.{MoveTo}
-use Rattle.gated_tree.specs.declared.marks.Mark.{Mark}
-use Rattle.gated_tree.specs.declared.snapshots.Snapshot.{Snapshot}
-use Rattle.gated_tree.specs.declared.phases.TreePhase.{TreePhase}
-use Rattle.gate_world.specs.declared.work.Phase.{Phase}
-use Rattle.mount_counts.specs.declared.phases.WantStep.{WantStep}
-use Rattle.mount_counts.specs.declared.phases.ChangeStep.{ChangeStep}
-use Rattle.mount_counts.specs.declared.remounts.RemountStep.{RemountStep}
-use Rattle.percpu_rwsem.specs.Transitions.{transition_next}
-use Rattle.percpu_rwsem.specs.declared.readers.DownReadStep.{DownReadStep}
-use Rattle.percpu_rwsem.specs.declared.callbacks.CallbackStep.{CallbackStep}
-use Rattle.percpu_rwsem.specs.declared.writers.DownWriteStep.{DownWriteStep}
-use Rattle.percpu_rwsem.specs.declared.writers.UpWriteStep.{UpWriteStep}
-use Rattle.freeze_levels.specs.declared.freezes.FreezeStep.{FreezeStep}
-use Rattle.freeze_levels.specs.declared.thaws.ThawStep.{ThawStep}
-use Rattle.gated_tree.specs.declared.changes.CreateStep.{CreateStep}
-use Rattle.gated_tree.specs.declared.changes.RemoveStep.{RemoveStep}
-use Rattle.gated_tree.specs.declared.growth.GrowStep.{GrowStep}
-use Rattle.gated_tree.specs.declared.changes.MoveStep.{MoveStep}
-use Rattle.gated_tree.specs.declared.marks.MarkStep.{MarkStep}
-use Rattle.gated_tree.specs.declared.snapshots.SnapshotStep.{SnapshotStep}
-use Rattle.cpu_words.specs.Hooks.{HookAnswer}
-use Rattle.gate_world.specs.Work.{next_of}
-use Rattle.mount_counts.specs.Phases.{want_next, change_next}
-use Rattle.percpu_rwsem.specs.Readers.{down_read_next}
-use Rattle.percpu_rwsem.specs.Callbacks.{callback_next}
-use Rattle.percpu_rwsem.specs.Writers.{down_write_next, up_write_next}
-use Rattle.freeze_levels.specs.Thaws.{thaw_next}
-use Rattle.mount_counts.specs.Remounts.{remount_next}
-use Rattle.freeze_levels.specs.Freezes.{freeze_next}
+use Rattle.gated_tree.specs.declared.opens.{OpenFile.{OpenFile}, OpenStep.{OpenStep, TheVariants.{LoadsFile as LoadsFileToOpen, OpensFile}}}
+use Rattle.gated_tree.specs.declared.{changes.{Create.{Create}, Remove.{Remove}, MoveTo.{MoveTo}}, growth.Grow.{Grow}, marks.Mark.{Mark}}
+use Rattle.gated_tree.specs.declared.{snapshots.Snapshot.{Snapshot}, phases.TreePhase.{TreePhase}, changes.CreateStep.{CreateStep}}
+use Rattle.gated_tree.specs.declared.{changes.{RemoveStep.{RemoveStep}, MoveStep.{MoveStep}}, growth.GrowStep.{GrowStep}}
+use Rattle.gated_tree.specs.declared.{marks.MarkStep.{MarkStep}, snapshots.SnapshotStep.{SnapshotStep}}
+use Rattle.gate_world.specs.declared.work.Phase.TheVariants.{Mounts, Remounts, DownReads, Callbacks, Writes, Freezes, Thaws, Trees, Closes}
+use Rattle.gate_world.specs.{traces.TraceStates.{WordIsValid, ReadIsValid, OpenReadIsValid}, declared.work.Phase.{Phase}, Work.{next_of}}
+use Rattle.cpu_words.specs.declared.{names.WordName.TheVariants.{Node, Sync}, events.Touch.{Touch}}
+use Rattle.cpu_words.specs.{declared.events.Touch.TheVariants.{Load, Store, Add, Sub, Or, And, Swap, Cas}, Touches.{found_by}}
+use Rattle.cpu_words.specs.{declared.names.WordName.{WordName}, Hooks.{HookAnswer}}
 
 -- no node's word and no sync word is stored into
 abbrev pub IsNoStore : WordName × Touch → Type 0

@@ -1,5 +1,6 @@
 -- The laws of one event and of a beginning as what a step on the table asks.
-use Rattle.std.proofs.Common.{◌≡◌, ℕ, suc, length, ◌<◌, List, [], ◌∷◌, set, sym, refl, ap, ◌∙◌, subst, length-set, arith}
+use Rattle.std.proofs.Common.{◌≡◌, ℕ, suc, length, ◌<◌, List, [], ◌∷◌, set, sym, refl, ap, ◌∙◌, subst, length-set, arith, map}
+use Rattle.std.proofs.lemmas.List.{map-set}
 use Rattle.std.specs.Prelude.{is_some, Option, Some, None, slice_index}
 use Rattle.finite_sums.specs.Sums.{update}
 use Rattle.finite_sums.proofs.Totals.{update_at, update_off}
@@ -11,23 +12,19 @@ use Rattle.gate_world.specs.{Beginnings.{first_phase, view_refusal}, Configs.{Is
 use Rattle.gate_world.specs.{Moments.AllHaveMoments, Rules.{IsGood, Moves, StepKeeps, Fitting}, Shown.shown, traces.Snapshots.{completes, last_snapshot}}
 use Rattle.gate_world.specs.{Views.{begun_view, view_with, view_after_with_others, held_of}, Work.{next_of, after_of}, Worlds.{World, words_after, value_at}}
 use Rattle.gate_world.specs.{Worlds.{found_at, after_step, after_step_with_others, phase_action, with_action}, declared.{config.Config.Config, operations.Op.Op}}
-use Rattle.gate_world.specs.declared.{views.{View.View, Snapshot.Snapshot}, work.Phase.Phase}
+use Rattle.gate_world.specs.declared.{views.{View.{View}, Snapshot.{Snapshot}}, work.Phase.{Phase}, entries.Entry.{Entry}}
 use Rattle.freeze_laws.specs.moments.Moments.{HaveDone}
 use Rattle.gate_schedules.proofs.{frames.{ValidWords.events_may_be, Snapshots.others_apart}, operations.AllOperations.phase_keeps, schedules.Beginnings.may_begin}
 use Rattle.gate_schedules.proofs.schedules.{Lists.{beside_lists, begin_lists}, Phases.word_there, Schedule.{begun_keeps, legal_more}}
 use Rattle.gate_schedules.proofs.{schedules.Snapshots.{beside_moments, begin_moments}, trees.worlds.Frozen.frozen_whole}
 use Rattle.gate_steps.proofs.{Dealing.{times-at, known_here, inside, redealt}, Reaching.{begun_reached, stepped_reached}, Stores.there_found}
-use Rattle.gate_steps.proofs.Growing.{seen_all}
-use Rattle.gate_steps.proofs.TableWords.{table_written}
-use Rattle.gate_world.specs.declared.entries.Entry.{Entry}
+use Rattle.gate_steps.proofs.{Growing.{seen_all}, TableWords.{table_written}}
 use Rattle.gate_steps.specs.declared.seating.Knowledge.{Knowledge}
-use Rattle.std.proofs.Common.{map}
-use Rattle.std.proofs.lemmas.List.{map-set}
+use Rattle.gate_steps.specs.{Histories.{HasHistory, IsReached, then_begins, then_steps}, Rules.{table_index, table_length, TableShows, TableInvariantHolds}, Seating.{DealtNumbers, knows, items_of, HaveViews, Dealt, NumberMayStep}}
+use Rattle.gate_steps.specs.{Seating.{OwnNumberMayStep, entered, world_entered, done_by, items_after, happened}, declared.seating.Numbered.Numbered}
 use mathlib.Core.Option.{some}
 use lib.ListN.{get_elem?}
 use Rattle.atomic_table.proofs.Lists.{at_map}
-use Rattle.gate_steps.specs.{Histories.{HasHistory, IsReached, then_begins, then_steps}, Rules.{table_index, table_length, TableShows, TableInvariantHolds}, Seating.{DealtNumbers, knows, items_of, HaveViews, Dealt, NumberMayStep}}
-use Rattle.gate_steps.specs.{Seating.{OwnNumberMayStep, entered, world_entered, done_by, items_after, happened}, declared.seating.Numbered.Numbered}
 
 abbrev pub Carried : Type 0
 Carried = List (ℕ × Unit {0})

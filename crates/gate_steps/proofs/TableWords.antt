@@ -3,12 +3,9 @@ use Rattle.std.proofs.Common.{◌≡◌, ℕ, zero, suc, ◌<◌, List, [], ◌�
 use Rattle.std.specs.Prelude.{slice_index, slice_set}
 use mathlib.Core.Option.{some, some-injective, some-ne-none}
 use lib.ListN.{get_elem?}
-use Rattle.cpu_words.specs.declared.names.WordName.{WordName}
-use Rattle.cpu_words.specs.Names.{IsWord, place}
-use Rattle.cpu_words.specs.Words.{Words, put}
+use Rattle.cpu_words.specs.{declared.names.WordName.{WordName}, Names.{IsWord, place}, Words.{Words, put}}
 use Rattle.cpu_words.proofs.Places.{place_small, written}
-use Rattle.gate_world.specs.declared.config.Config.{Config}
-use Rattle.gate_world.specs.Configs.{IsWithin, extents_kept}
+use Rattle.gate_world.specs.{declared.config.Config.{Config}, Configs.{IsWithin, extents_kept}}
 use Rattle.gate_schedules.proofs.frames.Places.{are_few}
 use Rattle.gate_steps.specs.Rules.{table_index, table_length, TableShows}
 

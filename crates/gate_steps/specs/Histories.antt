@@ -2,14 +2,9 @@
 use Rattle.std.specs.Prelude.{◌≡◌, ℕ, Option, Some, None, List, [], ◌∷◌, ◌++◌}
 use Rattle.access_model.specs.Histories.{Done, end_of, IsLegal, IsMerge}
 use Rattle.cpu_words.specs.Hooks.{HookAnswer}
-use Rattle.gate_world.specs.declared.config.Config.{Config}
-use Rattle.gate_world.specs.declared.operations.Op.{Op}
-use Rattle.gate_world.specs.declared.views.View.{View}
-use Rattle.gate_world.specs.Configs.{model_limits}
-use Rattle.gate_world.specs.Worlds.{World, run, opening, history}
-use Rattle.gate_world.specs.declared.entries.Entry.{Entry, TheVariants.{Begins, Steps}}
-use Rattle.gate_world.specs.Shown.{shown}
-use Rattle.gate_world.specs.Moments.{AllHaveMoments}
+use Rattle.gate_world.specs.{declared.{config.Config.{Config}, operations.Op.{Op}, views.View.{View}}, Configs.{model_limits}}
+use Rattle.gate_world.specs.{Worlds.{World, run, opening, history}, declared.entries.Entry.{Entry, TheVariants.{Begins, Steps}}}
+use Rattle.gate_world.specs.{Shown.{shown}, Moments.{AllHaveMoments}}
 
 -- Two views of a number agree but for the last snapshot: also in the operation, its trace and what was done before it, where the second has
 -- an operation.

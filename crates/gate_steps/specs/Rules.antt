@@ -2,17 +2,11 @@
 use Rattle.std.specs.Prelude.{◌≡◌, ℕ, ◌*◌, ◌<◌, List, [], ◌∷◌, map, length}
 use mathlib.Core.Option.{some}
 use lib.ListN.{get_elem?}
-use Rattle.gate_steps.specs.declared.seating.Knowledge.{Knowledge}
-use Rattle.cpu_words.specs.Names.{words_in_all, stride}
-use Rattle.cpu_words.specs.Words.{Words, opening_words}
-use Rattle.cpu_words.specs.Lists.{ListShows}
-use Rattle.gate_world.specs.declared.config.Config.{Config}
-use Rattle.gate_world.specs.declared.views.View.{View}
-use Rattle.gate_world.specs.Configs.{IsWithin, extents_kept}
-use Rattle.gate_world.specs.Worlds.{World}
-use Rattle.gate_world.specs.Rules.{IsGood}
-use Rattle.gate_steps.specs.Histories.{HasHistory}
+use Rattle.gate_steps.specs.{declared.seating.Knowledge.{Knowledge}, Histories.{HasHistory}}
 use Rattle.gate_steps.specs.Seating.{DealtNumbers, knows, items_of, HaveSeen, Dealt, deal}
+use Rattle.cpu_words.specs.{Names.{words_in_all, stride}, Words.{Words, opening_words}, Lists.{ListShows}}
+use Rattle.gate_world.specs.{declared.{config.Config.{Config}, views.View.{View}}, Configs.{IsWithin, extents_kept}, Worlds.{World}}
+use Rattle.gate_world.specs.Rules.{IsGood}
 
 -- where the word of a place lies in the table: words lie apart, each in cache lines of its own
 abbrev pub table_index : ℕ → ℕ

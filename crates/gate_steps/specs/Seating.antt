@@ -4,19 +4,11 @@ use mathlib.Core.Option.{some}
 use lib.ListN.{get_elem?}
 pub use Rattle.access_model.specs.States.{one_if}
 use Rattle.cpu_words.specs.Hooks.{HookAnswer}
-use Rattle.gate_world.specs.declared.config.Config.{Config}
-use Rattle.gate_world.specs.declared.operations.Op.{Op}
-use Rattle.gate_world.specs.declared.work.Phase.{Phase}
-use Rattle.gate_world.specs.declared.views.View.{View}
-use Rattle.gate_world.specs.declared.views.Traced.{Traced}
-use Rattle.gate_world.specs.Configs.{IsWithin}
-use Rattle.gate_world.specs.Views.{opening_view, begun_view, view_after_with_others}
+use Rattle.gate_world.specs.declared.{config.Config.{Config}, operations.Op.{Op}, work.Phase.{Phase}, views.{View.{View}, Traced.{Traced}}}
+use Rattle.gate_world.specs.{Configs.{IsWithin}, Views.{opening_view, begun_view, view_after_with_others}}
 use Rattle.gate_world.specs.Beginnings.{first_phase, view_refusal}
 use Rattle.gate_world.specs.Worlds.{World, after_begin, found_at, after_step_with_others, phase_action, task_of, with_action}
-use Rattle.gate_world.specs.declared.entries.Entry.{Entry}
-use Rattle.gate_world.specs.Work.{next_of}
-use Rattle.gate_world.specs.traces.TraceStates.{ReadIsValid}
-use Rattle.gate_world.specs.Shown.{shown}
+use Rattle.gate_world.specs.{declared.entries.Entry.{Entry}, Work.{next_of}, traces.TraceStates.{ReadIsValid}, Shown.{shown}}
 use Rattle.gate_world.specs.Rules.{IsGood, Moves}
 use Rattle.gate_steps.specs.Histories.{HasHistory, IsReached, then_begins, then_steps}
 use Rattle.gate_steps.specs.declared.seating.{Numbered.Numbered, Knowledge.Knowledge}

@@ -1,10 +1,7 @@
 -- The table as it is closed.
 use Rattle.std.specs.Prelude.{ℕ, ◌<◌, ◌≤◌, List}
-use Rattle.gate_world.specs.declared.config.Config.{Config}
-use Rattle.gate_world.specs.Worlds.{World}
-use Rattle.gate_steps.specs.Histories.{HasHistory}
-use Rattle.gate_steps.specs.Seating.{HaveViews, HaveSeen, times}
-use Rattle.gate_steps.specs.declared.seating.Knowledge.{Knowledge}
+use Rattle.gate_world.specs.{declared.config.Config.{Config}, Worlds.{World}}
+use Rattle.gate_steps.specs.{Histories.{HasHistory}, Seating.{HaveViews, HaveSeen, times}, declared.seating.Knowledge.{Knowledge}}
 use Rattle.gate_steps.specs.Rules.{Ruled}
 
 -- The words are those of some world that the rule holds of, with one history, and the schedule that makes it, and in which the numbers of

@@ -5,15 +5,14 @@ use Rattle.access_model.specs.declared.actions.{Gate.TheVariants.{Level, Mount},
 use Rattle.composite_ops.specs.declared.file_closes.phases.ClosePhase.{ClosePhase, TheVariants.{Enters, FreesNode, Leaves as CloseLeaves, LoadsFile as CloseLoadsFile}}
 use Rattle.composite_ops.specs.declared.file_closes.phases.ClosePhase.TheVariants.{LowersCount, RefundsBlocks as CloseRefundsBlocks, Uncounts as CloseUncounts}
 use Rattle.composite_ops.specs.declared.file_closes.phases.Closing.{Closing}
+use Rattle.composite_ops.specs.declared.write_access.phases.WritePhase.{WritePhase, TheVariants.{Drops as WriteDrops, Ends, GivesBack, Takes, Wants as WriteWants}}
 use Rattle.freeze_levels.specs.declared.freezes.FreezeStep.{FreezeStep, TheVariants.{Cleans, Closes, Holds, Reopens as FreezeReopens}}
 use Rattle.freeze_levels.specs.declared.thaws.ThawStep.{ThawStep, TheVariants.{Leaves, Reopens as ThawReopens}}
 use Rattle.gate_world.specs.{Holdings.Holdings, Operations.{holds_none, holds_none_from, is_writer, may_mark}, Remounts.RemountFits, Roles.{close_file, tree_file}}
 use Rattle.gate_world.specs.{Trees.tree_bounds, declared.{config.Config.Config, work.Phase.{Phase, TheVariants.{Callbacks, Closes, DownReads, Freezes}}}}
 use Rattle.gate_world.specs.declared.work.Phase.TheVariants.{Mounts, Remounts, Thaws, Trees, UpReads, Writes}
-use Rattle.node_words.specs.Nodes.{IsLawful}
-use Rattle.node_words.specs.declared.nodes.NodeWord.{NodeWord}
-use Rattle.gated_tree.specs.Calls.{TreePhaseFits}
-use Rattle.gated_tree.specs.declared.phases.TreePhase.{TreePhase}
+use Rattle.node_words.specs.{Nodes.{IsLawful}, declared.nodes.NodeWord.{NodeWord}}
+use Rattle.gated_tree.specs.{Calls.{TreePhaseFits}, declared.phases.TreePhase.{TreePhase}}
 use Rattle.gated_tree.specs.declared.phases.TreePhase.TheVariants.{ClearMarks as TreeClears, Mark as TreeMarks, OpenFile as OpensOne, Snapshot as Snapshots}
 use Rattle.freeze_laws.specs.levels.Operations.{KnowsCallback, KnowsDownWrite, KnowsUpWrite}
 use Rattle.mount_counts.specs.declared.phases.{ChangeStep.{ChangeStep, TheVariants.Sums}, MountPhase.{MountPhase, TheVariants.{Change, Drop, Want}}}
@@ -22,7 +21,6 @@ use Rattle.percpu_rwsem.specs.declared.{readers.DownReadStep.{DownReadStep, TheV
 use Rattle.percpu_rwsem.specs.declared.writers.DownWriteStep.{DownWriteStep, TheVariants.{AwaitsSections as AwaitsReaders, Sums as SumsLevel}}
 use Rattle.percpu_rwsem.specs.declared.writers.UpWrite.{UpWrite}
 use Rattle.std.specs.Prelude.{Bool, None, Option, Some, false, true, ℕ, ◌<◌, ◌≡◌, ◌≤◌, ◌⊎◌}
-use Rattle.composite_ops.specs.declared.write_access.phases.WritePhase.{WritePhase, TheVariants.{Drops as WriteDrops, Ends, GivesBack, Takes, Wants as WriteWants}}
 
 -- a sum in progress has a word more to read
 abbrev pub SumFits : Config → ChangeStep → Type 0

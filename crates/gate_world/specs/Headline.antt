@@ -2,17 +2,15 @@
 use Rattle.std.specs.Prelude.{◌≡◌, ℕ, ◌%◌, ◌<◌, ◌≤◌, ◌==◌, ◌⊎◌, Bool, true, false, if◌then◌else◌, Option, Some, None, Err, List, [], ◌+◌}
 use Rattle.finite_sums.specs.Sums.{total}
 use Rattle.access_model.specs.{Histories.{Done, end_of, IsLegal, IsMerge}, Laws.{NobodyHoldsClosed, NeverLeaves, IsFrozenStill}, Holders.held_by, States.{is_removed, one_if}}
-use Rattle.access_model.specs.declared.actions.Holder.{Holder}
-use Rattle.access_model.specs.declared.{errors.GateError.GateError, replies.Next.TheVariants.Done as Ended}
+use Rattle.access_model.specs.declared.{actions.Holder.{Holder}, errors.GateError.{GateError}, replies.Next.TheVariants.{Done as Ended}}
 use Rattle.cpu_words.specs.{Sums.lead, declared.{events.Touch.{Touch, TheVariants.Store}, names.WordName.{WordName, TheVariants.Holders}}}
 use Rattle.cpu_words.specs.gate_counts.{Gates.{counted as counted_of, unread}, Levels.{Summing, level_as_gate}}
 use Rattle.gated_tree.specs.{Calls.words_loaded, Roles.{seen_as, tree_word}, Trees.{IsSound, IsClean}}
 use Rattle.gated_tree.specs.declared.{phases.TreePhase.TheVariants.Snapshot as Snapshots, snapshots.Snapshot.Snapshot}
 use Rattle.mount_counts.specs.{Phases.has_flag, Roles.counted}
 use Rattle.percpu_rwsem.specs.{SyncWords.unpack, declared.sync_word.SyncWord.SyncWord}
-use Rattle.freeze_levels.specs.Holders.{word_of}
+use Rattle.freeze_levels.specs.{Holders.{word_of}, declared.freezes.FreezeStep.{FreezeStep}}
 use Rattle.freeze_laws.specs.levels.Roles.{fast}
-use Rattle.freeze_levels.specs.declared.freezes.FreezeStep.{FreezeStep}
 use Rattle.gate_world.specs.{Configs.model_limits, traces.TraceStates.{state_of_trace, IsTraced}, traces.Found.{stores_stage, newest}}
 use Rattle.gate_world.specs.{Levels.{at_level, level_role_of, sync_role_of, is_frozen_whole}, Moments.AllHaveMoments, Owners.last_left}
 use Rattle.gate_world.specs.{Rules.{at_mount, owns, Moves}, Shown.shown, traces.Snapshots.values_noted, traces.Traces.{Tells, IsShort, most_events}}

@@ -6,8 +6,7 @@ use Rattle.cpu_words.specs.declared.{events.{Event.Event, Touch.{Touch, TheVaria
 use Rattle.cpu_words.specs.gate_counts.Levels.{LevelRole, LevelView, Out as CountsNot}
 use Rattle.freeze_laws.specs.levels.{Operations.{callback_role, down_read_inside}, Roles.{SyncRole, Out as IsApart}}
 use Rattle.freeze_laws.specs.stages.Roles.{is_full}
-use Rattle.composite_ops.specs.declared.write_access.phases.WritePhase.{WritePhase}
-use Rattle.composite_ops.specs.declared.file_closes.phases.ClosePhase.{ClosePhase}
+use Rattle.composite_ops.specs.declared.{write_access.phases.WritePhase.{WritePhase}, file_closes.phases.ClosePhase.{ClosePhase}}
 use Rattle.gate_world.specs.Roles.{freeze_position, read_level_role, read_sync_role, position_count, position_sync, sync_role_if, thaw_position}
 use Rattle.gate_world.specs.{Views.holds_level, declared.{views.View.View, work.Phase.Phase}}
 

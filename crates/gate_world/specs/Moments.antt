@@ -4,8 +4,7 @@ use Rattle.access_model.specs.Histories.{Done}
 use Rattle.freeze_laws.specs.moments.Moments.{WasFrozenWith}
 use Rattle.cpu_words.specs.{Hooks.HookAnswer, Words.Words}
 use Rattle.node_words.specs.Nodes.{node_shown}
-use Rattle.gated_tree.specs.Trees.{LoadedSound, LoadedClean, node_at}
-use Rattle.gated_tree.specs.declared.trees.TreeWords.{TreeWords}
+use Rattle.gated_tree.specs.{Trees.{LoadedSound, LoadedClean, node_at}, declared.trees.TreeWords.{TreeWords}}
 use Rattle.gate_world.specs.{traces.Snapshots.completes, Worlds.{World, found_at}, declared.{config.Config.Config, views.Snapshot.Snapshot, work.Phase.Phase}}
 
 -- A snapshot of a task number has a moment in a history. It is of all nodes, and of a tree that is sound and clean; and after some of

@@ -1,7 +1,13 @@
 -- Two rows for each operation: where it begins, and what is claimed of it. What it does are its events.
 use Rattle.std.specs.Prelude.{◌≡◌, ◌≢◌, ◌⊎◌, ℕ, zero, suc, ◌+◌, ◌*◌, ◌<◌, Bool, true, false, not, ◌&&◌, ◌||◌, nat_lt, if◌then◌else◌}
 use Rattle.std.specs.Prelude.{Option, Some, None, Result, Ok, Err, List, [], ◌∷◌, ◌++◌}
-use Rattle.access_model.specs.declared.actions.Kind.{Kind}
+use Rattle.access_model.specs.declared.actions.{Kind.{Kind}, Action.{Action}}
+use Rattle.access_model.specs.declared.actions.Action.TheVariants.{Grant, Return, MountRo, MountRw, SbRo, SbRw, Stage as StageAction, Hold, Leave, Pass, Reopen}
+use Rattle.access_model.specs.declared.actions.Action.TheVariants.{Create as CreateAction, Remove as RemoveAction, Grow as GrowAction, MoveTo as MoveToAction}
+use Rattle.access_model.specs.declared.actions.Action.TheVariants.{Open as OpenAction, Close as CloseAction}
+use Rattle.access_model.specs.declared.actions.{Gate.TheVariants.{Mount, Level}, Holder.Holder}
+use Rattle.access_model.specs.declared.errors.GateError.{GateError, TheVariants.{Again, Busy, ReadOnly, Invalid, Hook}}
+use Rattle.access_model.specs.declared.replies.Reply.{Reply, TheVariants.{Unit as UnitReply, Node as NodeReply, Ran, Tree as TreeReply}}
 use Rattle.gated_tree.specs.declared.changes.{Create.Create, CreateStep.TheVariants.LoadsDirectory, MoveStep.TheVariants.LoadsFile as LoadsFileToMove}
 use Rattle.gated_tree.specs.declared.{changes.{MoveTo.MoveTo, Remove.Remove, RemoveStep.TheVariants.LoadsFile as LoadsFileToRemove}, growth.Grow.Grow}
 use Rattle.gated_tree.specs.declared.{growth.GrowStep.TheVariants.LoadsFile as LoadsFileToGrow, marks.Mark.Mark}
@@ -9,7 +15,8 @@ use Rattle.gated_tree.specs.declared.{marks.MarkStep.TheVariants.LoadsFile as Lo
 use Rattle.gated_tree.specs.declared.{opens.OpenStep.TheVariants.LoadsFile as LoadsFileToOpen, phases.TreePhase.{TreePhase, TheVariants.Create as Creates}}
 use Rattle.gated_tree.specs.declared.phases.TreePhase.TheVariants.{Remove as Removes, Grow as Grows, MoveTo as Moves, Mark as TreeMarks, OpenFile as OpensOne}
 use Rattle.gated_tree.specs.declared.{phases.TreePhase.TheVariants.Snapshot as Snapshots, snapshots.Snapshot.Snapshot}
-use Rattle.gated_tree.specs.declared.snapshots.SnapshotStep.TheVariants.{Locks as SnapshotLocks}
+use Rattle.gated_tree.specs.{declared.snapshots.SnapshotStep.TheVariants.{Locks as SnapshotLocks}, Phases.{mark_done}}
+use Rattle.gated_tree.specs.Refusals.{CreateHonest, FileHonest, GrowHonest, MoveHonest, SnapshotHonest, finds_other}
 use Rattle.mount_counts.specs.declared.phases.{ChangeStep.TheVariants.Locks, MountPhase.TheVariants.{Want as Wants, Drop as Drops, Change as Changes}}
 use Rattle.mount_counts.specs.declared.{phases.WantStep.TheVariants.CountsUp, remounts.RemountStep.TheVariants.Locks as RemountLocks}
 use Rattle.percpu_rwsem.specs.declared.{callbacks.CallbackStep.TheVariants.Claims, readers.DownReadStep.TheVariants.EntersSection}
@@ -22,21 +29,12 @@ use Rattle.gate_world.specs.declared.operations.Op.TheVariants.{Start, End, Want
 use Rattle.gate_world.specs.declared.operations.Op.TheVariants.{Create as CreateOp, Remove as RemoveOp, Grow as GrowOp, MoveTo as MoveToOp, Fault as FaultOp}
 use Rattle.gate_world.specs.declared.operations.Op.TheVariants.{Flush as FlushOp, Open as OpenOp, Close as CloseOp, Snapshot as SnapshotOp}
 use Rattle.gate_world.specs.declared.work.Phase.{Phase, TheVariants.{Mounts, Remounts, DownReads, UpReads, Callbacks, Writes, Freezes, Thaws, Trees, Closes}}
-use Rattle.access_model.specs.declared.actions.Action.{Action}
-use Rattle.access_model.specs.declared.actions.Action.TheVariants.{Grant, Return, MountRo, MountRw, SbRo, SbRw, Stage as StageAction, Hold, Leave, Pass, Reopen}
-use Rattle.access_model.specs.declared.actions.Action.TheVariants.{Create as CreateAction, Remove as RemoveAction, Grow as GrowAction, MoveTo as MoveToAction}
-use Rattle.access_model.specs.declared.actions.Action.TheVariants.{Open as OpenAction, Close as CloseAction}
-use Rattle.access_model.specs.declared.actions.{Gate.TheVariants.{Mount, Level}, Holder.Holder}
-use Rattle.access_model.specs.declared.errors.GateError.{GateError, TheVariants.{Again, Busy, ReadOnly, Invalid, Hook}}
-use Rattle.access_model.specs.declared.replies.Reply.{Reply, TheVariants.{Unit as UnitReply, Node as NodeReply, Ran, Tree as TreeReply}}
-use Rattle.cpu_words.specs.declared.names.WordName.{WordName, TheVariants.{Umount, Remount, Stage}}
-use Rattle.gated_tree.specs.Phases.{mark_done}
-use Rattle.gated_tree.specs.Refusals.{CreateHonest, FileHonest, GrowHonest, MoveHonest, SnapshotHonest, finds_other}
 use Rattle.gate_world.specs.traces.Found.{found_read_only, found_hold, found_taken, found_sealed, SeenIn, found_frozen, found_removed, found_dropped, finds_hold}
 use Rattle.gate_world.specs.traces.Found.{finds_taken, each_event, looks_again, counts_loaded, IsEachCount, sum_loaded, ReadAnswer, cleans, newest, found_closed}
 use Rattle.gate_world.specs.traces.Found.{left_closed, holds_since, finds_inside, finds_none_queued, transitions_made, found_incomplete, found_complete, found_moving}
 use Rattle.gate_world.specs.traces.Found.{found_held, found_unheld, found_shared, stored_stage, finds_readers, FoundInside}
 use Rattle.gate_world.specs.declared.views.Traced.{Traced}
+use Rattle.cpu_words.specs.declared.names.WordName.{WordName, TheVariants.{Umount, Remount, Stage}}
 
 -- where an operation begins, and who may begin it
 pub record OpRow : Type 1 where

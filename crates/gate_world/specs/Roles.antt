@@ -10,12 +10,10 @@ use Rattle.mount_counts.specs.declared.remounts.RemountStep.{RemountStep}
 use Rattle.percpu_rwsem.specs.declared.readers.{DownRead.DownRead, DownReadStep.DownReadStep}
 use Rattle.percpu_rwsem.specs.declared.writers.{DownWriteStep.DownWriteStep, UpWriteStep.UpWriteStep}
 use Rattle.freeze_levels.specs.declared.{freezes.FreezeStep.FreezeStep, hooks.HookKind.HookKind, thaws.ThawStep.ThawStep}
-use Rattle.freeze_laws.specs.levels.Operations.{down_read_role, down_write_role, up_write_role}
-use Rattle.freeze_laws.specs.levels.Roles.{SyncRole, Out as IsApart, Closed}
-use Rattle.freeze_laws.specs.stages.Roles.{Place, Before, Closing, HasPassed, StageRole, Aside, Owning, Remounting, Freezing, Reopening}
 use Rattle.freeze_levels.specs.holder_laws.Roles.{HolderRole, Apart, Found, Fills, Empties}
-use Rattle.composite_ops.specs.declared.write_access.phases.WritePhase.{WritePhase}
-use Rattle.composite_ops.specs.declared.file_closes.phases.ClosePhase.{ClosePhase}
+use Rattle.freeze_laws.specs.levels.{Operations.{down_read_role, down_write_role, up_write_role}, Roles.{SyncRole, Out as IsApart, Closed}}
+use Rattle.freeze_laws.specs.stages.Roles.{Place, Before, Closing, HasPassed, StageRole, Aside, Owning, Remounting, Freezing, Reopening}
+use Rattle.composite_ops.specs.declared.{write_access.phases.WritePhase.{WritePhase}, file_closes.phases.ClosePhase.{ClosePhase}}
 
 -- what a step of a want is doing at its mount, on this processor
 abbrev pub want_role : ℕ → WantStep → Role

@@ -1,8 +1,7 @@
 -- The rule: what holds of words and views between any two events. One predicate for each mount, one for the owner's words.
 use Rattle.access_model.specs.{Actions.{IsAllowed, after_action}, States.{State, openers}, declared.actions.Action.Action}
-use Rattle.cpu_words.specs.{Hooks.HookAnswer, Words.Words}
+use Rattle.cpu_words.specs.{Hooks.{HookAnswer}, Words.{Words}, gate_counts.Levels.{LevelHolds}}
 use Rattle.finite_sums.specs.Sums.{total}
-use Rattle.cpu_words.specs.gate_counts.Levels.{LevelHolds}
 use Rattle.gate_world.specs.{Configs.model_limits, Fits.{Fits, HasFile, file_of}, Levels.{SectionsAreOdd, at_level, inside, is_frozen_whole, sync_role_of}}
 use Rattle.gate_world.specs.{Owners.KnowsWords, Remounts.{remount_owns, remount_role, remount_sets}, Shown.{closing, shown}}
 use Rattle.gate_world.specs.Roles.{freeze_holder_role, freeze_owns, freeze_stage_role, mount_owns, mount_role, remount_stage_role, thaw_holder_role, thaw_owns}
@@ -12,9 +11,8 @@ use Rattle.gate_world.specs.{Worlds.{World, after_step, phase_action}, declared.
 use Rattle.node_words.specs.Nodes.{dirty_in, opens_in}
 use Rattle.gated_tree.specs.Roles.{TreeHolds}
 use Rattle.freeze_levels.specs.holder_laws.Roles.{Apart, HolderRole, HoldersHold}
-use Rattle.freeze_laws.specs.levels.Roles.{SyncNumberHolds}
+use Rattle.freeze_laws.specs.{levels.Roles.{SyncNumberHolds}, stages.Roles.{Aside, StageRole, StagesHold}}
 use Rattle.mount_counts.specs.Roles.{MountHolds, MountView, Out, Role}
-use Rattle.freeze_laws.specs.stages.Roles.{Aside, StageRole, StagesHold}
 use Rattle.std.specs.Prelude.{Bool, None, Option, Some, false, suc, true, ℕ, ◌<◌, ◌≡◌, ◌≤◌}
 
 -- what a task is doing at a mount

@@ -5,8 +5,7 @@ use Rattle.finite_sums.specs.Sums.{update}
 use Rattle.cpu_words.specs.gate_counts.Levels.{LevelRole}
 use Rattle.gated_tree.specs.Roles.{Role as TreeRole}
 use Rattle.mount_counts.specs.Roles.{Role}
-use Rattle.freeze_laws.specs.levels.Roles.{SyncRole}
-use Rattle.freeze_laws.specs.stages.Roles.{StageRole}
+use Rattle.freeze_laws.specs.{levels.Roles.{SyncRole}, stages.Roles.{StageRole}}
 use Rattle.freeze_levels.specs.holder_laws.Roles.{HolderRole}
 use Rattle.gate_world.specs.{Fits.file_of, Levels.{inside, level_role_of, sync_role_of}, Rules.{holder_role_of, owns, remounts, role_of, stage_role_of}}
 use Rattle.gate_world.specs.{Trees.tree_role_of, Worlds.World, declared.{views.{Traced.Traced, View.View}, work.Phase.Phase}}

@@ -3,10 +3,9 @@ use Rattle.std.specs.Prelude.{ℕ, ◌+◌, ◌&&◌, ◌||◌, ◌==◌, if◌t
 use Rattle.access_model.specs.States.{State}
 use Rattle.node_words.specs.Nodes.{node_shown}
 use Rattle.mount_counts.specs.Roles.{ro_bit}
-use Rattle.freeze_levels.specs.Holders.{holders_in}
+use Rattle.freeze_levels.specs.{Holders.{holders_in}, declared.freezes.FreezeStep.{FreezeStep}}
 use Rattle.finite_sums.specs.Sums.{total}
 use Rattle.percpu_rwsem.specs.declared.writers.DownWriteStep.{DownWriteStep}
-use Rattle.freeze_levels.specs.declared.freezes.FreezeStep.{FreezeStep}
 use Rattle.gate_world.specs.{Views.{held_at, holds_level, has_open}, Worlds.World, declared.{config.Config.Config, work.Phase.Phase}}
 
 -- 1 where a down-write of its own level sums the words of this one: its `block` is set, and no sum was 0 yet

@@ -1,9 +1,6 @@
 -- What a snapshot lends of its words, and what they are once the borrow is over.
-use Rattle.std.specs.Prelude.{ℕ, List}
-use Rattle.std.specs.Borrow.{Array, Fml, Lends, MutBor, u64}
-use Rattle.std.specs.Vec.{with_items}
-use Rattle.gated_tree.specs.declared.trees.Tree.{Tree}
-use Rattle.gated_tree.specs.contracts.trees.Tree.{the_row}
+use Rattle.std.specs.{Prelude.{ℕ, List}, Borrow.{Array, Fml, Lends, MutBor, u64}, Vec.{with_items}}
+use Rattle.gated_tree.specs.{declared.trees.Tree.{Tree}, contracts.trees.Tree.{the_row}}
 
 -- a snapshot with these words of its nodes
 abbrev pub with_nodes : Tree → List ℕ → Tree

@@ -1,17 +1,10 @@
 -- Why a call at the tree is refused: tests of one event, and for each call what its events must have found. `Seen test` is that some
 -- event of the call passed the test.
 use Rattle.std.specs.Prelude.{◌≡◌, ℕ, ◌+◌, ◌<◌, ◌≤◌, ◌==◌, ◌&&◌, ◌||◌, ◌⊎◌, not, nat_lt, Bool, true, false}
-use Rattle.access_model.specs.declared.errors.GateError.{GateError}
-use Rattle.access_model.specs.declared.errors.GateError.TheVariants.{NoEntry, Again, NotDir, IsDir, Invalid, NoSpace}
-use Rattle.cpu_words.specs.declared.names.WordName.{WordName}
-use Rattle.cpu_words.specs.declared.names.WordName.TheVariants.{Umount, Stage, Used, Node}
-use Rattle.cpu_words.specs.declared.events.Touch.{Touch}
-use Rattle.cpu_words.specs.declared.events.Touch.TheVariants.{Load, Cas}
-use Rattle.cpu_words.specs.declared.events.Event.{Event}
-use Rattle.gated_tree.specs.declared.changes.Create.{Create}
-use Rattle.gated_tree.specs.declared.changes.MoveTo.{MoveTo}
-use Rattle.gated_tree.specs.declared.growth.Grow.{Grow}
-use Rattle.gated_tree.specs.declared.snapshots.Snapshot.{Snapshot}
+use Rattle.access_model.specs.declared.errors.GateError.{GateError, TheVariants.{NoEntry, Again, NotDir, IsDir, Invalid, NoSpace}}
+use Rattle.cpu_words.specs.declared.{names.WordName.{WordName, TheVariants.{Umount, Stage, Used, Node}}, events.Touch.{Touch}}
+use Rattle.cpu_words.specs.declared.events.{Touch.TheVariants.{Load, Cas}, Event.{Event}}
+use Rattle.gated_tree.specs.declared.{changes.{Create.{Create}, MoveTo.{MoveTo}}, growth.Grow.{Grow}, snapshots.Snapshot.{Snapshot}}
 use Rattle.node_words.specs.Nodes.{kind_in, removed_in, size_in}
 
 -- the event loads this node

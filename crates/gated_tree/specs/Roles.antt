@@ -1,11 +1,9 @@
 -- The tree behind the gates: what holds of its words between any two events, and what that reads of each task's phase.
 use Rattle.std.specs.Prelude.{◌≡◌, ℕ, zero, suc, ◌+◌, ◌-◌, ◌<◌, ◌≤◌, ◌==◌, ◌||◌, nat_lt, nat_le, if◌then◌else◌, true, false, Option, Some, None}
 use Rattle.finite_sums.specs.Sums.{total}
-use Rattle.access_model.specs.declared.actions.Kind.TheVariants.{File}
-use Rattle.access_model.specs.declared.actions.NodeInfo.{NodeInfo}
+use Rattle.access_model.specs.declared.actions.{Kind.TheVariants.{File}, NodeInfo.{NodeInfo}}
 use Rattle.access_model.specs.States.{size_of, is_dirty, is_removed, one_if, IsDirectory}
-use Rattle.node_words.specs.declared.nodes.NodeWord.{NodeWord}
-use Rattle.node_words.specs.Nodes.{IsNode, word_of, node_shown}
+use Rattle.node_words.specs.{declared.nodes.NodeWord.{NodeWord}, Nodes.{IsNode, word_of, node_shown}}
 use Rattle.gated_tree.specs.Trees.{is_same, is_child}
 
 -- What a task is doing at the tree. `file` is its file's node as it was loaded, `dir` a directory's number, `blocks` a charge.

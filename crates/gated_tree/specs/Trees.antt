@@ -1,13 +1,9 @@
 -- A snapshot of the tree: what it shows, and when it is sound and clean.
 use Rattle.std.specs.Prelude.{◌≡◌, ℕ, zero, suc, ◌<◌, ◌==◌, Bool, false, not, is_some, if◌then◌else◌, Option, Some, None, length, replicate, slice_index, slice_set}
 use Rattle.finite_sums.specs.Sums.{total}
-use Rattle.access_model.specs.declared.actions.NodeInfo.{NodeInfo}
-use Rattle.access_model.specs.States.{size_of, is_dirty, IsDirectory}
-use Rattle.cpu_words.specs.declared.names.WordName.{WordName}
-use Rattle.cpu_words.specs.declared.names.WordName.TheVariants.{Used, Node, Kids}
-use Rattle.gated_tree.specs.declared.trees.Tree.{Tree}
-use Rattle.gated_tree.specs.declared.trees.TreeWords.{TreeWords}
-use Rattle.gated_tree.specs.declared.snapshots.SnapshotStep.{SnapshotStep}
+use Rattle.access_model.specs.{declared.actions.NodeInfo.{NodeInfo}, States.{size_of, is_dirty, IsDirectory}}
+use Rattle.cpu_words.specs.declared.names.WordName.{WordName, TheVariants.{Used, Node, Kids}}
+use Rattle.gated_tree.specs.declared.{trees.{Tree.{Tree}, TreeWords.{TreeWords}}, snapshots.SnapshotStep.{SnapshotStep}}
 use Rattle.gated_tree.specs.declared.snapshots.SnapshotStep.TheVariants.{LoadsKids}
 use Rattle.node_words.specs.Nodes.{node_shown, node_after}
 

@@ -2,22 +2,17 @@
 use Rattle.std.proofs.Common.{◌≡◌, ℕ, refl, subst, Bool, true, false, List, [], Option, Some, None, Result, Ok, Err}
 use Rattle.std.specs.Prelude.{IfErr, ok_or, if◌then◌else◌, ◌==◌, bytes_eq, codes, not}
 use Rattle.access_model.specs.declared.errors.GateError.TheVariants.{NoMemory, Invalid}
-use Rattle.schedule_text.specs.declared.commands.Line.{Line}
-use Rattle.schedule_text.specs.declared.commands.Line.TheVariants.{Skipped, Config as ConfigLine, Request as RequestLine}
-use Rattle.schedule_text.specs.declared.commands.Request.{Request}
-use Rattle.schedule_text.specs.declared.commands.Request.TheVariants.{Words, Tree, Model, Task}
-use Rattle.schedule_text.specs.declared.commands.TaskCommand.{TaskCommand}
+use Rattle.schedule_text.specs.declared.commands.Line.{Line, TheVariants.{Skipped, Config as ConfigLine, Request as RequestLine}}
+use Rattle.schedule_text.specs.declared.commands.{Request.{Request, TheVariants.{Words, Tree, Model, Task}}, TaskCommand.{TaskCommand}}
 use Rattle.schedule_text.specs.declared.verbs.Verb.{Verb}
 use Rattle.schedule_text.specs.declared.verbs.Verb.TheVariants.{Want, TryWant, Drop, Start, TryStart, End, WantWrite, DropWrite, Change, TryChange, Remount, Callback, Freeze, Thaw, Create, Remove, Grow, Move, Fault as FaultVerb, Flush, Open, Close, TryClose, Snapshot, TrySnapshot, Step, Run}
+use Rattle.schedule_text.specs.Parsing.{◌>>=◌, expect, number_at, byte_at, code_at, hook_at, holder_at, holder_given, read_only_at, want_of, drop_of, start_of, end_of, want_write_of, drop_write_of, change_of, remount_of, callback_of, freeze_of, thaw_of, kind_at, create_of, remove_of, grow_of, move_of, fault_of, flush_of, open_of, close_of, step_of, run_of, arguments_of, task_line, alone, command_line, config_of, config_line, line_for, parsed, task_of}
+use Rattle.schedule_text.specs.Verbs.{takes, verb_of}
 use Rattle.schedule_lines.specs.declared.faults.Fault.{Fault}
 use Rattle.schedule_lines.specs.declared.faults.Fault.TheVariants.{ConfigExpected, ConfigTwice, UnknownCommand, WrongNumberOfWords, NoSuchTask, BadNumber, BadWord, ReadFailed, WriteFailed, Refused}
-use Rattle.schedule_text.specs.Parsing.{◌>>=◌, expect, number_at, byte_at, code_at, hook_at, holder_at, holder_given, read_only_at, want_of, drop_of, start_of, end_of, want_write_of, drop_write_of, change_of, remount_of, callback_of, freeze_of, thaw_of, kind_at, create_of, remove_of, grow_of, move_of, fault_of, flush_of, open_of, close_of, step_of, run_of, arguments_of, task_line, alone, command_line, config_of, config_line, line_for, parsed, task_of}
-use Rattle.schedule_lines.specs.Words.{first_word, after_word, word_count}
-use Rattle.schedule_text.specs.Verbs.{takes, verb_of}
-use Rattle.schedule_lines.specs.Numbers.{is_digits}
-use Rattle.transcripts.specs.Limits.{is_config}
+use Rattle.schedule_lines.specs.{Words.{first_word, after_word, word_count}, Numbers.{is_digits}}
+use Rattle.transcripts.specs.{Limits.{is_config}, Transcript.{ReplayState, line_effect, config_effect}}
 use Rattle.line_players.specs.Replayed.{IsTranscript, EndsWhole, EndsBy}
-use Rattle.transcripts.specs.Transcript.{ReplayState, line_effect, config_effect}
 use Rattle.gate_world.specs.declared.config.Config.{Config}
 
 -- whether a fault is the schedule's own

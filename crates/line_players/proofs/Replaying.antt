@@ -1,29 +1,22 @@
 -- A replay from one step to the next, and to its end.
 use Rattle.std.proofs.Common.{◌≡◌, ℕ, zero, suc, ◌+◌, ◌-◌, ◌<◌, ◌≤◌, refl, sym, ap, subst, ◌∙◌, arith, List, [], ◌∷◌, ◌++◌, length, take, drop, append_assoc, append-nil, length-take, length-append, take-append-drop, true, false, Option, Some, None, Result, Ok, Err, ◌⊎◌, inl, inr}
-use Rattle.std.specs.Prelude.{IfSome, IsSome, IfOk, IfErr, OnOk, OnErr}
-use Rattle.std.specs.Result.{result_and}
-use Rattle.std.specs.List.{count_by}
-use Rattle.std.specs.Io.KnownBytes.{Appends, Consumes, Keeps, IsAtEnd}
 use Rattle.std.proofs.KnownBytes.{Consumes-nil, Consumes-trans, Consumes-kept, Appends-nil, Appends-trans}
-use Rattle.std.proofs.lemmas.List.{take-append-le, drop-append-le, drop-take}
-use Rattle.std.proofs.lemmas.List.Sums.{sum_by-append}
+use Rattle.std.proofs.lemmas.List.{take-append-le, drop-append-le, drop-take, Sums.{sum_by-append}}
+use Rattle.std.specs.{Prelude.{IfSome, IsSome, IfOk, IfErr, OnOk, OnErr}, Result.{result_and}, List.{count_by}}
+use Rattle.std.specs.Io.KnownBytes.{Appends, Consumes, Keeps, IsAtEnd}
 use lib.Seq.{take-take}
 use Rattle.access_model.specs.declared.errors.GateError.TheVariants.{NoMemory}
-use Rattle.schedule_text.specs.declared.commands.Line.{Line}
+use Rattle.schedule_text.specs.{declared.commands.Line.{Line}, Parsing.{parsed}}
 use Rattle.schedule_lines.specs.declared.faults.Fault.{Fault}
 use Rattle.schedule_lines.specs.declared.faults.Fault.TheVariants.{TooManyLines, LineTooLong, CutOff, ConfigExpected, ReadFailed, WriteFailed, Refused}
-use Rattle.schedule_lines.specs.declared.lines.Front.TheVariants.{Line as WholeLine, TooLong, Part}
-use Rattle.schedule_lines.specs.Lines.{is_newline, front_of}
-use Rattle.schedule_text.specs.Parsing.{parsed}
-use Rattle.schedule_lines.specs.bytes.Reading.{ReadsOn}
+use Rattle.schedule_lines.specs.{declared.lines.Front.TheVariants.{Line as WholeLine, TooLong, Part}, Lines.{is_newline, front_of}}
+use Rattle.schedule_lines.specs.{bytes.{Reading.{ReadsOn}, Writing.{AppendsPart}}, declared.bytes.replay_faults.ReplayFault.{ReplayFault}}
 use Rattle.line_players.specs.Replayed.{IsFront, MayGoOn, PrintsBefore, EndsWhole, EndsBy, Reports, Replayed}
-use Rattle.transcripts.specs.Transcript.{ReplayState, Transcript, stops, ends, ends_or, then_prints, tasks_of, line_effect, transcript_from, transcript}
 use Rattle.line_players.specs.Replaying.{ReplayUnderWay, Stops, AllDone, LinesEnd}
-use Rattle.schedule_lines.specs.bytes.Writing.{AppendsPart}
-use Rattle.schedule_lines.specs.declared.bytes.replay_faults.ReplayFault.{ReplayFault}
+use Rattle.transcripts.specs.Transcript.{ReplayState, Transcript, stops, ends, ends_or, then_prints, tasks_of, line_effect, transcript_from, transcript}
 use Rattle.line_players.proofs.Faults.{is_own, ends_by_own, ends_whole, fault_of_parsed, fault_of_effect}
-use Rattle.schedule_lines.proofs.bytes.Fronts.{line_within, line_stays, line_alone, too_long_stays, part_short, part_lines, one_line, none_part}
 use Rattle.line_players.proofs.Unrolled.{after_line, line_fault, effect_fault, long_fault, part_ends, lines_spent, none_left, part_silent, none_sound, part_sound}
+use Rattle.schedule_lines.proofs.bytes.Fronts.{line_within, line_stays, line_alone, too_long_stays, part_short, part_lines, one_line, none_part}
 
 -- ---- the first of some bytes
 

@@ -1,12 +1,8 @@
 -- The transcript of bytes by their first line.
 use Rattle.std.proofs.Common.{◌≡◌, ℕ, zero, suc, ◌+◌, refl, ap, subst, ◌∙◌, sym, List, [], ◌∷◌, take, drop, Option, Some, None, Result, Ok, Err, inl, inr}
-use Rattle.schedule_text.specs.declared.commands.Line.{Line}
-use Rattle.schedule_lines.specs.declared.faults.Fault.{Fault}
-use Rattle.schedule_lines.specs.declared.faults.Fault.TheVariants.{LineTooLong, CutOff, TooManyLines}
-use Rattle.schedule_lines.specs.declared.lines.Front.{Front}
-use Rattle.schedule_lines.specs.declared.lines.Front.TheVariants.{Line as WholeLine, TooLong, Part}
-use Rattle.schedule_lines.specs.Lines.{front_of}
-use Rattle.schedule_text.specs.Parsing.{parsed}
+use Rattle.schedule_text.specs.{declared.commands.Line.{Line}, Parsing.{parsed}}
+use Rattle.schedule_lines.specs.declared.{faults.Fault.{Fault, TheVariants.{LineTooLong, CutOff, TooManyLines}}, lines.Front.{Front}}
+use Rattle.schedule_lines.specs.{declared.lines.Front.TheVariants.{Line as WholeLine, TooLong, Part}, Lines.{front_of}}
 use Rattle.line_players.specs.Replayed.{MayGoOn}
 use Rattle.transcripts.specs.Transcript.{ReplayState, Transcript, stops, ends, ends_or, then_prints, tasks_of, line_effect, transcript_from}
 use Rattle.line_players.proofs.Faults.{fault_of_effect}

@@ -1,10 +1,8 @@
 -- A replay on its way, by what its player plays.
-use Rattle.std.specs.Prelude.{◌≡◌, ℕ, Bool, true, List, [], Option, None}
-use Rattle.std.specs.Io.KnownBytes.{IsAtEnd}
+use Rattle.std.specs.{Prelude.{◌≡◌, ℕ, Bool, true, List, [], Option, None}, Io.KnownBytes.{IsAtEnd}}
 use Rattle.schedule_lines.specs.bytes.Pending.{pending}
 use Rattle.transcripts.specs.Transcript.{ReplayState}
-use Rattle.line_players.specs.Replaying.{ReplayUnderWay}
-use Rattle.line_players.specs.declared.line_replay.LineReplay.{LineReplay}
+use Rattle.line_players.specs.{Replaying.{ReplayUnderWay}, declared.line_replay.LineReplay.{LineReplay}}
 
 -- what players of this type play
 abbrev pub Playing : Type 0 → Type 1

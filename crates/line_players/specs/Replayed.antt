@@ -2,12 +2,10 @@
 use Rattle.std.specs.Prelude.{◌≡◌, ◌≤◌, ℕ, ◌+◌, ◌⊎◌, List, ◌++◌, length, Option, Some, None, Result, Ok, Err, IfSome, count_by}
 use Rattle.std.specs.Io.KnownBytes.{Appends, Consumes}
 use Rattle.access_model.specs.declared.errors.GateError.TheVariants.{NoMemory}
-use Rattle.schedule_lines.specs.Faults.{text_of, cause_of}
-use Rattle.schedule_lines.specs.Lines.{is_newline}
-use Rattle.schedule_lines.specs.declared.faults.Fault.{Fault}
+use Rattle.schedule_lines.specs.{Faults.{text_of, cause_of}, Lines.{is_newline}, declared.faults.Fault.{Fault}}
 use Rattle.schedule_lines.specs.declared.faults.Fault.TheVariants.{CutOff, ConfigExpected, ReadFailed, WriteFailed, Refused}
-use Rattle.transcripts.specs.Transcript.{transcript}
 use Rattle.schedule_lines.specs.declared.bytes.replay_faults.ReplayFault.{ReplayFault}
+use Rattle.transcripts.specs.Transcript.{transcript}
 
 -- some bytes from the first on
 abbrev pub IsFront : List ℕ → List ℕ → Type 0

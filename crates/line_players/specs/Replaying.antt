@@ -1,9 +1,7 @@
 -- A replay that is under way, and one whose lines have ended: over whatever gates.
 use Rattle.std.specs.Prelude.{◌≡◌, ℕ, ◌+◌, ◌-◌, List, [], ◌++◌, Option, Result, Ok, Err, IsSome, count_by}
 use Rattle.std.specs.Io.KnownBytes.{Appends, Consumes, IsAtEnd}
-use Rattle.schedule_lines.specs.Lines.{is_newline}
-use Rattle.schedule_lines.specs.declared.faults.Fault.{Fault}
-use Rattle.schedule_lines.specs.declared.faults.Fault.TheVariants.{WriteFailed}
+use Rattle.schedule_lines.specs.{Lines.{is_newline}, declared.faults.Fault.{Fault, TheVariants.{WriteFailed}}}
 use Rattle.line_players.specs.Replayed.{IsFront, EndsBy}
 use Rattle.transcripts.specs.Transcript.{ReplayState, transcript, transcript_from, then_prints}
 

@@ -2,16 +2,11 @@
 use Rattle.std.proofs.Common.{◌≡◌, ◌⊎◌, inl, inr, refl, sym, ap, subst, ◌∙◌, ℕ, zero, suc, Bool, true, false, List, Option, Some, None, Result, Ok, Err, IfOk}
 use Rattle.std.specs.Borrow.{Bor}
 use mathlib.Core.Bool.{true≢false}
-use Rattle.command_line.specs.CommandLine.{IsPlainOfInput}
-use Rattle.command_line.specs.declared.words.ProgramRequest.{ProgramRequest}
+use Rattle.command_line.specs.{CommandLine.{IsPlainOfInput}, declared.words.{ProgramRequest.{ProgramRequest}, ReplayForm.{ReplayForm}}}
+use Rattle.command_line.specs.declared.words.{ReplayForm.TheVariants.{Plain, Events, Columns, Json, Html}, OutcomeForm.TheVariants.{Text}}
+use Rattle.command_line.specs.declared.words.{Numbers.{Numbers}, Outcomes.{Outcomes}}
 use Rattle.command_line.specs.declared.words.ProgramRequest.TheVariants as ask
-use Rattle.command_line.specs.declared.words.ReplayForm.{ReplayForm}
-use Rattle.command_line.specs.declared.words.ReplayForm.TheVariants.{Plain, Events, Columns, Json, Html}
-use Rattle.command_line.specs.declared.words.OutcomeForm.TheVariants.{Text}
-use Rattle.command_line.specs.declared.words.Numbers.{Numbers}
-use Rattle.command_line.specs.declared.words.Outcomes.{Outcomes}
-use Rattle.exit_status.specs.Endings.{of_file}
-use Rattle.exit_status.specs.declared.ends.ProgramEnding.{ProgramEnding}
+use Rattle.exit_status.specs.{Endings.{of_file}, declared.ends.ProgramEnding.{ProgramEnding}}
 use Rattle.exit_status.specs.declared.ends.ProgramEnding.TheVariants.{Done, DoneOfFile, DoneOverGates, Shown, Passed, Blessed, Listed, Ran, Told, Refused, Misused}
 use Rattle.program_checks.specs.Checks.{TellsPassed, count_checked}
 use Rattle.program_replay.specs.Replays.{EndsReplayed, done_in, done_of, ending_of}

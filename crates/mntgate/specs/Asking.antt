@@ -1,21 +1,14 @@
 -- What the program does that is asked for something, and how it ends.
-use Rattle.std.specs.Prelude.{◌≡◌, ◌⊎◌, ℕ, suc, false, List, Option, Some, None, codes, vec_len}
-use Rattle.std.specs.Borrow.{Bor}
+use Rattle.std.specs.{Prelude.{◌≡◌, ◌⊎◌, ℕ, suc, false, List, Option, Some, None, codes, vec_len}, Borrow.{Bor}}
 use Rattle.program_replay.specs.Replays.{EndsReplayed, EndsReplayedFile, EndsReplayedNamed, IsRefusedUnread, done_in, done_of}
 use Rattle.program_checks.specs.Checks.{TellsPassed, count_checked}
 use Rattle.program_races.specs.Outcomes.{EndsTold}
-use Rattle.command_line.specs.CommandLine.{IsPlain}
-use Rattle.command_line.specs.declared.words.OutcomeForm.TheVariants.{Text}
-use Rattle.command_line.specs.declared.words.Numbers.{Numbers}
-use Rattle.command_line.specs.declared.words.Outcomes.{Outcomes}
-use Rattle.command_line.specs.declared.words.Replay.{Replay}
-use Rattle.command_line.specs.declared.words.ProgramRequest.{ProgramRequest}
+use Rattle.command_line.specs.{CommandLine.{IsPlain}, declared.words.{OutcomeForm.TheVariants.{Text}, Numbers.{Numbers}}}
+use Rattle.command_line.specs.declared.words.{Outcomes.{Outcomes}, Replay.{Replay}, ProgramRequest.{ProgramRequest}}
 use Rattle.command_line.specs.declared.words.ProgramRequest.TheVariants as ask
-use Rattle.exit_status.specs.declared.ends.ProgramEnding.{ProgramEnding}
-use Rattle.exit_status.specs.declared.ends.ProgramEnding.TheVariants.{Listed, Passed, Blessed, Ran, Told, Refused, Misused}
+use Rattle.exit_status.specs.declared.ends.ProgramEnding.{ProgramEnding, TheVariants.{Listed, Passed, Blessed, Ran, Told, Refused, Misused}}
 use Rattle.gate_runs.specs.Told.{WasRun}
-use Rattle.run_plans.specs.Meetings.{unseen}
-use Rattle.run_plans.specs.Plans.{MayRun}
+use Rattle.run_plans.specs.{Meetings.{unseen}, Plans.{MayRun}}
 
 -- How a replay ends, where its reader had and has this left, and its writer held and holds this.
 pub record EndsReplay (r : Replay) (input left held holds : Option (List ℕ)) (ending : ProgramEnding) : Type 0 where

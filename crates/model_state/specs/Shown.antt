@@ -1,13 +1,8 @@
 -- The model's fields as the limits and the state that they stand for.
 use Rattle.std.specs.Prelude.{ℕ, ◌<◌, ◌≤◌, Bool, false, Option, None, List, [], slice_index, slice_index_or, vec_len}
-use Rattle.access_model.specs.declared.actions.Action.{Action}
-use Rattle.access_model.specs.declared.actions.Gate.{Gate}
-use Rattle.access_model.specs.declared.actions.Gate.TheVariants.{Mount, Level}
-use Rattle.access_model.specs.declared.actions.NodeInfo.{NodeInfo}
-use Rattle.model_state.specs.declared.model.Accesses.{Accesses}
-use Rattle.model_state.specs.declared.model.Model.{Model}
-use Rattle.access_model.specs.States.{Limits, State, BoundedState, opening_state}
-use Rattle.access_model.specs.Actions.{after_action}
+use Rattle.access_model.specs.declared.actions.{Action.{Action}, Gate.{Gate, TheVariants.{Mount, Level}}, NodeInfo.{NodeInfo}}
+use Rattle.access_model.specs.{States.{Limits, State, BoundedState, opening_state}, Actions.{after_action}}
+use Rattle.model_state.specs.declared.model.{Accesses.{Accesses}, Model.{Model}}
 
 -- no access at any mount or level, and no file open
 abbrev pub nothing : Accesses

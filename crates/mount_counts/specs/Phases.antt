@@ -1,29 +1,16 @@
 -- The order of events of want, drop and change: which word an event touches and how, and what comes after it.
 use Rattle.std.specs.Prelude.{ℕ, ◌+◌, Bool, true, false, not, ◌==◌, if◌then◌else◌, Option, Some, None, Ok, Err, bit_and}
-use Rattle.access_model.specs.declared.actions.Action.{Action}
-use Rattle.access_model.specs.declared.actions.Action.TheVariants.{Grant, Return, MountRo, MountRw}
-use Rattle.access_model.specs.declared.actions.Gate.TheVariants.{Mount}
-use Rattle.access_model.specs.declared.errors.GateError.TheVariants.{Again, Busy, ReadOnly}
-use Rattle.access_model.specs.declared.replies.Next.{Next}
-use Rattle.access_model.specs.declared.replies.Next.TheVariants.{Go, Wait, Done}
-use Rattle.access_model.specs.declared.replies.Reply.TheVariants.{Unit as UnitReply}
+use Rattle.access_model.specs.declared.actions.{Action.{Action, TheVariants.{Grant, Return, MountRo, MountRw}}, Gate.TheVariants.{Mount}}
+use Rattle.access_model.specs.declared.{errors.GateError.TheVariants.{Again, Busy, ReadOnly}, replies.Next.{Next}}
+use Rattle.access_model.specs.declared.replies.{Next.TheVariants.{Go, Wait, Done}, Reply.TheVariants.{Unit as UnitReply}}
 use Rattle.access_model.specs.Replies.{map_next}
-use Rattle.cpu_words.specs.declared.names.WordName.{WordName}
-use Rattle.cpu_words.specs.declared.names.WordName.TheVariants.{Umount, SbFlags, Remount, MountFlags, MountCount}
-use Rattle.cpu_words.specs.declared.events.Touch.{Touch}
-use Rattle.cpu_words.specs.declared.events.Touch.TheVariants.{Load, Store, Add, Sub, Or, And, Cas}
-use Rattle.cpu_words.specs.declared.sums.Sum.{Sum}
-use Rattle.cpu_words.specs.declared.sums.Taken.{Taken}
-use Rattle.cpu_words.specs.declared.sums.Taken.TheVariants.{More, Total}
-use Rattle.cpu_words.specs.Hooks.{HookAnswer}
-use Rattle.cpu_words.specs.Sums.{sum_taking}
-use Rattle.mount_counts.specs.declared.phases.MountPhase.{MountPhase}
-use Rattle.mount_counts.specs.declared.phases.MountPhase.TheVariants.{Want as Wants, Drop as Drops, Change as Changes}
-use Rattle.mount_counts.specs.declared.phases.Want.{Want}
-use Rattle.mount_counts.specs.declared.phases.WantStep.{WantStep}
+use Rattle.cpu_words.specs.declared.names.WordName.{WordName, TheVariants.{Umount, SbFlags, Remount, MountFlags, MountCount}}
+use Rattle.cpu_words.specs.declared.{events.Touch.{Touch, TheVariants.{Load, Store, Add, Sub, Or, And, Cas}}, sums.Sum.{Sum}}
+use Rattle.cpu_words.specs.{declared.sums.Taken.{Taken, TheVariants.{More, Total}}, Hooks.{HookAnswer}, Sums.{sum_taking}}
+use Rattle.mount_counts.specs.declared.phases.MountPhase.{MountPhase, TheVariants.{Want as Wants, Drop as Drops, Change as Changes}}
+use Rattle.mount_counts.specs.declared.phases.{Want.{Want}, WantStep.{WantStep}}
 use Rattle.mount_counts.specs.declared.phases.WantStep.TheVariants.{CountsUp, LoadsHold, LoadsRemount, LoadsReadOnly, LoadsSuperblock, CountsDown}
-use Rattle.mount_counts.specs.declared.phases.Change.{Change}
-use Rattle.mount_counts.specs.declared.phases.ChangeStep.{ChangeStep}
+use Rattle.mount_counts.specs.declared.phases.{Change.{Change}, ChangeStep.{ChangeStep}}
 use Rattle.mount_counts.specs.declared.phases.ChangeStep.TheVariants.{Locks, LoadsFlags, LoadsSuperblock as LoadsSb, ClearsReadOnly, SetsHold, Sums, SetsReadOnly, ClearsHold, Releases}
 
 -- a flag of a flags word is set: READONLY is 1, HOLD is 2

@@ -1,26 +1,14 @@
 -- The order of events of a remount of the superblock: which word an event touches and how, and what comes after it. Two events are
 -- decided by the answer of the file system.
 use Rattle.std.specs.Prelude.{ℕ, ◌+◌, Bool, true, false, not, ◌==◌, nat_lt, if◌then◌else◌, Option, Some, None, Ok, Err}
-use Rattle.access_model.specs.declared.actions.Action.{Action}
-use Rattle.access_model.specs.declared.actions.Action.TheVariants.{SbRo, SbRw, Clean}
-use Rattle.access_model.specs.declared.errors.GateError.TheVariants.{Busy, Hook}
-use Rattle.access_model.specs.declared.replies.Next.{Next}
-use Rattle.access_model.specs.declared.replies.Next.TheVariants.{Go, Wait, Done}
-use Rattle.access_model.specs.declared.replies.Reply.TheVariants.{Unit as UnitReply}
+use Rattle.access_model.specs.declared.{actions.Action.{Action, TheVariants.{SbRo, SbRw, Clean}}, errors.GateError.TheVariants.{Busy, Hook}}
+use Rattle.access_model.specs.declared.replies.{Next.{Next, TheVariants.{Go, Wait, Done}}, Reply.TheVariants.{Unit as UnitReply}}
 use Rattle.cpu_words.specs.declared.names.WordName.{WordName}
 use Rattle.cpu_words.specs.declared.names.WordName.TheVariants.{Umount, Stage, SbFlags, Remount as RemountWord, Removed, MountFlags, MountCount, Node}
-use Rattle.cpu_words.specs.declared.events.Touch.{Touch}
-use Rattle.cpu_words.specs.declared.events.Touch.TheVariants.{Load, Store, Or, And, Cas}
-use Rattle.cpu_words.specs.declared.sums.Sum.{Sum}
-use Rattle.cpu_words.specs.declared.sums.Taken.{Taken}
-use Rattle.cpu_words.specs.declared.sums.Taken.TheVariants.{More, Total}
-use Rattle.cpu_words.specs.Hooks.{HookAnswer}
-use Rattle.cpu_words.specs.Sums.{sum_taking}
-use Rattle.mount_counts.specs.Phases.{has_flag}
-use Rattle.mount_counts.specs.Sets.{no_mounts, with_mount, lowest, without_lowest}
-use Rattle.mount_counts.specs.declared.sets.MountSet.{MountSet}
-use Rattle.mount_counts.specs.declared.remounts.Remount.{Remount}
-use Rattle.mount_counts.specs.declared.remounts.RemountStep.{RemountStep}
+use Rattle.cpu_words.specs.declared.{events.Touch.{Touch, TheVariants.{Load, Store, Or, And, Cas}}, sums.{Sum.{Sum}, Taken.{Taken}}}
+use Rattle.cpu_words.specs.{declared.sums.Taken.TheVariants.{More, Total}, Hooks.{HookAnswer}, Sums.{sum_taking}}
+use Rattle.mount_counts.specs.{Phases.{has_flag}, Sets.{no_mounts, with_mount, lowest, without_lowest}, declared.sets.MountSet.{MountSet}}
+use Rattle.mount_counts.specs.declared.remounts.{Remount.{Remount}, RemountStep.{RemountStep}}
 use Rattle.mount_counts.specs.declared.remounts.RemountStep.TheVariants.{
   Locks,
   LoadsStage,

@@ -1,6 +1,5 @@
 -- Sets of mounts 0 to 7, one bit for each.
-use Rattle.std.specs.Prelude.{ℕ, ◌*◌, ◌%◌, ◌^◌, ◌==◌, Bool, bit_and, bit_or}
-use Rattle.std.specs.Int.{bit_at, bit_not, trailing_zeros, w8}
+use Rattle.std.specs.{Prelude.{ℕ, ◌*◌, ◌%◌, ◌^◌, ◌==◌, Bool, bit_and, bit_or}, Int.{bit_at, bit_not, trailing_zeros, w8}}
 use Rattle.mount_counts.specs.declared.sets.MountSet.{MountSet}
 
 -- the set has this mount

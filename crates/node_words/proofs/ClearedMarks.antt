@@ -1,12 +1,8 @@
 -- The dirty mark of a node's word, cleared. This file alone sees its bit.
-use Rattle.std.proofs.Common.{◌≡◌, ℕ, ◌+◌, ◌*◌, ◌/◌, ◌%◌, ◌<◌, false, refl, sym, ap, ◌∙◌, arith}
+use Rattle.std.proofs.{Common.{◌≡◌, ℕ, ◌+◌, ◌*◌, ◌/◌, ◌%◌, ◌<◌, false, refl, sym, ap, ◌∙◌, arith}, lemmas.Bool.{eq-eqb, ne_eqb}}
+use Rattle.std.proofs.lemmas.Nat.{and_comm, and-not, Bits.{and_pow}}
 use Rattle.std.specs.Prelude.{◌==◌, bit_and, option_map, Some}
-use Rattle.std.proofs.lemmas.Bool.{eq-eqb, ne_eqb}
-use Rattle.std.proofs.lemmas.Nat.{and_comm, and-not}
-use Rattle.std.proofs.lemmas.Nat.Bits.{and_pow}
-use Rattle.access_model.specs.declared.actions.Kind.TheVariants.{File}
-use Rattle.access_model.specs.Actions.{marked}
-use Rattle.access_model.specs.States.{is_dirty, IsFile, IsDirectory}
+use Rattle.access_model.specs.{declared.actions.Kind.TheVariants.{File}, Actions.{marked}, States.{is_dirty, IsFile, IsDirectory}}
 use Rattle.node_words.specs.Nodes.{kind_in, dirty_in, removed_in, opens_in, parent_in, size_in, IsPacked, IsNode, mark_bit, word_of, node_of, node_shown, marked_node}
 use Rattle.node_words.proofs.Packing.{bit_back, word_returns}
 

@@ -1,10 +1,8 @@
 -- Nodes to words and back.
 use Rattle.std.proofs.Common.{◌≡◌, ℕ, zero, suc, Bool, true, false, ◌/◌, ◌%◌, ◌<◌, ◌≤◌, refl, sym, ap, ◌∙◌, subst, inl, inr, arith}
+use Rattle.std.proofs.lemmas.Bool.{cases_Bool, Decides.{nat_tests}}
 use Rattle.std.specs.Prelude.{◌==◌, IfSome, Option, Some, None, if◌then◌else◌, option_map}
-use Rattle.std.proofs.lemmas.Bool.{cases_Bool}
-use Rattle.std.proofs.lemmas.Bool.Decides.{nat_tests}
-use Rattle.access_model.specs.declared.actions.Kind.{Kind}
-use Rattle.access_model.specs.declared.actions.Kind.TheVariants.{File, Dir}
+use Rattle.access_model.specs.declared.actions.Kind.{Kind, TheVariants.{File, Dir}}
 use Rattle.node_words.specs.declared.nodes.NodeWord.{NodeWord}
 use Rattle.node_words.specs.Nodes.{kind_in, dirty_in, removed_in, parent_in, opens_in, size_in, is_stray, IsPacked, IsLawful, placed, kind_bits, mark_bit, word_of, kind_of, node_of, unpacked, info_of, node_shown}
 

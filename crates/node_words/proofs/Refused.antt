@@ -1,12 +1,8 @@
 -- Why a look at a node is refused.
-use Rattle.std.proofs.lemmas.Grind.{common_steps}
-use Rattle.std.proofs.Common.{◌≡◌, ℕ, Bool, true, ◌<◌, refl, sym, ap, ◌∙◌, inl, inr, arith}
+use Rattle.std.proofs.{lemmas.Grind.{common_steps}, Common.{◌≡◌, ℕ, Bool, true, ◌<◌, refl, sym, ap, ◌∙◌, inl, inr, arith}}
+use Rattle.std.proofs.lemmas.Bool.{cases_Bool, eq-eqb, Decides.{eqb_tells}}
 use Rattle.std.specs.Prelude.{◌⊎◌, ◌==◌, ◌||◌, Option, Some, None, Ok, Err, Result, is_some, option_map}
-use Rattle.std.proofs.lemmas.Bool.{cases_Bool, eq-eqb}
-use Rattle.std.proofs.lemmas.Bool.Decides.{eqb_tells}
-use Rattle.access_model.specs.declared.actions.Kind.{Kind}
-use Rattle.access_model.specs.declared.actions.Kind.TheVariants.{File, Dir}
-use Rattle.access_model.specs.declared.errors.GateError.{GateError}
+use Rattle.access_model.specs.declared.{actions.Kind.{Kind, TheVariants.{File, Dir}}, errors.GateError.{GateError}}
 use Rattle.access_model.specs.declared.errors.GateError.TheVariants.{NoEntry, NotDir, IsDir}
 use Rattle.node_words.specs.declared.nodes.NodeWord.{NodeWord}
 use Rattle.node_words.specs.Nodes.{kind_in, removed_in, kind_of, kind_bits, node_of, unpacked, as_file, as_directory, file_in, directory_in}

@@ -1,9 +1,7 @@
 -- What the words of nodes say and show: of a node that a call makes, and of one that it loaded.
 use Rattle.std.proofs.Common.{◌≡◌, ℕ, Bool, true, false, ◌<◌, ◌≤◌, refl, sym, ap, ◌∙◌, subst, arith}
 use Rattle.std.specs.Prelude.{◌==◌, Option, Some, None, Ok, if◌then◌else◌, option_map}
-use Rattle.access_model.specs.declared.actions.Kind.{Kind}
-use Rattle.access_model.specs.declared.actions.Kind.TheVariants.{File, Dir}
-use Rattle.access_model.specs.States.{is_dirty, is_removed, IsDirectory}
+use Rattle.access_model.specs.{declared.actions.Kind.{Kind, TheVariants.{File, Dir}}, States.{is_dirty, is_removed, IsDirectory}}
 use Rattle.node_words.specs.declared.nodes.NodeWord.{NodeWord}
 use Rattle.node_words.specs.Nodes.{kind_in, dirty_in, removed_in, opens_in, IsPacked, IsNode, IsLawful, word_of, kind_of, node_of, is_stray, info_of, node_shown, new_node, as_file, as_any_file, file_in, any_file_in, directory_in}
 use Rattle.node_words.proofs.Packing.{packed_unpacks, fields_placed, fields_again, lawful_packed, fields_shown}

@@ -1,10 +1,7 @@
 -- Node words, as numbers: the kind in bits 0 and 1 (0 free, 1 a file, 2 a directory), the dirty mark in bit 2, the removed mark in bit 3, the
 -- parent in bits 8 to 13, the number of tasks that have the file open in bits 16 to 22, the size in bits 32 to 63. A free node is the word 0.
 use Rattle.std.specs.Prelude.{◌≡◌, ℕ, ◌+◌, ◌-◌, ◌*◌, ◌/◌, ◌%◌, ◌<◌, ◌≤◌, ◌==◌, ◌||◌, ◌&&◌, not, Bool, true, false, nat_lt, if◌then◌else◌, Option, Some, None, option_map, Result, Ok, Err}
-use Rattle.access_model.specs.declared.actions.Kind.{Kind}
-use Rattle.access_model.specs.declared.actions.Kind.TheVariants.{File, Dir}
-use Rattle.access_model.specs.declared.actions.NodeInfo.{NodeInfo}
-use Rattle.access_model.specs.declared.errors.GateError.{GateError}
+use Rattle.access_model.specs.declared.{actions.{Kind.{Kind, TheVariants.{File, Dir}}, NodeInfo.{NodeInfo}}, errors.GateError.{GateError}}
 use Rattle.access_model.specs.declared.errors.GateError.TheVariants.{NoEntry, NotDir, IsDir}
 use Rattle.node_words.specs.declared.nodes.NodeWord.{NodeWord}
 

@@ -1,17 +1,9 @@
 -- What comes after a look at a node, and the order of events of a clearing of all dirty marks.
 use Rattle.std.specs.Prelude.{ℕ, ◌==◌, if◌then◌else◌, Option, Some, None, Result, Ok, Err}
-use Rattle.access_model.specs.declared.actions.Action.{Action}
-use Rattle.access_model.specs.declared.actions.Action.TheVariants.{Clean}
-use Rattle.access_model.specs.declared.errors.GateError.{GateError}
-use Rattle.access_model.specs.declared.replies.Next.{Next}
-use Rattle.access_model.specs.declared.replies.Next.TheVariants.{Go, Done}
-use Rattle.access_model.specs.declared.replies.Reply.TheVariants.{Unit as UnitReply}
-use Rattle.cpu_words.specs.declared.names.WordName.{WordName}
-use Rattle.cpu_words.specs.declared.names.WordName.TheVariants.{Node}
-use Rattle.cpu_words.specs.declared.events.Touch.{Touch}
-use Rattle.cpu_words.specs.declared.events.Touch.TheVariants.{And}
-use Rattle.node_words.specs.declared.marks.ClearMarks.{ClearMarks}
-use Rattle.node_words.specs.Nodes.{dirty_in, node_after}
+use Rattle.access_model.specs.declared.{actions.Action.{Action, TheVariants.{Clean}}, errors.GateError.{GateError}, replies.Next.{Next}}
+use Rattle.access_model.specs.declared.replies.{Next.TheVariants.{Go, Done}, Reply.TheVariants.{Unit as UnitReply}}
+use Rattle.cpu_words.specs.declared.{names.WordName.{WordName, TheVariants.{Node}}, events.Touch.{Touch, TheVariants.{And}}}
+use Rattle.node_words.specs.{declared.marks.ClearMarks.{ClearMarks}, Nodes.{dirty_in, node_after}}
 
 -- What comes after a load of a node that a call needs to be of a kind: the call goes on with the node, or it is refused. A word that is
 -- no node's is loaded again, which never happens behind the gates.

@@ -1,11 +1,8 @@
 -- words of an rcu_sync, as numbers and back
 use Rattle.std.proofs.Common.{◌≡◌, ℕ, zero, suc, true, false, ◌/◌, ◌%◌, ◌<◌, ◌≤◌, refl, sym, ap, subst, ◌∙◌, inl, inr, arith}
+use Rattle.std.proofs.lemmas.Bool.{le-leb, Decides.{eqb_tells, leb_tells}}
 use Rattle.std.specs.Prelude.{Bool, Option, Some, None, ◌==◌}
-use Rattle.std.proofs.lemmas.Bool.{le-leb}
-use Rattle.std.proofs.lemmas.Bool.Decides.{eqb_tells, leb_tells}
-use Rattle.percpu_rwsem.specs.declared.sync_word.GpState.{GpState}
-use Rattle.percpu_rwsem.specs.declared.sync_word.GpState.TheVariants.{Idle, Enter, Passed, Exit, Replay}
-use Rattle.percpu_rwsem.specs.declared.sync_word.SyncWord.{SyncWord}
+use Rattle.percpu_rwsem.specs.declared.sync_word.{GpState.{GpState, TheVariants.{Idle, Enter, Passed, Exit, Replay}}, SyncWord.{SyncWord}}
 use Rattle.percpu_rwsem.specs.SyncWords.{bit, state_number, state_of, is_lawful, IsLawful, if_lawful, pack, unpack}
 
 -- a state is found again in its number

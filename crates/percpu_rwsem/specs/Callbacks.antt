@@ -1,24 +1,13 @@
 -- The order of events of a callback of a level's rcu_sync: which word an event touches and how, and what comes after it.
 use Rattle.std.specs.Prelude.{ℕ, true, false, Option, None, Ok}
-use Rattle.access_model.specs.declared.actions.Action.{Action}
-use Rattle.access_model.specs.declared.replies.Next.{Next}
-use Rattle.access_model.specs.declared.replies.Next.TheVariants.{Go, Wait, Done}
+use Rattle.access_model.specs.declared.{actions.Action.{Action}, replies.Next.{Next, TheVariants.{Go, Wait, Done}}}
 use Rattle.access_model.specs.declared.replies.Reply.TheVariants.{Ran}
-use Rattle.cpu_words.specs.declared.names.WordName.{WordName}
-use Rattle.cpu_words.specs.declared.names.WordName.TheVariants.{Section}
-use Rattle.cpu_words.specs.declared.events.Touch.{Touch}
-use Rattle.cpu_words.specs.declared.events.Touch.TheVariants.{Load}
-use Rattle.percpu_rwsem.specs.declared.grace.GraceNext.{GraceNext}
-use Rattle.percpu_rwsem.specs.declared.grace.GraceNext.TheVariants.{More as MoreSections, Wait as WaitsFor, Ended}
-use Rattle.percpu_rwsem.specs.declared.transitions.Transition.TheVariants.{Loads}
-use Rattle.percpu_rwsem.specs.declared.transitions.TransitionNext.{TransitionNext}
-use Rattle.percpu_rwsem.specs.declared.transitions.TransitionNext.TheVariants.{More, Undefined, Made}
-use Rattle.percpu_rwsem.specs.declared.callbacks.Callback.{Callback}
-use Rattle.percpu_rwsem.specs.declared.callbacks.CallbackStep.{CallbackStep}
-use Rattle.percpu_rwsem.specs.declared.callbacks.CallbackStep.TheVariants.{Claims, AwaitsSections, CallsBack}
-use Rattle.percpu_rwsem.specs.SyncWords.{on_claim, on_callback}
-use Rattle.percpu_rwsem.specs.Graces.{started, looked}
-use Rattle.percpu_rwsem.specs.Transitions.{transition_next, transition_after}
+use Rattle.cpu_words.specs.declared.{names.WordName.{WordName, TheVariants.{Section}}, events.Touch.{Touch, TheVariants.{Load}}}
+use Rattle.percpu_rwsem.specs.declared.grace.GraceNext.{GraceNext, TheVariants.{More as MoreSections, Wait as WaitsFor, Ended}}
+use Rattle.percpu_rwsem.specs.declared.transitions.{Transition.TheVariants.{Loads}, TransitionNext.{TransitionNext}}
+use Rattle.percpu_rwsem.specs.declared.{transitions.TransitionNext.TheVariants.{More, Undefined, Made}, callbacks.Callback.{Callback}}
+use Rattle.percpu_rwsem.specs.declared.callbacks.CallbackStep.{CallbackStep, TheVariants.{Claims, AwaitsSections, CallsBack}}
+use Rattle.percpu_rwsem.specs.{SyncWords.{on_claim, on_callback}, Graces.{started, looked}, Transitions.{transition_next, transition_after}}
 
 -- callback: take the one that is queued, wait for a grace period, and make its transition
 abbrev pub callback_next : Callback → CallbackStep → WordName × Touch

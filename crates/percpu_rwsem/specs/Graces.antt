@@ -1,8 +1,6 @@
 -- A grace period over the section words: a number is passed where its word is even, or another one than the first odd value found.
 use Rattle.std.specs.Prelude.{ℕ, ◌+◌, ◌%◌, Bool, true, ◌&&◌, ◌==◌, nat_lt, if◌then◌else◌, Option, Some, None}
-use Rattle.percpu_rwsem.specs.declared.grace.Grace.{Grace}
-use Rattle.percpu_rwsem.specs.declared.grace.GraceNext.{GraceNext}
-use Rattle.percpu_rwsem.specs.declared.grace.GraceNext.TheVariants.{More, Wait, Ended}
+use Rattle.percpu_rwsem.specs.declared.grace.{Grace.{Grace}, GraceNext.{GraceNext, TheVariants.{More, Wait, Ended}}}
 
 -- the value found is the first one
 abbrev pub is_first : Option ℕ → ℕ → Bool

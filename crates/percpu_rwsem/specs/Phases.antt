@@ -1,11 +1,7 @@
 -- The order of events of any operation at a level.
 use Rattle.std.specs.Prelude.{ℕ, Option}
-use Rattle.access_model.specs.declared.actions.Action.{Action}
-use Rattle.access_model.specs.declared.replies.Next.{Next}
-use Rattle.access_model.specs.Replies.{map_next}
-use Rattle.cpu_words.specs.declared.names.WordName.{WordName}
-use Rattle.cpu_words.specs.declared.events.Touch.{Touch}
-use Rattle.cpu_words.specs.Hooks.{HookAnswer}
+use Rattle.access_model.specs.{declared.{actions.Action.{Action}, replies.Next.{Next}}, Replies.{map_next}}
+use Rattle.cpu_words.specs.{declared.{names.WordName.{WordName}, events.Touch.{Touch}}, Hooks.{HookAnswer}}
 use Rattle.percpu_rwsem.specs.declared.phases.SemPhase.{SemPhase}
 use Rattle.percpu_rwsem.specs.declared.phases.SemPhase.TheVariants.{DownRead as DownReads, UpRead as UpReads, DownWrite as DownWrites}
 use Rattle.percpu_rwsem.specs.declared.phases.SemPhase.TheVariants.{UpWrite as UpWrites, Callback as Callbacks}

@@ -1,24 +1,14 @@
 -- The order of events of a down-read and an up-read: which word an event touches and how, and what comes after it.
 use Rattle.std.specs.Prelude.{ℕ, Bool, true, false, ◌==◌, if◌then◌else◌, Option, Some, None, Ok, Err}
-use Rattle.access_model.specs.declared.actions.Action.{Action}
-use Rattle.access_model.specs.declared.actions.Action.TheVariants.{Grant, Return}
-use Rattle.access_model.specs.declared.actions.Gate.TheVariants.{Level}
-use Rattle.access_model.specs.declared.errors.GateError.TheVariants.{Again}
-use Rattle.access_model.specs.declared.replies.Next.{Next}
-use Rattle.access_model.specs.declared.replies.Next.TheVariants.{Go, Wait, Done}
+use Rattle.access_model.specs.declared.actions.{Action.{Action, TheVariants.{Grant, Return}}, Gate.TheVariants.{Level}}
+use Rattle.access_model.specs.declared.{errors.GateError.TheVariants.{Again}, replies.Next.{Next, TheVariants.{Go, Wait, Done}}}
 use Rattle.access_model.specs.declared.replies.Reply.TheVariants.{Unit as UnitReply}
-use Rattle.cpu_words.specs.declared.names.WordName.{WordName}
-use Rattle.cpu_words.specs.declared.names.WordName.TheVariants.{Block, Sync, LevelCount, Section}
-use Rattle.cpu_words.specs.declared.events.Touch.{Touch}
+use Rattle.cpu_words.specs.declared.{names.WordName.{WordName, TheVariants.{Block, Sync, LevelCount, Section}}, events.Touch.{Touch}}
 use Rattle.cpu_words.specs.declared.events.Touch.TheVariants.{Load, Add, Sub}
-use Rattle.percpu_rwsem.specs.declared.sync_word.GpState.{GpState}
-use Rattle.percpu_rwsem.specs.declared.sync_word.GpState.TheVariants.{Idle, Enter, Passed, Exit, Replay}
-use Rattle.percpu_rwsem.specs.declared.sync_word.SyncWord.{SyncWord}
-use Rattle.percpu_rwsem.specs.declared.readers.DownRead.{DownRead}
-use Rattle.percpu_rwsem.specs.declared.readers.DownReadStep.{DownReadStep}
+use Rattle.percpu_rwsem.specs.declared.sync_word.{GpState.{GpState, TheVariants.{Idle, Enter, Passed, Exit, Replay}}, SyncWord.{SyncWord}}
+use Rattle.percpu_rwsem.specs.declared.readers.{DownRead.{DownRead}, DownReadStep.{DownReadStep}}
 use Rattle.percpu_rwsem.specs.declared.readers.DownReadStep.TheVariants.{EntersSection, LoadsSync, CountsUpFast, CountsUpSlow, LoadsBlock, CountsDown, LeavesAdmitted, LeavesBlocked}
-use Rattle.percpu_rwsem.specs.declared.readers.UpRead.{UpRead}
-use Rattle.percpu_rwsem.specs.SyncWords.{unpack}
+use Rattle.percpu_rwsem.specs.{declared.readers.UpRead.{UpRead}, SyncWords.{unpack}}
 
 -- down-read: enter a section; load the sync word, again where it is none; count up at once in GP_IDLE, else count up and ask; take the
 -- count back where the level is closed; leave the section

@@ -1,14 +1,8 @@
 -- A transition of a level's sync word: the word is loaded, and exchanged for what the transition makes of it.
 use Rattle.std.specs.Prelude.{ℕ, ◌==◌, if◌then◌else◌, Option, Some, None}
-use Rattle.cpu_words.specs.declared.names.WordName.{WordName}
-use Rattle.cpu_words.specs.declared.names.WordName.TheVariants.{Sync}
-use Rattle.cpu_words.specs.declared.events.Touch.{Touch}
-use Rattle.cpu_words.specs.declared.events.Touch.TheVariants.{Load, Cas}
-use Rattle.percpu_rwsem.specs.declared.sync_word.SyncWord.{SyncWord}
-use Rattle.percpu_rwsem.specs.declared.transitions.Transition.{Transition}
-use Rattle.percpu_rwsem.specs.declared.transitions.Transition.TheVariants.{Loads, Exchanges}
-use Rattle.percpu_rwsem.specs.declared.transitions.TransitionNext.{TransitionNext}
-use Rattle.percpu_rwsem.specs.declared.transitions.TransitionNext.TheVariants.{More, Undefined, Made}
+use Rattle.cpu_words.specs.declared.{names.WordName.{WordName, TheVariants.{Sync}}, events.Touch.{Touch, TheVariants.{Load, Cas}}}
+use Rattle.percpu_rwsem.specs.declared.{sync_word.SyncWord.{SyncWord}, transitions.Transition.{Transition, TheVariants.{Loads, Exchanges}}}
+use Rattle.percpu_rwsem.specs.declared.transitions.TransitionNext.{TransitionNext, TheVariants.{More, Undefined, Made}}
 use Rattle.percpu_rwsem.specs.SyncWords.{pack, unpack}
 
 -- the word and the touch of the next event

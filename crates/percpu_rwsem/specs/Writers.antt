@@ -1,34 +1,18 @@
 -- The order of events of a down-write and an up-write: which word an event touches and how, and what comes after it.
 use Rattle.std.specs.Prelude.{ℕ, ◌==◌, if◌then◌else◌, Option, Some, None, Ok}
-use Rattle.access_model.specs.declared.actions.Action.{Action}
-use Rattle.access_model.specs.declared.actions.Action.TheVariants.{Pass, Reopen}
-use Rattle.access_model.specs.declared.replies.Next.{Next}
-use Rattle.access_model.specs.declared.replies.Next.TheVariants.{Go, Wait, Done}
-use Rattle.access_model.specs.declared.replies.Reply.TheVariants.{Unit as UnitReply}
-use Rattle.cpu_words.specs.declared.names.WordName.{WordName}
-use Rattle.cpu_words.specs.declared.names.WordName.TheVariants.{Block, Sync, LevelCount, Section}
-use Rattle.cpu_words.specs.declared.events.Touch.{Touch}
-use Rattle.cpu_words.specs.declared.events.Touch.TheVariants.{Load, Store, Swap}
-use Rattle.cpu_words.specs.declared.sums.Taken.{Taken}
-use Rattle.cpu_words.specs.declared.sums.Taken.TheVariants.{More as MoreWords, Total}
-use Rattle.cpu_words.specs.Sums.{sum_taking}
-use Rattle.percpu_rwsem.specs.declared.sync_word.GpState.{GpState}
-use Rattle.percpu_rwsem.specs.declared.sync_word.GpState.TheVariants.{Idle, Enter, Passed, Exit, Replay}
-use Rattle.percpu_rwsem.specs.declared.sync_word.SyncWord.{SyncWord}
-use Rattle.percpu_rwsem.specs.declared.grace.GraceNext.{GraceNext}
-use Rattle.percpu_rwsem.specs.declared.grace.GraceNext.TheVariants.{More as MoreSections, Wait as WaitsFor, Ended}
-use Rattle.percpu_rwsem.specs.declared.transitions.Transition.{Transition}
-use Rattle.percpu_rwsem.specs.declared.transitions.Transition.TheVariants.{Loads}
-use Rattle.percpu_rwsem.specs.declared.transitions.TransitionNext.{TransitionNext}
-use Rattle.percpu_rwsem.specs.declared.transitions.TransitionNext.TheVariants.{More, Undefined, Made}
-use Rattle.percpu_rwsem.specs.declared.writers.DownWrite.{DownWrite}
+use Rattle.access_model.specs.declared.{actions.Action.{Action, TheVariants.{Pass, Reopen}}, replies.Next.{Next}}
+use Rattle.access_model.specs.declared.replies.{Next.TheVariants.{Go, Wait, Done}, Reply.TheVariants.{Unit as UnitReply}}
+use Rattle.cpu_words.specs.declared.{names.WordName.{WordName, TheVariants.{Block, Sync, LevelCount, Section}}, events.Touch.{Touch}}
+use Rattle.cpu_words.specs.declared.{events.Touch.TheVariants.{Load, Store, Swap}, sums.Taken.{Taken}}
+use Rattle.cpu_words.specs.{declared.sums.Taken.TheVariants.{More as MoreWords, Total}, Sums.{sum_taking}}
+use Rattle.percpu_rwsem.specs.declared.sync_word.{GpState.{GpState, TheVariants.{Idle, Enter, Passed, Exit, Replay}}, SyncWord.{SyncWord}}
+use Rattle.percpu_rwsem.specs.declared.grace.GraceNext.{GraceNext, TheVariants.{More as MoreSections, Wait as WaitsFor, Ended}}
+use Rattle.percpu_rwsem.specs.declared.transitions.{Transition.{Transition, TheVariants.{Loads}}, TransitionNext.{TransitionNext}}
+use Rattle.percpu_rwsem.specs.declared.{transitions.TransitionNext.TheVariants.{More, Undefined, Made}, writers.DownWrite.{DownWrite}}
 use Rattle.percpu_rwsem.specs.declared.writers.DownWriteStep.{DownWriteStep}
 use Rattle.percpu_rwsem.specs.declared.writers.DownWriteStep.TheVariants.{Enters, AwaitsSections, CallsBack, AwaitsPassed, SetsBlock, Sums}
-use Rattle.percpu_rwsem.specs.declared.writers.UpWrite.{UpWrite}
-use Rattle.percpu_rwsem.specs.declared.writers.UpWriteStep.{UpWriteStep}
-use Rattle.percpu_rwsem.specs.declared.writers.UpWriteStep.TheVariants.{ClearsBlock, Exits}
-use Rattle.percpu_rwsem.specs.SyncWords.{unpack, is_passed, on_enter, on_exit, on_callback}
-use Rattle.percpu_rwsem.specs.Graces.{started, looked}
+use Rattle.percpu_rwsem.specs.declared.writers.{UpWrite.{UpWrite}, UpWriteStep.{UpWriteStep, TheVariants.{ClearsBlock, Exits}}}
+use Rattle.percpu_rwsem.specs.{SyncWords.{unpack, is_passed, on_enter, on_exit, on_callback}, Graces.{started, looked}}
 use Rattle.percpu_rwsem.specs.Transitions.{transition_next, transition_after}
 
 -- down-write: enter the rcu_sync, and wait until readers are slow; set `block`; sum the read counts until nobody is counted

@@ -1,6 +1,5 @@
 -- What the program writes of checks.
-use Rattle.std.specs.Prelude.{ℕ, zero, suc, List, ◌++◌, codes, decimal, Option}
-use Rattle.std.specs.Io.KnownBytes.{Appends}
+use Rattle.std.specs.{Prelude.{ℕ, zero, suc, List, ◌++◌, codes, decimal, Option}, Io.KnownBytes.{Appends}}
 
 -- how many are checked, where so many files are named: with none what is read
 abbrev pub count_checked : ℕ → ℕ

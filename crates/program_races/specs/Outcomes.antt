@@ -1,22 +1,16 @@
 -- What the program writes of a race.
-use Rattle.std.specs.Prelude.{◌≡◌, ℕ, Bool, true, false, List, [], ◌++◌, All, Option, IfSome}
-use Rattle.std.specs.Io.KnownBytes.{Appends, Keeps}
+use Rattle.std.specs.{Prelude.{◌≡◌, ℕ, Bool, true, false, List, [], ◌++◌, All, Option, IfSome}, Io.KnownBytes.{Appends, Keeps}}
 use Rattle.command_line.specs.declared.words.Outcomes.{Outcomes}
 use Rattle.command_line.specs.declared.words.ScheduleForm as words
 use Rattle.command_line.specs.declared.words.ScheduleForm.TheVariants as words_as
-use Rattle.exit_status.specs.Endings.{IsInput}
-use Rattle.exit_status.specs.declared.ends.ProgramEnding.{ProgramEnding}
-use Rattle.exit_status.specs.declared.ends.ProgramEnding.TheVariants.{Listed, Refused}
+use Rattle.exit_status.specs.{Endings.{IsInput}, declared.ends.ProgramEnding.{ProgramEnding, TheVariants.{Listed, Refused}}}
 use Rattle.gate_core.specs.Memory.{Memory}
-use Rattle.outcome_texts.specs.declared.listing.Method.{Method}
-use Rattle.outcome_texts.specs.declared.listing.Method.TheVariants.{Full, Reduced}
+use Rattle.outcome_texts.specs.declared.listing.Method.{Method, TheVariants.{Full, Reduced}}
 use Rattle.race_programs.specs.declared.calls.Call.{Call}
 use Rattle.schedule_lines.specs.bytes.Writing.{AppendsPart}
-use Rattle.shown_outcomes.specs.declared.details.Details.{Details}
-use Rattle.shown_outcomes.specs.declared.details.Schedules.{Schedules}
-use Rattle.shown_outcomes.specs.declared.details.Schedules.TheVariants.{Untold, Lines, Columns}
-use Rattle.race_files.specs.{Calls.is_claim, Left.lines_in, Races.IsRaceIn}
+use Rattle.shown_outcomes.specs.declared.details.{Details.{Details}, Schedules.{Schedules, TheVariants.{Untold, Lines, Columns}}}
 use Rattle.shown_outcomes.specs.Told.{TellsAll, TellsSome}
+use Rattle.race_files.specs.{Calls.is_claim, Left.lines_in, Races.IsRaceIn}
 use Rattle.shown_events.specs.Styles.{style_of}
 
 -- in which form schedules are told

@@ -1,7 +1,6 @@
 -- What a call of the gates that one thread drives does to them.
 use Rattle.std.specs.Prelude.{◌≡◌, ◌≢◌, ℕ, Some, slice_index_or, vec_len}
-use Rattle.gate_world.specs.Beginnings.{first_phase}
-use Rattle.gate_world.specs.declared.operations.Op.{Op}
+use Rattle.gate_world.specs.{Beginnings.{first_phase}, declared.operations.Op.{Op}}
 use Rattle.vfs_gates.specs.TaskStates.{SeatedTask, own_number}
 use Rattle.program_replay.specs.declared.gates_driver.GatesDriver.{GatesDriver}
 

@@ -1,7 +1,6 @@
 -- A list of words that is moved by events.
 use Rattle.std.specs.Prelude.{ℕ, List, Option, Some, None, slice_set}
-use Rattle.cpu_words.specs.Names.{place}
-use Rattle.cpu_words.specs.declared.events.Event.{Event}
+use Rattle.cpu_words.specs.{Names.{place}, declared.events.Event.{Event}}
 
 -- these words, each at its place, after an event, if there is one: it has left its own as it says
 abbrev pub words_after : Option Event → List ℕ → List ℕ

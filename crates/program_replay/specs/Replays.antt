@@ -1,11 +1,7 @@
 -- How a replay ends that was asked for.
-use Rattle.std.specs.Prelude.{◌≡◌, ℕ, Bool, true, false, List, Option, Some, None, Result, Ok, Err}
-use Rattle.std.specs.Borrow.{Bor}
-use Rattle.std.specs.Io.KnownBytes.{Keeps}
-use Rattle.command_line.specs.declared.words.ReplayForm.{ReplayForm}
-use Rattle.command_line.specs.declared.words.ReplayForm.TheVariants.{Plain}
-use Rattle.exit_status.specs.Endings.{of_file}
-use Rattle.exit_status.specs.declared.ends.ProgramEnding.{ProgramEnding}
+use Rattle.std.specs.{Prelude.{◌≡◌, ℕ, Bool, true, false, List, Option, Some, None, Result, Ok, Err}, Borrow.{Bor}, Io.KnownBytes.{Keeps}}
+use Rattle.command_line.specs.declared.words.ReplayForm.{ReplayForm, TheVariants.{Plain}}
+use Rattle.exit_status.specs.{Endings.{of_file}, declared.ends.ProgramEnding.{ProgramEnding}}
 use Rattle.exit_status.specs.declared.ends.ProgramEnding.TheVariants.{Done, DoneOverGates, Shown, Refused}
 use Rattle.schedule_lines.specs.declared.bytes.replay_faults.ReplayFault.{ReplayFault}
 use Rattle.line_players.specs.Replayed.{Replayed}

@@ -2,11 +2,8 @@
 use Rattle.std.proofs.Common.{◌≡◌, ◌∙◌, sym, ap, refl, ℕ, zero, suc, ◌+◌, ◌-◌, ◌<◌, ◌≤◌, arith, List, [], ◌∷◌, length, take, drop, false, None, Some}
 use Rattle.std.specs.Bool.{◌==◌}
 use Rattle.race_files.specs.Left.{Left, none_left, part_left, line_before, behind, lines_in}
-use Rattle.schedule_lines.specs.Lines.{front_of}
-use Rattle.schedule_lines.specs.declared.faults.Fault.{Fault}
-use Rattle.schedule_lines.specs.declared.faults.Fault.TheVariants.{TooManyLines, LineTooLong, CutOff}
-use Rattle.schedule_lines.specs.declared.lines.Front.{Front}
-use Rattle.schedule_lines.specs.declared.lines.Front.TheVariants.{Line as WholeLine, TooLong, Part}
+use Rattle.schedule_lines.specs.{Lines.{front_of}, declared.faults.Fault.{Fault, TheVariants.{TooManyLines, LineTooLong, CutOff}}}
+use Rattle.schedule_lines.specs.declared.lines.Front.{Front, TheVariants.{Line as WholeLine, TooLong, Part}}
 
 -- a line may follow
 may_follow : (done : ℕ) → done < 1048576 → 1048576 - done ≡ suc (1048576 - (done + 1))

@@ -1,10 +1,8 @@
 -- What all lines call, by the first of them; and lines that are left.
 use Rattle.std.proofs.Common.{◌≡◌, ◌∙◌, sym, ap, refl, ℕ, zero, suc, List, ◌∷◌, Option, Result, Ok, Err, inl, inr}
 use Rattle.std.specs.Result.{OnOk, result_and}
-use Rattle.race_files.specs.Calls.{TaskCalls, calls_after, calls_of, ended}
-use Rattle.race_files.specs.Faults.{IsToldOrMemory}
-use Rattle.race_files.specs.Left.{AreLeftOf, BeginRace, Left, after_lines, behind, none_left}
-use Rattle.race_files.specs.declared.faults.RaceFault.{RaceFault}
+use Rattle.race_files.specs.{Calls.{TaskCalls, calls_after, calls_of, ended}, Faults.{IsToldOrMemory}}
+use Rattle.race_files.specs.{Left.{AreLeftOf, BeginRace, Left, after_lines, behind, none_left}, declared.faults.RaceFault.{RaceFault}}
 use Rattle.schedule_lines.specs.declared.faults.Fault.{Fault}
 
 -- behind a line after which this is called

@@ -1,25 +1,15 @@
 -- Lines that set up, one after the other.
 use Rattle.std.proofs.Common.{◌≡◌, ◌∙◌, sym, ap, subst, refl, ℕ, suc, List, [], ◌∷◌, ◌++◌, append_assoc, take, Bool, true, false, Option, Some, None, Result, Ok, Err, inl, inr, OnOk, IfOk, arith}
-use Rattle.std.specs.Prelude.{bytes_eq, codes, not, ok_or, if◌then◌else◌, ◌==◌, ◌+◌}
-use Rattle.schedule_lines.specs.Numbers.{is_digits}
-use Rattle.transcripts.specs.Limits.{is_config}
-use Rattle.std.specs.Result.{result_and}
-use Rattle.std.specs.List.{position_or_len}
-use Rattle.std.proofs.lemmas.Bool.{cases_Bool, eqb-true}
-use Rattle.std.proofs.lemmas.Slice.Eq.{bytes_eq-Decides}
-use Rattle.race_files.specs.Calls.{is_race}
-use Rattle.race_files.specs.Left.{Left, behind}
-use Rattle.race_files.specs.SettingUp.{AreNoRaces, SetsUp, after_all, made_by}
-use Rattle.schedule_lines.specs.Words.{after_word, first_word, is_space, word_count}
-use Rattle.schedule_lines.specs.declared.faults.Fault.{Fault}
-use Rattle.schedule_text.specs.Parsing.{◌>>=◌, alone, arguments_of, command_line, config_line, expect, is_skipped, parsed, task_line, task_of}
-use Rattle.gate_world.specs.declared.config.Config.{Config}
-use Rattle.schedule_text.specs.declared.commands.Line.{Line}
-use Rattle.schedule_text.specs.declared.commands.Line.TheVariants.{Skipped, Config as ConfigLine, Request as RequestLine}
-use Rattle.schedule_text.specs.declared.commands.Request.{Request, TheVariants.Task}
-use Rattle.schedule_text.specs.Verbs.{takes, verb_of}
+use Rattle.std.proofs.lemmas.{Bool.{cases_Bool, eqb-true}, Slice.Eq.{bytes_eq-Decides}}
+use Rattle.std.specs.{Prelude.{bytes_eq, codes, not, ok_or, if◌then◌else◌, ◌==◌, ◌+◌}, Result.{result_and}, List.{position_or_len}}
+use Rattle.schedule_lines.specs.{Numbers.{is_digits}, Words.{after_word, first_word, is_space, word_count}, declared.faults.Fault.{Fault}}
 use Rattle.schedule_lines.specs.declared.faults.Fault.TheVariants.{NoSuchTask, UnknownCommand, WrongNumberOfWords}
-use Rattle.transcripts.specs.Transcript.{ReplayState, config_effect, line_effect, opening_play, tasks_of}
+use Rattle.transcripts.specs.{Limits.{is_config}, Transcript.{ReplayState, config_effect, line_effect, opening_play, tasks_of}}
+use Rattle.race_files.specs.{Calls.{is_race}, Left.{Left, behind}, SettingUp.{AreNoRaces, SetsUp, after_all, made_by}}
+use Rattle.schedule_text.specs.Parsing.{◌>>=◌, alone, arguments_of, command_line, config_line, expect, is_skipped, parsed, task_line, task_of}
+use Rattle.schedule_text.specs.declared.commands.Line.{Line, TheVariants.{Skipped, Config as ConfigLine, Request as RequestLine}}
+use Rattle.schedule_text.specs.{declared.commands.Request.{Request, TheVariants.{Task}}, Verbs.{takes, verb_of}}
+use Rattle.gate_world.specs.declared.config.Config.{Config}
 
 -- lines after others
 none_more : (before : List (List ℕ)) (after : List (List ℕ)) → AreNoRaces before → AreNoRaces after → AreNoRaces (before ++ after)

@@ -1,11 +1,9 @@
 -- The texts and causes of a race's faults.
 use Rattle.std.specs.Prelude.{◌≡◌, ℕ, ◌+◌, ◌⊎◌, List, codes, Option, None, Result, Err}
-use Rattle.access_model.specs.declared.errors.GateError.{GateError}
-use Rattle.access_model.specs.declared.errors.GateError.TheVariants.{NoMemory}
+use Rattle.access_model.specs.declared.errors.GateError.{GateError, TheVariants.{NoMemory}}
 use Rattle.race_files.specs.declared.faults.RaceFault.{RaceFault}
 use Rattle.race_files.specs.declared.faults.RaceFault.TheVariants.{Schedule, RaceExpected, RaceTwice, UnderWay, CallExpected, TooManyCalls, HookTwice, BranchExpected, NoCallBefore}
-use Rattle.schedule_lines.specs.declared.bytes.replay_faults.ReplayFault.{ReplayFault}
-use Rattle.schedule_lines.specs.Faults.{text_of, cause_of}
+use Rattle.schedule_lines.specs.{declared.bytes.replay_faults.ReplayFault.{ReplayFault}, Faults.{text_of, cause_of}}
 use Rattle.schedule_lines.specs.declared.faults.Fault.TheVariants.{Refused}
 
 -- the text that is printed of a fault

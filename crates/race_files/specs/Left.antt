@@ -1,12 +1,8 @@
 -- The lines of a text.
 use Rattle.std.specs.Prelude.{◌≡◌, ℕ, zero, suc, ◌+◌, ◌-◌, List, [], ◌∷◌, take, drop, Option, Some, None, Result, Ok, true}
-use Rattle.race_files.specs.Calls.{calls_of, is_race, no_calls}
-use Rattle.race_files.specs.declared.faults.RaceFault.{RaceFault}
-use Rattle.race_files.specs.declared.lines.Lines.{Lines}
+use Rattle.race_files.specs.{Calls.{calls_of, is_race, no_calls}, declared.{faults.RaceFault.{RaceFault}, lines.Lines.{Lines}}}
 use Rattle.race_programs.specs.declared.calls.Call.{Call}
-use Rattle.schedule_lines.specs.Lines.{front_of}
-use Rattle.schedule_lines.specs.declared.faults.Fault.{Fault}
-use Rattle.schedule_lines.specs.declared.faults.Fault.TheVariants.{TooManyLines, LineTooLong, CutOff}
+use Rattle.schedule_lines.specs.{Lines.{front_of}, declared.faults.Fault.{Fault, TheVariants.{TooManyLines, LineTooLong, CutOff}}}
 use Rattle.schedule_lines.specs.declared.lines.Front.TheVariants.{Line as WholeLine, TooLong, Part}
 
 -- the lines that follow one another, and the fault behind the last of them, if they don't end there

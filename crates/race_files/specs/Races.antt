@@ -1,9 +1,7 @@
 -- The race of a text.
 use Rattle.std.specs.Prelude.{◌≡◌, List, Option, Some, None, Ok}
-use Rattle.gate_core.specs.Drivers.{CoreShows}
-use Rattle.gate_core.specs.Memory.{Memory}
-use Rattle.race_files.specs.Left.{BeginRace, Left, behind, calls_left}
-use Rattle.race_files.specs.SettingUp.{SetsUp}
+use Rattle.gate_core.specs.{Drivers.{CoreShows}, Memory.{Memory}}
+use Rattle.race_files.specs.{Left.{BeginRace, Left, behind, calls_left}, SettingUp.{SetsUp}}
 use Rattle.race_programs.specs.declared.calls.Call.{Call}
 use Rattle.transcripts.specs.Transcript.{ReplayState}
 

@@ -1,10 +1,8 @@
 -- What the lines before a race set up.
 use Rattle.std.specs.Prelude.{◌≡◌, ℕ, false, Option, Result, Ok, Err, List, [], ◌∷◌, ◌++◌}
-use Rattle.race_files.specs.Calls.{is_race}
-use Rattle.race_files.specs.Left.{Left}
+use Rattle.race_files.specs.{Calls.{is_race}, Left.{Left}}
 use Rattle.schedule_lines.specs.declared.faults.Fault.{Fault}
-use Rattle.schedule_text.specs.Parsing.{parsed}
-use Rattle.schedule_text.specs.declared.commands.Line.{Line}
+use Rattle.schedule_text.specs.{Parsing.{parsed}, declared.commands.Line.{Line}}
 use Rattle.transcripts.specs.Transcript.{ReplayState, line_effect, tasks_of}
 
 -- the play after a line, as its transcript has it; a line with a fault does nothing

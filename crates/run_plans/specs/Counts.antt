@@ -1,10 +1,6 @@
 -- What the tasks of a run meet on their way, counted.
 use Rattle.std.specs.Prelude.{ℕ, ◌+◌, min, max, Bool, cond, Option, Some, None, List, [], ◌∷◌}
-use Rattle.run_plans.specs.declared.counts.Copies.{Copies}
-use Rattle.run_plans.specs.declared.counts.Details.{Details}
-use Rattle.run_plans.specs.declared.counts.Remounts.{Remounts}
-use Rattle.run_plans.specs.declared.counts.Sizes.{Sizes}
-use Rattle.run_plans.specs.declared.counts.Writes.{Writes}
+use Rattle.run_plans.specs.declared.counts.{Copies.{Copies}, Details.{Details}, Remounts.{Remounts}, Sizes.{Sizes}, Writes.{Writes}}
 pub use Rattle.gate_world.specs.Counted.{counted}
 
 -- before a writer's first round

@@ -1,32 +1,20 @@
 -- What the calls of a run's tasks answer, and how they leave their tasks: at rest, or with the write access that was granted.
 use Rattle.std.proofs.Common.{◌≡◌, ◌≢◌, inl, inr, ℕ, zero, suc, ◌+◌, ◌<◌, true, List, refl, sym, ap, ◌∙◌, subst, arith, lt-ltb}
 use Rattle.std.specs.Prelude.{◌⊎◌, None, Some, Result, Ok, Err}
-use Rattle.access_model.specs.Holders.{held_by}
-use Rattle.access_model.specs.Histories.{mounts_of, levels_of}
-use Rattle.access_model.specs.declared.actions.Action.{Action}
-use Rattle.access_model.specs.declared.actions.Action.TheVariants.{Grant}
-use Rattle.access_model.specs.declared.actions.Gate.TheVariants.{Mount, Level}
-use Rattle.access_model.specs.declared.actions.Holder.TheVariants.{User}
-use Rattle.access_model.specs.declared.actions.Kind.TheVariants.{File}
+use Rattle.access_model.specs.{Holders.{held_by}, Histories.{mounts_of, levels_of}, declared.actions.Action.{Action, TheVariants.{Grant}}}
+use Rattle.access_model.specs.declared.actions.{Gate.TheVariants.{Mount, Level}, Holder.TheVariants.{User}, Kind.TheVariants.{File}}
 use Rattle.access_model.specs.declared.errors.GateError.{GateError}
 use Rattle.access_model.specs.declared.errors.GateError.TheVariants.{Again, Busy, Hook, Invalid, IsDir, NoEntry, NoSpace, NotDir, Order, ReadOnly, TooMany}
 use Rattle.access_model.specs.declared.replies.Reply.{Reply}
-use Rattle.gate_world.specs.Holdings.{Holdings, holdings_of, held_after}
-use Rattle.gate_world.specs.Operations.{some_mount}
-use Rattle.gate_world.specs.traces.Traces.{IsHonestAnswer}
-use Rattle.gate_world.specs.declared.config.Config.{Config}
-use Rattle.gate_world.specs.declared.operations.Op.{Op}
+use Rattle.gate_world.specs.{Holdings.{Holdings, holdings_of, held_after}, Operations.{some_mount}, traces.Traces.{IsHonestAnswer}}
+use Rattle.gate_world.specs.declared.{config.Config.{Config}, operations.Op.{Op}}
 use Rattle.gate_world.specs.declared.operations.Op.TheVariants.{WantWrite, DropWrite, Freeze, Thaw, Create, Grow, Snapshot}
 use Rattle.gate_world.specs.declared.views.Traced.{Traced}
 use Rattle.run_rounds.specs.Refusals.{EndsCreate, EndsFreeze, EndsGrow, EndsThaw, HasWriteAccess, MayEnd, MetBy, StandsFor, WasRefused}
 use Rattle.run_rounds.specs.Rounds.{Does, IsRefused}
-use Rattle.vfs_gates.specs.Frozen.{holders_of}
-use Rattle.vfs_gates.specs.Grown.{StaySeen}
-use Rattle.vfs_gates.specs.Held.{Rests, own_actions, takes_nothing}
-use Rattle.vfs_gates.specs.Runs.{Called, Performs, Replies, told_as}
-use Rattle.vfs_gates.specs.TaskStates.{SeatedTask, refusal_at}
-use Rattle.vfs_gates.proofs.Grown.{call_stays_seen}
-use Rattle.vfs_gates.proofs.Holding.{adds, as_before_twice, keeps, refused_call_keeps, rests_on, unchanged}
+use Rattle.vfs_gates.specs.{Frozen.{holders_of}, Grown.{StaySeen}, Held.{Rests, own_actions, takes_nothing}}
+use Rattle.vfs_gates.specs.{Runs.{Called, Performs, Replies, told_as}, TaskStates.{SeatedTask, refusal_at}}
+use Rattle.vfs_gates.proofs.{Grown.{call_stays_seen}, Holding.{adds, as_before_twice, keeps, refused_call_keeps, rests_on, unchanged}}
 use Rattle.vfs_gates.proofs.Returning.{done_idle, return_restores, was_done}
 use Rattle.run_rounds.proofs.Keeping.{either_way}
 

@@ -2,29 +2,15 @@
 use Rattle.std.proofs.Common.{◌≡◌, ℕ, zero, suc, ◌+◌, ◌≤◌, true, false, List, [], ◌∷◌, ◌++◌, length, refl, ap, sym, subst, ◌∙◌, arith, inl, inr}
 use Rattle.std.proofs.lemmas.Bool.{cases_Bool}
 use Rattle.std.specs.Prelude.{Option, Some, None, Result, Ok, Err}
-use Rattle.access_model.specs.declared.actions.Action.{Action}
-use Rattle.access_model.specs.declared.actions.Holder.TheVariants.{User}
-use Rattle.access_model.specs.declared.errors.GateError.{GateError}
-use Rattle.access_model.specs.declared.errors.GateError.TheVariants.{ReadOnly}
-use Rattle.access_model.specs.declared.replies.Reply.{Reply}
-use Rattle.gate_world.specs.declared.config.Config.{Config}
-use Rattle.gate_world.specs.declared.operations.Op.{Op}
-use Rattle.gate_world.specs.declared.operations.Op.TheVariants.{ChangeMount, DropWrite, Grow, WantWrite}
-use Rattle.gate_world.specs.declared.views.Traced.{Traced}
-use Rattle.gate_world.specs.traces.Found.{found_read_only}
-use Rattle.gate_world.specs.traces.Traces.{actions_of}
-use Rattle.vfs_gates.specs.Frozen.{NeverThaws}
-use Rattle.vfs_gates.specs.Held.{own_actions}
-use Rattle.vfs_gates.specs.Runs.{Called, Replies, ran_items}
-use Rattle.vfs_gates.specs.Seating.{DealtNumbers}
-use Rattle.vfs_gates.specs.Splitting.{HaveDoneNothing}
-use Rattle.vfs_gates.specs.TaskStates.{SeatedTask, own_number, own_view, refusal_at, spare_of}
+use Rattle.access_model.specs.declared.{actions.{Action.{Action}, Holder.TheVariants.{User}}, errors.GateError.{GateError}}
+use Rattle.access_model.specs.declared.{errors.GateError.TheVariants.{ReadOnly}, replies.Reply.{Reply}}
+use Rattle.gate_world.specs.declared.{config.Config.{Config}, operations.Op.{Op, TheVariants.{ChangeMount, DropWrite, Grow, WantWrite}}}
+use Rattle.gate_world.specs.{declared.views.Traced.{Traced}, traces.{Found.{found_read_only}, Traces.{actions_of}}}
+use Rattle.vfs_gates.specs.{Frozen.{NeverThaws}, Held.{own_actions}, Runs.{Called, Replies, ran_items}, Seating.{DealtNumbers}}
+use Rattle.vfs_gates.specs.{Splitting.{HaveDoneNothing}, TaskStates.{SeatedTask, own_number, own_view, refusal_at, spare_of}}
 use Rattle.vfs_gates.proofs.Holding.{adds}
-use Rattle.run_plans.specs.declared.counts.Copies.{Copies}
-use Rattle.run_plans.specs.declared.counts.Remounts.{Remounts}
-use Rattle.run_plans.specs.declared.counts.Writes.{Writes}
-use Rattle.run_rounds.specs.Counts.{with_waits}
-use Rattle.run_rounds.specs.Keeping.{HaveNotThawed, KeepsNumbers, ThawsNothing}
+use Rattle.run_plans.specs.declared.counts.{Copies.{Copies}, Remounts.{Remounts}, Writes.{Writes}}
+use Rattle.run_rounds.specs.{Counts.{with_waits}, Keeping.{HaveNotThawed, KeepsNumbers, ThawsNothing}}
 use Rattle.run_rounds.specs.Rounds.{Repeats, CallsBack, CreatesFile, CreatesFiles, IsRefused, Retries, Takes, Waits, RemountRound, WriterRound, BackupRound}
 
 pub stays_so : (s : SeatedTask) → KeepsNumbers s s

@@ -1,14 +1,10 @@
 -- Rounds that go on.
 use Rattle.std.proofs.Common.{◌≡◌, ℕ, suc, ◌+◌, ◌-◌, ◌^◌, ◌≤◌, min, inl, inr, arith, subst}
 use Rattle.std.specs.Prelude.{Result, Ok, Err, OnOk}
-use Rattle.access_model.specs.declared.errors.GateError.{GateError}
-use Rattle.access_model.specs.declared.errors.GateError.TheVariants.{ReadOnly}
-use Rattle.gate_world.specs.declared.operations.Op.{Op}
-use Rattle.gate_world.specs.declared.operations.Op.TheVariants.{WantWrite, DropWrite}
-use Rattle.vfs_gates.specs.TaskStates.{SeatedTask}
-use Rattle.vfs_gates.specs.Runs.{Performs}
-use Rattle.run_rounds.specs.Counts.{counted}
-use Rattle.run_rounds.specs.Rounds.{Closes, CreatesFile, CreatesFiles, Does, IsRefused, Repeats, Retries, Takes, Waits}
+use Rattle.access_model.specs.declared.errors.GateError.{GateError, TheVariants.{ReadOnly}}
+use Rattle.gate_world.specs.declared.operations.Op.{Op, TheVariants.{WantWrite, DropWrite}}
+use Rattle.vfs_gates.specs.{TaskStates.{SeatedTask}, Runs.{Performs}}
+use Rattle.run_rounds.specs.{Counts.{counted}, Rounds.{Closes, CreatesFile, CreatesFiles, Does, IsRefused, Repeats, Retries, Takes, Waits}}
 
 -- one round more
 pub one_more : {S : Type 0} (Round : ℕ → S → S → Type 0) (k : ℕ) (first mid last : S) → Repeats Round k first mid → Round k mid last →

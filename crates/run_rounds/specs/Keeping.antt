@@ -1,9 +1,7 @@
 -- What calls leave of a task's numbers, and of whether they have thawed.
 use Rattle.std.specs.Prelude.{◌≡◌, ◌≤◌, [], ◌∷◌, length}
 use Rattle.access_model.specs.declared.actions.Holder.TheVariants.{User}
-use Rattle.vfs_gates.specs.Frozen.{NeverThaws}
-use Rattle.vfs_gates.specs.Seating.{DealtNumbers}
-use Rattle.vfs_gates.specs.TaskStates.{SeatedTask, IsIdle, own_number, spare_of}
+use Rattle.vfs_gates.specs.{Frozen.{NeverThaws}, Seating.{DealtNumbers}, TaskStates.{SeatedTask, IsIdle, own_number, spare_of}}
 
 -- calls of its own leave a task its number, and the others that it has to give
 pub record KeepsNumbers (first last : SeatedTask) : Type 0 where

@@ -1,17 +1,10 @@
 -- Which refusals of a call end a run, and why it was refused so.
 use Rattle.std.specs.Prelude.{◌≡◌, ℕ, ◌+◌, ◌<◌, ◌≤◌, None, Err, true}
-use Rattle.access_model.specs.Holders.{held_by}
-use Rattle.access_model.specs.declared.actions.Holder.TheVariants.{User}
-use Rattle.access_model.specs.declared.actions.Kind.TheVariants.{File}
+use Rattle.access_model.specs.{Holders.{held_by}, declared.actions.{Holder.TheVariants.{User}, Kind.TheVariants.{File}}}
 use Rattle.access_model.specs.declared.errors.GateError.{GateError}
 use Rattle.access_model.specs.declared.errors.GateError.TheVariants.{Again, Busy, Hook, Invalid, IsDir, NoEntry, NoSpace, NotDir, ReadOnly}
-use Rattle.gate_world.specs.declared.config.Config.{Config}
-use Rattle.gate_world.specs.declared.operations.Op.{Op}
-use Rattle.gate_world.specs.declared.operations.Op.TheVariants.{WantWrite, Freeze, Thaw, Create, Grow}
-use Rattle.vfs_gates.specs.Frozen.{NeedsFreeze, holders_of}
-use Rattle.vfs_gates.specs.Grown.{StaySeen}
-use Rattle.vfs_gates.specs.Held.{Rests, IsAsBefore, own_actions}
-use Rattle.vfs_gates.specs.Runs.{Called}
+use Rattle.gate_world.specs.declared.{config.Config.{Config}, operations.Op.{Op, TheVariants.{WantWrite, Freeze, Thaw, Create, Grow}}}
+use Rattle.vfs_gates.specs.{Frozen.{NeedsFreeze, holders_of}, Grown.{StaySeen}, Held.{Rests, IsAsBefore, own_actions}, Runs.{Called}}
 use Rattle.vfs_gates.specs.TaskStates.{SeatedTask, own_number, refusal_at}
 use Rattle.run_rounds.specs.Rounds.{Does}
 

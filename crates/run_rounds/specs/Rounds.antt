@@ -1,17 +1,11 @@
 -- What each task of a run does, call by call, and when who looks on is called.
 use Rattle.std.specs.Prelude.{◌≡◌, ℕ, zero, suc, ◌+◌, ◌⊎◌, Bool, true, false, Ok, Err}
-use Rattle.access_model.specs.declared.actions.Holder.TheVariants.{User}
-use Rattle.access_model.specs.declared.actions.Kind.TheVariants.{File}
-use Rattle.access_model.specs.declared.errors.GateError.{GateError}
+use Rattle.access_model.specs.declared.{actions.{Holder.TheVariants.{User}, Kind.TheVariants.{File}}, errors.GateError.{GateError}}
 use Rattle.access_model.specs.declared.errors.GateError.TheVariants.{Again, Busy, ReadOnly}
 use Rattle.gate_world.specs.declared.operations.Op.{Op}
 use Rattle.gate_world.specs.declared.operations.Op.TheVariants.{ChangeMount, WantWrite, DropWrite, Callback, Freeze, Thaw, Create, Grow, Snapshot}
-use Rattle.vfs_gates.specs.TaskStates.{SeatedTask}
-use Rattle.vfs_gates.specs.Runs.{Performs, Replies, node_of, ran_of}
-use Rattle.run_plans.specs.declared.counts.Copies.{Copies}
-use Rattle.run_plans.specs.declared.counts.Writes.{Writes}
-use Rattle.run_plans.specs.declared.counts.Remounts.{Remounts}
-use Rattle.run_plans.specs.Plans.{processor_of}
+use Rattle.vfs_gates.specs.{TaskStates.{SeatedTask}, Runs.{Performs, Replies, node_of, ran_of}}
+use Rattle.run_plans.specs.{declared.counts.{Copies.{Copies}, Writes.{Writes}, Remounts.{Remounts}}, Plans.{processor_of}}
 use Rattle.run_rounds.specs.Counts.{blocks_of, with_copy, with_ran, with_round, with_waits}
 
 -- so many rounds from one state to another, by their numbers from 0, each going on where the one before it ended

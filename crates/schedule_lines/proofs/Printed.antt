@@ -1,9 +1,7 @@
 -- Texts that are printed one behind the other.
-use Rattle.std.proofs.Common.{◌≡◌, ℕ, ◌∙◌, sym, ap, List, [], ◌++◌, append_assoc, append-nil}
+use Rattle.std.proofs.{Common.{◌≡◌, ℕ, ◌∙◌, sym, ap, List, [], ◌++◌, append_assoc, append-nil}, lemmas.Result.{on_ok_weaker}}
 use Rattle.std.specs.Prelude.{true, Result, OnOk}
-use Rattle.std.proofs.lemmas.Result.{on_ok_weaker}
-use Rattle.schedule_lines.specs.declared.output.Output.{Output}
-use Rattle.schedule_lines.specs.Printed.{Prints}
+use Rattle.schedule_lines.specs.{declared.output.Output.{Output}, Printed.{Prints}}
 
 -- nothing is printed
 pub prints_nothing : (out : Output) → Prints out out []

@@ -1,8 +1,6 @@
 -- Where lines end.
-use Rattle.std.specs.Prelude.{ℕ, Bool, true, false, ◌==◌, nat_lt, take, List, length, Option, Some, None}
-use Rattle.std.specs.List.{position}
-use Rattle.schedule_lines.specs.declared.lines.Front.{Front}
-use Rattle.schedule_lines.specs.declared.lines.Front.TheVariants.{Line, TooLong, Part}
+use Rattle.std.specs.{Prelude.{ℕ, Bool, true, false, ◌==◌, nat_lt, take, List, length, Option, Some, None}, List.{position}}
+use Rattle.schedule_lines.specs.declared.lines.Front.{Front, TheVariants.{Line, TooLong, Part}}
 
 -- the byte that ends a line
 abbrev pub is_newline : ℕ → Bool

@@ -1,8 +1,6 @@
 -- Numbers of schedules.
-use Rattle.std.specs.Prelude.{ℕ, Bool, ◌&&◌, nat_le, nat_lt, min, if◌then◌else◌, List, length, Option, Some, None}
-use Rattle.std.specs.Char.{is_ascii_digit}
-use Rattle.std.specs.List.{list_all}
-use Rattle.std.specs.Str.Parse.{digits_value}
+use Rattle.std.specs.{Prelude.{ℕ, Bool, ◌&&◌, nat_le, nat_lt, min, if◌then◌else◌, List, length, Option, Some, None}, Char.{is_ascii_digit}}
+use Rattle.std.specs.{List.{list_all}, Str.Parse.{digits_value}}
 
 -- whether a word is of digits alone, and not empty
 unfoldable pub is_digits : List ℕ → Bool

@@ -1,22 +1,12 @@
 -- How words, events, actions and replies are printed.
 use Rattle.std.specs.Prelude.{ℕ, Bool, true, false, List, [], ◌++◌, codes, decimal, Option, Some, None, Result, Ok, Err}
-use Rattle.access_model.specs.Errors.{number_of, name_of}
-use Rattle.access_model.specs.declared.actions.Action.{Action}
+use Rattle.access_model.specs.{Errors.{number_of, name_of}, declared.actions.Action.{Action}}
 use Rattle.access_model.specs.declared.actions.Action.TheVariants.{Grant, Return, MountRo, MountRw, SbRo, SbRw, Stage, Hold, Leave, Pass, Reopen, Create, Remove, Grow, MoveTo, Dirty, Clean, Open, Close}
-use Rattle.access_model.specs.declared.actions.Holder.{Holder}
-use Rattle.access_model.specs.declared.actions.Holder.TheVariants.{Kernel, User}
-use Rattle.access_model.specs.declared.actions.Gate.{Gate}
-use Rattle.access_model.specs.declared.actions.Gate.TheVariants.{Mount, Level}
-use Rattle.access_model.specs.declared.actions.Kind.{Kind}
-use Rattle.access_model.specs.declared.actions.Kind.TheVariants.{File, Dir}
-use Rattle.access_model.specs.declared.actions.NodeInfo.{NodeInfo}
-use Rattle.access_model.specs.declared.errors.GateError.{GateError}
+use Rattle.access_model.specs.declared.actions.{Holder.{Holder, TheVariants.{Kernel, User}}, Gate.{Gate, TheVariants.{Mount, Level}}}
+use Rattle.access_model.specs.declared.{actions.{Kind.{Kind, TheVariants.{File, Dir}}, NodeInfo.{NodeInfo}}, errors.GateError.{GateError}}
 use Rattle.access_model.specs.declared.errors.GateError.TheVariants.{NoEntry, Again, NoMemory, Busy, NotDir, IsDir, Invalid, TooMany, NoSpace, ReadOnly, Order, Hook}
-use Rattle.access_model.specs.declared.replies.Reply.{Reply}
-use Rattle.access_model.specs.declared.replies.Reply.TheVariants.{Unit as Plain, Node as NewNode, Ran, Tree}
-use Rattle.cpu_words.specs.declared.events.Event.{Event}
-use Rattle.cpu_words.specs.declared.events.Touch.{Touch}
-use Rattle.cpu_words.specs.declared.events.Touch.TheVariants.{Load, Store, Add, Sub, Or, And, Swap, Cas}
+use Rattle.access_model.specs.declared.replies.Reply.{Reply, TheVariants.{Unit as Plain, Node as NewNode, Ran, Tree}}
+use Rattle.cpu_words.specs.declared.events.{Event.{Event}, Touch.{Touch, TheVariants.{Load, Store, Add, Sub, Or, And, Swap, Cas}}}
 use Rattle.cpu_words.specs.declared.names.WordName.{WordName}
 use Rattle.cpu_words.specs.declared.names.WordName.TheVariants.{Umount, Stage as StageWord, Holders as HoldersWord, SbFlags, Remount, Removed, MountFlags, MountCount, Block, Sync, LevelCount, Section, Used, Node, Kids}
 

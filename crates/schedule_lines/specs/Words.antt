@@ -1,6 +1,5 @@
 -- Words of a line, with one space between two of them.
-use Rattle.std.specs.Prelude.{ℕ, Bool, ◌==◌, ◌+◌, take, drop, List, count_by}
-use Rattle.std.specs.List.{position_or_len}
+use Rattle.std.specs.{Prelude.{ℕ, Bool, ◌==◌, ◌+◌, take, drop, List, count_by}, List.{position_or_len}}
 
 -- the byte between two words
 abbrev pub is_space : ℕ → Bool

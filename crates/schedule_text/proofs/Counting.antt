@@ -1,10 +1,7 @@
 -- How many words a text has, by its first word and what follows it.
 use Rattle.std.proofs.Common.{◌≡◌, ℕ, ◌+◌, ◌<◌, ◌≤◌, ◌==◌, Bool, true, false, suc, List, ◌∷◌, [], length, refl, sym, ap, ◌∙◌, arith}
-use Rattle.std.proofs.lemmas.Bool.{ne_eqb}
-use Rattle.std.proofs.lemmas.List.Folds.{length-prefix_len}
-use Rattle.std.proofs.lemmas.List.Sums.{sum_by-cons, count_by-le-length, prefix_len-le-length}
-use Rattle.std.specs.Prelude.{cond, not, count_by, drop}
-use Rattle.std.specs.List.{position_or_len}
+use Rattle.std.proofs.lemmas.{Bool.{ne_eqb}, List.{Folds.{length-prefix_len}, Sums.{sum_by-cons, count_by-le-length, prefix_len-le-length}}}
+use Rattle.std.specs.{Prelude.{cond, not, count_by, drop}, List.{position_or_len}}
 use Rattle.schedule_lines.specs.Words.{is_space, first_word, after_word, word_count}
 
 -- where the first space is

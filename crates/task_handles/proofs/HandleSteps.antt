@@ -3,13 +3,8 @@ use Rattle.std.proofs.Common.{◌≡◌, List, [], ◌∷◌, ◌++◌, refl, su
 use mathlib.Core.Bool.{Bool}
 use seplogic.Ra.Ura.{Ura}
 use mir.Val.{Val, vstruct, vcons, vnil, of_list}
-use types.Logic.{Logic}
-use types.Kit.{Item, Goal, Seq, Step, step, ‵, ◌$◌, drop, fsplit, fjoin, fpick, fpack, feq_i, feq_l}
-use denote.RattleType.{RattleType, Valss}
-use denote.Builtin.{RawPtr}
-use denote.RawPtr.{Ptr, ptr_val}
-use denote.Steps.{nothing}
-use denote.Struct.Struct.{within}
+use types.{Logic.{Logic}, Kit.{Item, Goal, Seq, Step, step, ‵, ◌$◌, drop, fsplit, fjoin, fpick, fpack, feq_i, feq_l}}
+use denote.{RattleType.{RattleType, Valss}, Builtin.{RawPtr}, RawPtr.{Ptr, ptr_val}, Steps.{nothing}, Struct.Struct.{within}}
 use denote.Struct.Owning.{shape}
 use Rattle.vfs_gates.specs.TaskStates.{SeatedTask}
 use Rattle.task_handles.specs.Handles.{holds}

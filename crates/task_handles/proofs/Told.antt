@@ -4,8 +4,7 @@ use Rattle.std.specs.Prelude.{slice_index, slice_index_or, slice_set}
 use mathlib.Core.Logic.{dite}
 use native.Mathlib.Decide.{ℕ_discrete}
 use Rattle.vfs_gates.specs.Ended.{ClosedState}
-use Rattle.task_handles.specs.Closings.{IsValue, no_word}
-use Rattle.task_handles.specs.declared.events.WordRecord.{WordRecord}
+use Rattle.task_handles.specs.{Closings.{IsValue, no_word}, declared.events.WordRecord.{WordRecord}}
 
 -- one more
 pub told_more : (e : ClosedState) (asked : List WordRecord) (values : List ℕ) (i v : ℕ) → i < length values → IsValue e (slice_index_or asked i no_word) v →

@@ -4,23 +4,12 @@ use mathlib.Core.Bool.{true, ◌&&◌}
 use lib.Dec.{T}
 use seplogic.Ra.Ura.{Ura}
 use base.Logic.{never, fst∗}
-use denote.Builtin.{RawPtr}
-use denote.Memory.{lone}
-use denote.Param.{layout}
-use denote.Param.Laws.{Laws}
-use denote.RattleType.{RattleType, Valss}
-use denote.RawPtr.{Ptr, block_ptr, null_ptr, ptr_val, in_a_block}
-use denote.Steps.{nothing}
-use denote.Struct.Owning.{shape}
-use denote.Struct.Struct.{within}
-use mir.Raw.{raw as bare}
-use mir.Syntax.{impl, tnil, dnil}
-use mir.Val.{Val, vptr, vstruct, vcons, vnil, of_list, has_ty, WT}
-use types.Kit.{Item, Goal, Seq, Step, step, ‵, ◌$◌, move, drop, fsplit, fjoin, fpick, fpack, feq_i, feq_l}
-use types.Logic.{Logic, sem}
+use denote.{Builtin.{RawPtr}, Memory.{lone}, Param.{layout, Laws.{Laws}}, RattleType.{RattleType, Valss}}
+use denote.{RawPtr.{Ptr, block_ptr, null_ptr, ptr_val, in_a_block}, Steps.{nothing}, Struct.{Owning.{shape}, Struct.{within}}}
+use mir.{Raw.{raw as bare}, Syntax.{impl, tnil, dnil}, Val.{Val, vptr, vstruct, vcons, vnil, of_list, has_ty, WT}}
+use types.{Kit.{Item, Goal, Seq, Step, step, ‵, ◌$◌, move, drop, fsplit, fjoin, fpick, fpack, feq_i, feq_l}, Logic.{Logic, sem}}
 use Rattle.core.specs.declared.alloc.Allocator.{Ghosts}
-use Rattle.core.proofs.alloc.Calls.{Al, handle_tells}
-use Rattle.core.proofs.cell.Inside.{Good}
+use Rattle.core.proofs.{alloc.Calls.{Al, handle_tells}, cell.Inside.{Good}}
 use Rattle.std_alloc.specs.Box.Ownership.{box_owns}
 use Rattle.std_alloc.proofs.ResultValues.{and_tt}
 use Rattle.task_handles.specs.contracts.unboxed.Unboxed as unboxed

@@ -1,16 +1,11 @@
 -- What C is told of the words of closed gates.
 use Rattle.std.specs.Prelude.{◌≡◌, ℕ, ◌*◌, ◌%◌, ◌<◌, ◌==◌, nat_le, if◌then◌else◌, Option, Some, None, List, length, slice_index, slice_index_or}
-use Rattle.access_model.specs.declared.actions.Gate.{Gate}
-use Rattle.access_model.specs.declared.actions.Gate.TheVariants.{Mount, Level}
-use Rattle.cpu_words.specs.Names.{IsWord, place, stride}
-use Rattle.cpu_words.specs.declared.names.WordName.{WordName}
+use Rattle.access_model.specs.declared.actions.Gate.{Gate, TheVariants.{Mount, Level}}
+use Rattle.cpu_words.specs.{Names.{IsWord, place, stride}, declared.names.WordName.{WordName}}
 use Rattle.finite_sums.specs.Sums.{total}
 use Rattle.gate_world.specs.Configs.{extents_of}
-use Rattle.vfs_gates.specs.Ended.{ClosedState, EndedWith}
-use Rattle.vfs_gates.specs.Sums.{count_word, IsGate}
-use Rattle.vfs_gates.specs.TaskStates.{SeatedTask}
-use Rattle.task_handles.specs.Events.{word_at}
-use Rattle.task_handles.specs.declared.events.WordRecord.{WordRecord}
+use Rattle.vfs_gates.specs.{Ended.{ClosedState, EndedWith}, Sums.{count_word, IsGate}, TaskStates.{SeatedTask}}
+use Rattle.task_handles.specs.{Events.{word_at}, declared.events.WordRecord.{WordRecord}}
 
 -- the word that is asked for
 abbrev pub name_asked : WordRecord → Option WordName

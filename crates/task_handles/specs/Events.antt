@@ -2,20 +2,14 @@
 use Rattle.std.specs.Prelude.{ℕ, ◌==◌, if◌then◌else◌, Option, Some, None}
 use Rattle.access_model.specs.declared.actions.Action.{Action}
 use Rattle.access_model.specs.declared.actions.Action.TheVariants.{Grant, Return, MountRo, MountRw, SbRo, SbRw, Stage as StageAction, Hold, Leave, Pass, Reopen, Create, Remove, Grow, MoveTo, Dirty, Clean, Open, Close}
-use Rattle.access_model.specs.declared.actions.Gate.TheVariants.{Mount, Level}
-use Rattle.access_model.specs.declared.actions.Holder.TheVariants.{Kernel, User}
+use Rattle.access_model.specs.declared.actions.{Gate.TheVariants.{Mount, Level}, Holder.TheVariants.{Kernel, User}}
 use Rattle.access_model.specs.declared.actions.Kind.TheVariants.{File, Dir}
-use Rattle.cpu_words.specs.declared.events.Event.{Event}
-use Rattle.cpu_words.specs.declared.events.Touch.{Touch}
-use Rattle.cpu_words.specs.declared.events.Touch.TheVariants.{Load, Store, Add, Sub, Or, And, Swap, Cas}
+use Rattle.cpu_words.specs.declared.events.{Event.{Event}, Touch.{Touch, TheVariants.{Load, Store, Add, Sub, Or, And, Swap, Cas}}}
 use Rattle.cpu_words.specs.declared.names.WordName.{WordName}
 use Rattle.cpu_words.specs.declared.names.WordName.TheVariants.{Umount, Stage, Holders, SbFlags, Remount, Removed, MountFlags, MountCount, Block, Sync, LevelCount, Section, Used, Node, Kids}
 use Rattle.gate_schedules.specs.declared.steps.Step.{Step}
-use Rattle.task_handles.specs.Codes.{progress_at}
-use Rattle.task_handles.specs.declared.events.ActionRecord.{ActionRecord}
-use Rattle.task_handles.specs.declared.events.EventRecord.{EventRecord}
-use Rattle.task_handles.specs.declared.events.StepRecord.{StepRecord}
-use Rattle.task_handles.specs.declared.events.WordRecord.{WordRecord}
+use Rattle.task_handles.specs.{Codes.{progress_at}, declared.events.{ActionRecord.{ActionRecord}, EventRecord.{EventRecord}}}
+use Rattle.task_handles.specs.declared.events.{StepRecord.{StepRecord}, WordRecord.{WordRecord}}
 
 -- the word of a kind, and of what
 abbrev pub word_named : ℕ → ℕ → ℕ → WordName

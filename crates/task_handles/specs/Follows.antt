@@ -1,11 +1,9 @@
 -- What a handle has once its task comes back that it lent.
 use Rattle.std.specs.Prelude.{true}
 use base.Fml.{Fml}
-use denote.Ref.{MutBor}
-use denote.Follow.{follows}
+use denote.{Ref.{MutBor}, Follow.{follows}}
 use Rattle.vfs_gates.specs.TaskStates.{SeatedTask}
-use Rattle.task_handles.specs.declared.handles.TaskHandle.{TaskHandle}
-use Rattle.task_handles.specs.contracts.members.Member.{the_row as member_row}
+use Rattle.task_handles.specs.{declared.handles.TaskHandle.{TaskHandle}, contracts.members.Member.{the_row as member_row}}
 use Rattle.task_handles.specs.contracts.handles.TaskHandle.{the_row as handle_row}
 
 -- the handle of a task that came to this state

@@ -3,8 +3,7 @@ use Rattle.std.specs.Prelude.{Bool, true, false}
 use base.Fml.{Fml, ftrue}
 use denote.RawPtr.{Ptr}
 use Rattle.std_alloc.specs.Box.Ownership.{box_owns}
-use Rattle.std_heap.specs.contracts.Global.{the_row as Heap}
-use Rattle.std_heap.specs.contracts.GlobalAllocator.TheImpl.{ghosts}
+use Rattle.std_heap.specs.contracts.{Global.{the_row as Heap}, GlobalAllocator.TheImpl.{ghosts}}
 use Rattle.vfs_gates.specs.TaskStates.{SeatedTask}
 use Rattle.task_handles.specs.contracts.members.Member.{the_row}
 

@@ -1,10 +1,7 @@
 -- What the numbers of a record tell of a configuration.
-use Rattle.access_model.specs.declared.errors.GateError.{GateError}
-use Rattle.access_model.specs.declared.errors.GateError.TheVariants.{NoMemory, Order, TooMany}
+use Rattle.access_model.specs.declared.errors.GateError.{GateError, TheVariants.{NoMemory, Order, TooMany}}
 use Rattle.gate_world.specs.declared.config.Config.{Config}
-use Rattle.vfs_gates.specs.Held.{Rests}
-use Rattle.vfs_gates.specs.Parts.{GaveAll}
-use Rattle.vfs_gates.specs.TaskStates.{SeatedTask}
+use Rattle.vfs_gates.specs.{Held.{Rests}, Parts.{GaveAll}, TaskStates.{SeatedTask}}
 use Rattle.task_handles.specs.declared.openings.ConfigRecord.{ConfigRecord}
 
 abbrev pub config_of : ConfigRecord → Config

@@ -1,11 +1,9 @@
 -- What the numbers of a record tell of an operation.
 use Rattle.std.specs.Prelude.{◌==◌, Bool, true, false, if◌then◌else◌, Option, Some, None}
-use Rattle.access_model.specs.declared.actions.Kind.{Kind}
-use Rattle.access_model.specs.declared.actions.Kind.TheVariants.{File, Dir}
+use Rattle.access_model.specs.declared.actions.Kind.{Kind, TheVariants.{File, Dir}}
 use Rattle.gate_world.specs.declared.operations.Op.{Op}
 use Rattle.gate_world.specs.declared.operations.Op.TheVariants.{Want, DropMount, ChangeMount, RemountSb, Start, End, WantWrite, DropWrite, Callback, Freeze, Thaw, Create, Remove, Grow, MoveTo, Fault, Flush, Open, Close, Snapshot}
-use Rattle.task_handles.specs.Codes.{holder_of}
-use Rattle.task_handles.specs.declared.operations.OpRecord.{OpRecord}
+use Rattle.task_handles.specs.{Codes.{holder_of}, declared.operations.OpRecord.{OpRecord}}
 
 -- what is created
 abbrev pub kind_of : Bool → Kind

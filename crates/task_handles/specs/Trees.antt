@@ -1,8 +1,7 @@
 -- What the numbers of a record tell C of a node.
 use Rattle.std.specs.Prelude.{if◌then◌else◌, Option, Some, None}
 use Rattle.access_model.specs.declared.actions.NodeInfo.{NodeInfo}
-use Rattle.task_handles.specs.Operations.{kind_of}
-use Rattle.task_handles.specs.declared.trees.NodeRecord.{NodeRecord}
+use Rattle.task_handles.specs.{Operations.{kind_of}, declared.trees.NodeRecord.{NodeRecord}}
 
 abbrev pub node_told : NodeRecord → Option NodeInfo
 node_told r =

@@ -1,18 +1,9 @@
 -- A session as it opens: its gates and its model are within the limits of its configuration.
-use Rattle.std.proofs.Common.{◌≡◌, refl, sym, ap, subst, ◌∙◌, arith, Result, Ok, Err}
-use Rattle.std.specs.Prelude.{true, IfOk, OnOk, []}
-use Rattle.std.specs.Result.{MatchResult, is_ok}
-use Rattle.std.proofs.lemmas.Bool.{false≢true}
-use Rattle.std.proofs.lemmas.Bool.Decides.{nat_tests}
-use Rattle.gate_world.specs.Configs.{IsWithin}
-use Rattle.gate_world.specs.Worlds.{World, opening}
-use Rattle.gate_world.specs.declared.config.Config.{Config}
-use Rattle.model_state.specs.Limits.{AreLimits}
-use Rattle.model_state.specs.Shown.{bounded_state_of, opened}
-use Rattle.transcripts.specs.Limits.{is_config}
-use Rattle.transcripts.specs.Sessions.{ShowsPlay}
-use Rattle.transcripts.specs.Transcript.{opening_play}
-use Rattle.transcripts.specs.declared.session.Session.{Session}
+use Rattle.std.proofs.{Common.{◌≡◌, refl, sym, ap, subst, ◌∙◌, arith, Result, Ok, Err}, lemmas.Bool.{false≢true, Decides.{nat_tests}}}
+use Rattle.std.specs.{Prelude.{true, IfOk, OnOk, []}, Result.{MatchResult, is_ok}}
+use Rattle.gate_world.specs.{Configs.{IsWithin}, Worlds.{World, opening}, declared.config.Config.{Config}}
+use Rattle.model_state.specs.{Limits.{AreLimits}, Shown.{bounded_state_of, opened}}
+use Rattle.transcripts.specs.{Limits.{is_config}, Sessions.{ShowsPlay}, Transcript.{opening_play}, declared.session.Session.{Session}}
 
 -- a configuration within the limits passes the test
 pub is_config_within : (c : Config) → IsWithin c → is_config c ≡ true

@@ -1,23 +1,14 @@
 -- A play that some schedule leads to, one entry on.
 use Rattle.std.proofs.Common.{◌≡◌, ℕ, refl, sym, ap, subst, ◌∙◌, List, [], ◌∷◌, ◌++◌}
 use Rattle.std.specs.Prelude.{Bool, true, false, if◌then◌else◌, nat_lt, Option, Some, None}
-use Rattle.access_model.specs.States.{State}
-use Rattle.access_model.specs.Actions.{IsAllowed}
-use Rattle.access_model.specs.Histories.{Done, end_of}
-use Rattle.access_model.specs.declared.actions.Action.{Action}
+use Rattle.access_model.specs.{States.{State}, Actions.{IsAllowed}, Histories.{Done, end_of}, declared.actions.Action.{Action}}
 use Rattle.cpu_words.specs.Hooks.{HookAnswer}
-use Rattle.gate_world.specs.declared.config.Config.{Config}
-use Rattle.gate_world.specs.declared.work.Phase.{Phase}
-use Rattle.gate_world.specs.Configs.{model_limits}
-use Rattle.gate_world.specs.Rules.{Moves}
+use Rattle.gate_world.specs.{declared.{config.Config.{Config}, work.Phase.{Phase}}, Configs.{model_limits}, Rules.{Moves}}
 use Rattle.gate_world.specs.Worlds.{World, happens, run, history, opening, action_of, phase_action, task_of, with_action}
-use Rattle.gate_world.specs.declared.entries.Entry.{Entry, TheVariants.{Steps}}
-use Rattle.gate_world.specs.Shown.{shown}
-use Rattle.gate_schedules.specs.Answers.{step_answer, phase_step, idle_step}
-use Rattle.gate_schedules.specs.declared.steps.Step.{Step}
+use Rattle.gate_world.specs.{declared.entries.Entry.{Entry, TheVariants.{Steps}}, Shown.{shown}}
+use Rattle.gate_schedules.specs.{Answers.{step_answer, phase_step, idle_step}, declared.steps.Step.{Step}}
 use Rattle.gate_schedules.proofs.schedules.HeadlineProof.{whole_run, whole_moves}
-use Rattle.transcripts.specs.Transcript.{ReplayState, played}
-use Rattle.transcripts.specs.Reached.{IsReached}
+use Rattle.transcripts.specs.{Transcript.{ReplayState, played}, Reached.{IsReached}}
 
 -- a run of one entry more
 run_more : (c : Config) (w : World) (es : List Entry) (e : Entry) → run c w (es ++ e ∷ []) ≡ happens c (run c w es) e

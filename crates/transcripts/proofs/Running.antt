@@ -1,18 +1,14 @@
 -- A run, event by event.
 use Rattle.std.proofs.Common.{◌≡◌, ℕ, ◌+◌, ◌-◌, ◌<◌, suc, refl, sym, ap, subst, ◌∙◌, arith, inl, inr, ◌⊎◌}
 use Rattle.std.specs.Prelude.{Bool, true, false, Option, Result}
-use Rattle.access_model.specs.declared.errors.GateError.{GateError}
-use Rattle.access_model.specs.declared.replies.Reply.{Reply}
+use Rattle.access_model.specs.declared.{errors.GateError.{GateError}, replies.Reply.{Reply}}
 use Rattle.cpu_words.specs.Hooks.{HookAnswer}
-use Rattle.gate_schedules.specs.declared.steps.Progress.{Progress}
-use Rattle.gate_world.specs.Worlds.{World}
-use Rattle.gate_world.specs.declared.config.Config.{Config}
-use Rattle.gate_schedules.specs.declared.steps.Progress.TheVariants.{Idle, Going, Waiting, Done as Ended}
+use Rattle.gate_schedules.specs.declared.steps.Progress.{Progress, TheVariants.{Idle, Going, Waiting, Done as Ended}}
 use Rattle.gate_schedules.specs.Answers.{step_answer}
+use Rattle.gate_world.specs.{Worlds.{World}, declared.config.Config.{Config}}
 use Rattle.schedule_text.specs.declared.commands.HookFailure.{HookFailure}
 use Rattle.transcripts.specs.Transcript.{ReplayState, after_event, hook_answer, next_progress, next_play, run_from, run_of}
-use Rattle.transcripts.specs.Sessions.{ShowsPlay}
-use Rattle.transcripts.specs.declared.session.Session.{Session}
+use Rattle.transcripts.specs.{Sessions.{ShowsPlay}, declared.session.Session.{Session}}
 
 -- the run has to wait, or has ended
 abbrev IsLast : Progress → Type 0

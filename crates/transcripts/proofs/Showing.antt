@@ -1,25 +1,16 @@
 -- Sessions after an entry: they show the play after it.
 use Rattle.std.proofs.Common.{◌≡◌, ℕ, sym, ap, subst, ◌∙◌, List}
 use Rattle.std.specs.Prelude.{Option, Some, None, Result, Ok, Err, OnOk, IsOk}
-use Rattle.access_model.specs.States.{BoundedState}
-use Rattle.access_model.specs.Actions.{IsAllowed}
-use Rattle.access_model.specs.Histories.{Done, end_of}
-use Rattle.model_state.specs.Shown.{bounded_state_of, bounded_state_after, limits_of as limits_in, state_of}
-use Rattle.access_model.specs.declared.actions.Action.{Action}
+use Rattle.access_model.specs.{States.{BoundedState}, Actions.{IsAllowed}, Histories.{Done, end_of}, declared.actions.Action.{Action}}
 use Rattle.access_model.specs.declared.errors.GateError.{GateError}
+use Rattle.model_state.specs.Shown.{bounded_state_of, bounded_state_after, limits_of as limits_in, state_of}
 use Rattle.cpu_words.specs.Hooks.{HookAnswer}
-use Rattle.gate_world.specs.Configs.{model_limits}
-use Rattle.gate_world.specs.declared.config.Config.{Config}
-use Rattle.gate_world.specs.declared.operations.Op.{Op}
+use Rattle.gate_world.specs.{Configs.{model_limits}, declared.{config.Config.{Config}, operations.Op.{Op}}}
 use Rattle.gate_world.specs.Worlds.{World, happens, action_of, with_action, task_of}
 use Rattle.gate_world.specs.declared.entries.Entry.{Entry, TheVariants.{Begins, Steps}}
-use Rattle.gate_schedules.specs.Answers.{step_answer}
-use Rattle.gate_schedules.specs.declared.steps.Progress.{Progress}
-use Rattle.gate_schedules.specs.declared.steps.Step.{Step}
+use Rattle.gate_schedules.specs.{Answers.{step_answer}, declared.steps.{Progress.{Progress}, Step.{Step}}}
 use Rattle.schedule_lines.specs.declared.faults.Fault.{Fault}
-use Rattle.transcripts.specs.Transcript.{ReplayState, played, after_event}
-use Rattle.transcripts.specs.Sessions.{ShowsPlay}
-use Rattle.transcripts.specs.declared.session.Session.{Session}
+use Rattle.transcripts.specs.{Transcript.{ReplayState, played, after_event}, Sessions.{ShowsPlay}, declared.session.Session.{Session}}
 use Rattle.transcripts.proofs.Playing.{reached_more, allowed, step_adds}
 
 -- the model after these actions, with one more where an entry adds one

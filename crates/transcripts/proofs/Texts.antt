@@ -1,18 +1,14 @@
 -- Texts of 0, 1, .. n - 1, and what words print.
 use Rattle.std.proofs.Common.{◌≡◌, ℕ, zero, suc, ◌+◌, ◌<◌, ◌≤◌, refl, sym, ap, ap₂, ◌∙◌, List, [], ◌∷◌, ◌++◌, map, append_assoc, append-nil, add-one, arith}
-use Rattle.std.specs.Prelude.{Option}
-use Rattle.std.specs.List.{All, flat_map}
-use Rattle.std.proofs.lemmas.Grind.{flat_map-append}
-use Rattle.std.proofs.lemmas.List.{flat_map_more}
+use Rattle.std.proofs.lemmas.{Grind.{flat_map-append}, List.{flat_map_more}}
 use Rattle.std.proofs.lemmas.List.Elements.{All-from_recursion, All-nil, All-cons, All-head, All-tail, All-append, All-push, All-weaker, All-map}
 use Rattle.std.proofs.lemmas.List.Folds.{flat_map-map}
+use Rattle.std.specs.{Prelude.{Option}, List.{All, flat_map}}
 use Rattle.cpu_words.specs.declared.names.WordName.{WordName}
 use Rattle.cpu_words.specs.declared.names.WordName.TheVariants.{MountFlags, MountCount, Block, Sync, LevelCount, Section, Used, Node, Kids}
 use Rattle.cpu_words.specs.Names.{IsWord}
-use Rattle.gate_world.specs.Configs.{extents_of}
-use Rattle.gate_world.specs.declared.config.Config.{Config}
-use Rattle.schedule_lines.specs.declared.output.Output.{Output}
-use Rattle.schedule_lines.specs.Printed.{Prints}
+use Rattle.gate_world.specs.{Configs.{extents_of}, declared.config.Config.{Config}}
+use Rattle.schedule_lines.specs.{declared.output.Output.{Output}, Printed.{Prints}}
 use Rattle.schedule_lines.proofs.Printed.{prints_both, prints_same}
 use Rattle.transcripts.specs.Transcript.{ReplayState, count_up, word_text, texts_of, words_of_all, mount_words, level_words, printed_words, printed_tree_words, word_in, words_text, tree_words_text}
 

@@ -1,8 +1,6 @@
 -- Plays that some schedule leads to.
 use Rattle.std.specs.Prelude.{◌≡◌, List, []}
-use Rattle.gate_world.specs.Configs.{IsWithin}
-use Rattle.gate_world.specs.Worlds.{run, history, opening}
-use Rattle.gate_world.specs.declared.entries.Entry.{Entry}
+use Rattle.gate_world.specs.{Configs.{IsWithin}, Worlds.{run, history, opening}, declared.entries.Entry.{Entry}}
 use Rattle.transcripts.specs.Transcript.{ReplayState}
 
 -- some schedule leads to this play

@@ -2,12 +2,8 @@
 use Rattle.std.specs.Prelude.{◌≡◌, Option, Some, None}
 use Rattle.model_state.specs.Shown.{bounded_state_of}
 use Rattle.access_model.specs.Histories.{end_of}
-use Rattle.gate_world.specs.Configs.{model_limits}
-use Rattle.gate_world.specs.Worlds.{World}
-use Rattle.gate_world.specs.declared.config.Config.{Config}
-use Rattle.transcripts.specs.Reached.{IsReached}
-use Rattle.transcripts.specs.Transcript.{ReplayState}
-use Rattle.transcripts.specs.declared.session.Session.{Session}
+use Rattle.gate_world.specs.{Configs.{model_limits}, Worlds.{World}, declared.config.Config.{Config}}
+use Rattle.transcripts.specs.{Reached.{IsReached}, Transcript.{ReplayState}, declared.session.Session.{Session}}
 
 -- what gates of this type show of a world
 abbrev pub Showing : Type 0 → Type 1

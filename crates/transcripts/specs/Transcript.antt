@@ -2,40 +2,23 @@
 -- same worlds, moved by the same entries.
 use Rattle.std.specs.Prelude.{ℕ, zero, suc, ◌+◌, ◌==◌, Bool, true, false, if◌then◌else◌, Option, Some, None, Result, Ok, Err, List, [], ◌∷◌, ◌++◌, map, take, drop}
 use Rattle.std.specs.List.{flat_map}
-use Rattle.access_model.specs.Holders.{held_by}
-use Rattle.access_model.specs.declared.actions.Holder.{Holder}
-use Rattle.access_model.specs.declared.actions.Holder.TheVariants.{Kernel, User}
-use Rattle.access_model.specs.declared.actions.NodeInfo.{NodeInfo}
-use Rattle.access_model.specs.declared.errors.GateError.{GateError}
-use Rattle.access_model.specs.declared.errors.GateError.TheVariants.{Invalid}
-use Rattle.access_model.specs.States.{State}
-use Rattle.access_model.specs.Histories.{Done, end_of}
-use Rattle.cpu_words.specs.Hooks.{HookAnswer}
-use Rattle.cpu_words.specs.declared.names.WordName.{WordName}
+use Rattle.access_model.specs.{Holders.{held_by}, declared.actions.{Holder.{Holder, TheVariants.{Kernel, User}}, NodeInfo.{NodeInfo}}}
+use Rattle.access_model.specs.{declared.errors.GateError.{GateError, TheVariants.{Invalid}}, States.{State}, Histories.{Done, end_of}}
+use Rattle.cpu_words.specs.{Hooks.{HookAnswer}, declared.names.WordName.{WordName}}
 use Rattle.cpu_words.specs.declared.names.WordName.TheVariants.{Umount, Stage, Holders, SbFlags, Remount, Removed, MountFlags, MountCount, Block, Sync, LevelCount, Section, Used, Node, Kids}
 use Rattle.cpu_words.specs.Words.{read}
-use Rattle.gate_world.specs.declared.config.Config.{Config}
-use Rattle.gate_world.specs.Worlds.{World, happens, action_of, task_of, with_action, opening}
+use Rattle.gate_world.specs.{declared.config.Config.{Config}, Worlds.{World, happens, action_of, task_of, with_action, opening}}
 use Rattle.gate_world.specs.declared.entries.Entry.{Entry, TheVariants.{Begins, Steps}}
-use Rattle.gate_schedules.specs.declared.steps.Progress.{Progress}
-use Rattle.gate_schedules.specs.declared.steps.Progress.TheVariants.{Idle, Going, Waiting, Done as Ended}
+use Rattle.gate_schedules.specs.declared.steps.Progress.{Progress, TheVariants.{Idle, Going, Waiting, Done as Ended}}
 use Rattle.gate_schedules.specs.Answers.{begin_answer, step_answer, wanted_hook}
-use Rattle.schedule_text.specs.declared.commands.HookFailure.{HookFailure}
-use Rattle.schedule_text.specs.declared.commands.Line.{Line}
+use Rattle.schedule_text.specs.declared.commands.{HookFailure.{HookFailure}, Line.{Line}}
 use Rattle.schedule_text.specs.declared.commands.Line.TheVariants.{Skipped, Config as ConfigLine, Request as RequestLine}
-use Rattle.schedule_text.specs.declared.commands.Request.{Request}
-use Rattle.schedule_text.specs.declared.commands.Request.TheVariants.{Words, Tree, Model, Task}
-use Rattle.schedule_text.specs.declared.commands.TaskCommand.{TaskCommand}
-use Rattle.schedule_text.specs.declared.commands.TaskCommand.TheVariants.{Begin, Step, Run}
-use Rattle.schedule_lines.specs.declared.faults.Fault.{Fault}
-use Rattle.schedule_lines.specs.declared.faults.Fault.TheVariants.{TooManyLines, LineTooLong, CutOff, ConfigExpected, Refused}
-use Rattle.schedule_lines.specs.declared.lines.Front.TheVariants.{Line as WholeLine, TooLong, Part}
-use Rattle.schedule_text.specs.Commands.{failing_answer}
-use Rattle.schedule_lines.specs.Lines.{front_of}
-use Rattle.schedule_text.specs.Parsing.{parsed}
+use Rattle.schedule_text.specs.declared.commands.{Request.{Request, TheVariants.{Words, Tree, Model, Task}}, TaskCommand.{TaskCommand}}
+use Rattle.schedule_text.specs.{declared.commands.TaskCommand.TheVariants.{Begin, Step, Run}, Commands.{failing_answer}, Parsing.{parsed}}
+use Rattle.schedule_lines.specs.declared.faults.Fault.{Fault, TheVariants.{TooManyLines, LineTooLong, CutOff, ConfigExpected, Refused}}
+use Rattle.schedule_lines.specs.{declared.lines.Front.TheVariants.{Line as WholeLine, TooLong, Part}, Lines.{front_of}}
 use Rattle.schedule_lines.specs.Printing.{word_line, refused_line, model_line, holder_line, read_only_mount_line, held_mount_line, held_level_line, open_file_line, node_line}
-use Rattle.transcripts.specs.Printing.{step_text, ended_text}
-use Rattle.transcripts.specs.Limits.{is_config}
+use Rattle.transcripts.specs.{Printing.{step_text, ended_text}, Limits.{is_config}}
 
 -- a schedule on its way: its configuration, the world, and the actions that its events added so far, the newest first
 pub record ReplayState : Type 0 where

@@ -1,31 +1,18 @@
 -- Operations that are begun and done as far as they go at once.
 use Rattle.std.proofs.Common.{◌≡◌, refl, sym, ap, ◌∙◌, subst, []}
 use Rattle.std.specs.Prelude.{Option, Some, None, Result, Ok, Err}
-use Rattle.access_model.specs.declared.errors.GateError.{GateError}
-use Rattle.access_model.specs.declared.replies.Next.{Next}
-use Rattle.access_model.specs.declared.replies.Next.TheVariants.{Go}
-use Rattle.access_model.specs.declared.replies.Reply.{Reply}
+use Rattle.access_model.specs.declared.{errors.GateError.{GateError}, replies.{Next.{Next, TheVariants.{Go}}, Reply.{Reply}}}
 use Rattle.atomic_table.specs.Seated.{TableId}
 use Rattle.cpu_words.specs.Hooks.{HookAnswer}
 use Rattle.freeze_levels.specs.declared.hooks.HookCall.{HookCall}
-use Rattle.gate_world.specs.Views.{phase_after}
-use Rattle.gate_world.specs.declared.accesses.Accesses.{Accesses}
-use Rattle.gate_world.specs.declared.config.Config.{Config}
-use Rattle.gate_world.specs.declared.operations.Op.{Op}
+use Rattle.gate_world.specs.{Views.{phase_after}, declared.{accesses.Accesses.{Accesses}, config.Config.{Config}, operations.Op.{Op}}}
 use Rattle.gate_world.specs.declared.work.Phase.{Phase}
-use Rattle.gate_steps.specs.Seating.{DealtNumbers}
-use Rattle.gate_steps.specs.declared.seating.Knowledge.{Knowledge}
-use Rattle.gate_steps.specs.call_events.Answers.{unless_refused}
-use Rattle.gate_steps.specs.call_events.Asking.{OpUnderWayWith}
-use Rattle.gate_steps.specs.call_events.KnownSteps.{KnownStepsAsking}
-use Rattle.gate_steps.specs.call_events.Progress.{Progress}
-use Rattle.gate_steps.specs.call_events.Progress.TheVariants.{Idle, Going, Waiting, Done}
-use Rattle.gate_steps.specs.call_events.Runs.{OpUnderWay, ProgressMatches}
+use Rattle.gate_steps.specs.{Seating.{DealtNumbers}, declared.seating.Knowledge.{Knowledge}, call_events.Answers.{unless_refused}}
+use Rattle.gate_steps.specs.call_events.{Asking.{OpUnderWayWith}, KnownSteps.{KnownStepsAsking}, Progress.{Progress}}
+use Rattle.gate_steps.specs.call_events.{Progress.TheVariants.{Idle, Going, Waiting, Done}, Runs.{OpUnderWay, ProgressMatches}}
 use Rattle.gate_steps.specs.call_events.Waited.{OpAfterStepWaiting}
-use Rattle.gate_steps.proofs.call_events.Running.{admitted_some, refused_as, refused_none}
-use Rattle.gate_steps.proofs.call_events.Turning.{unasked}
-use Rattle.vfs_gates.specs.AtOnce.{BeginsAtOnce}
-use Rattle.vfs_gates.specs.TaskStates.{SeatedTask, task_state, refusal_at}
+use Rattle.gate_steps.proofs.call_events.{Running.{admitted_some, refused_as, refused_none}, Turning.{unasked}}
+use Rattle.vfs_gates.specs.{AtOnce.{BeginsAtOnce}, TaskStates.{SeatedTask, task_state, refusal_at}}
 
 -- an operation went where the steps of a line have led
 pub went_there : {H : Type 0} {answers : HookCall → DealtNumbers → H → HookAnswer → H → Type 0} {c : Config} {begins : Option Op}

@@ -1,13 +1,13 @@
 -- A call that begins an operation and does its events on what the task keeps, and what it writes down at the end.
 use Rattle.gate_steps.specs.declared.seating.Knowledge.{Knowledge}
+use Rattle.gate_steps.specs.call_events.{Answers.unless_refused, Asking.{OpUnderWayWith, CalledAsking}, Runs.{OpUnderWay, Called}, TaskState.TaskState}
+use Rattle.gate_steps.specs.declared.seating.Numbered.{Numbered}
+use Rattle.gate_steps.specs.call_events.{Seating.DealtNumbers, GhostAgrees.{PhaseOk, OwnNumberAgrees, GhostAgrees}, Turns.{state_at, StateAgrees, AgreesAfter}, Waited.{OpUnderWayWaiting, OpAfterStepWaiting}}
 use Rattle.std.proofs.Common.{◌≡◌, ℕ, Bool, false, List, [], ◌∷◌, refl, sym, ap, ◌∙◌, subst}
 use Rattle.std.specs.Prelude.{Option, Some, None, Result, Ok, Err, is_some}
 use Rattle.access_model.specs.declared.{errors.GateError.GateError, replies.{Next.{Next, TheVariants.{Go, Wait, Done}}, Reply.Reply}}
 use Rattle.gate_world.specs.{Beginnings.{first_phase, refusal}, Fits.Fits, Views.{phase_after, held_of}, declared.accesses.Accesses.Accesses}
 use Rattle.gate_world.specs.declared.{config.Config.Config, operations.Op.Op, work.Phase.Phase}
-use Rattle.gate_steps.specs.call_events.{Answers.unless_refused, Asking.{OpUnderWayWith, CalledAsking}, Runs.{OpUnderWay, Called}, TaskState.TaskState}
-use Rattle.gate_steps.specs.declared.seating.Numbered.{Numbered}
-use Rattle.gate_steps.specs.call_events.{Seating.DealtNumbers, GhostAgrees.{PhaseOk, OwnNumberAgrees, GhostAgrees}, Turns.{state_at, StateAgrees, AgreesAfter}, Waited.{OpUnderWayWaiting, OpAfterStepWaiting}}
 use Rattle.gate_steps.proofs.call_events.{Beginnings.{MayBegin, may_begin, first_fits}, Running.{not_refused, starts_asking_none}}
 use Rattle.atomic_table.specs.Seated.{TableId}
 use Rattle.vfs_gates.specs.{TaskStates.{SeatedTask, task_state, own_number, own_view, refusal_at, beginning_at}, declared.task.Task.TheInside.Inside}

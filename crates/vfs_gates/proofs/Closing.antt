@@ -1,18 +1,11 @@
 -- The world of gates that are closed.
-use Rattle.gate_steps.specs.declared.seating.Knowledge.{Knowledge}
+use Rattle.gate_steps.specs.{declared.seating.Knowledge.{Knowledge}, Rules.{TableShows, first_items}}
+use Rattle.gate_steps.specs.{Seating.{DealtNumbers, numbered, times, view_in, deal}, Tables.{IsClosing}}
+use Rattle.gate_steps.specs.{call_events.GhostAgrees.{IsStill, AllRest}, Histories.{IsReached}}
 use Rattle.std.proofs.Common.{◌≡◌, ℕ, zero, suc, ◌<◌, ◌≤◌, cond, eqb, List, refl, sym, ap, ◌∙◌, subst, arith}
-use Rattle.gate_world.specs.declared.{config.Config.Config, entries.Entry.Entry}
-use Rattle.gate_world.specs.declared.views.View.{View}
-use Rattle.gate_world.specs.Views.{opening_view}
+use Rattle.gate_world.specs.{declared.{config.Config.{Config}, entries.Entry.{Entry}, views.View.{View}}, Views.{opening_view}}
 use Rattle.gate_world.specs.Worlds.{World}
-use Rattle.gate_steps.proofs.call_events.OperationLaws.{by_bool}
-use Rattle.gate_steps.specs.Rules.{TableShows, first_items}
-use Rattle.gate_steps.specs.Seating.{DealtNumbers, numbered, times, view_in, deal}
-use Rattle.gate_steps.proofs.call_events.Opening.{times-deal}
-use Rattle.gate_steps.specs.Tables.{IsClosing}
-use Rattle.gate_steps.proofs.call_events.Giving.{view_in-at, view_in-is}
-use Rattle.gate_steps.specs.call_events.GhostAgrees.{IsStill, AllRest}
-use Rattle.gate_steps.specs.Histories.{IsReached}
+use Rattle.gate_steps.proofs.call_events.{OperationLaws.{by_bool}, Opening.{times-deal}, Giving.{view_in-at, view_in-is}}
 use Rattle.vfs_gates.specs.Ended.{Ended, EndedWith, HasOpeningWords, IsLeftAfter, IsLeftBySchedule}
 use Rattle.vfs_gates.proofs.Parting.{rest-at}
 

@@ -2,17 +2,13 @@
 use Rattle.std.proofs.Common.{◌≡◌, ℕ, refl, sym, ap, ◌∙◌, subst}
 use Rattle.std.specs.Prelude.{Option, Some, None, Ok, List}
 use Rattle.atomic_table.specs.Seated.{TableId}
-use Rattle.access_model.specs.declared.replies.Next.{Next}
-use Rattle.access_model.specs.declared.replies.Next.TheVariants.{Go, Wait, Done}
+use Rattle.access_model.specs.declared.replies.Next.{Next, TheVariants.{Go, Wait, Done}}
 use Rattle.composite_ops.specs.declared.write_access.phases.WritePhase.{WritePhase}
 use Rattle.gate_world.specs.declared.{accesses.Accesses.Accesses, config.Config.Config, operations.Op.Op, work.Phase.Phase}
-use Rattle.gate_world.specs.declared.work.Phase.TheVariants.{Writes}
-use Rattle.gate_world.specs.{Views.phase_after, Work.{after_of}}
+use Rattle.gate_world.specs.{declared.work.Phase.TheVariants.{Writes}, Views.{phase_after}, Work.{after_of}}
 use Rattle.percpu_rwsem.specs.declared.readers.DownReadStep.TheVariants.{EntersSection, LoadsSync, CountsUpFast}
-use Rattle.gate_steps.specs.declared.seating.Knowledge.{Knowledge}
-use Rattle.gate_steps.specs.call_events.Asking.{Ask, asks_of, OpAfterStepWith}
-use Rattle.gate_steps.specs.call_events.KnownSteps.{KnownSteps}
-use Rattle.gate_steps.specs.call_events.SeatedTasks.{SeatedTask, task_state}
+use Rattle.gate_steps.specs.{declared.seating.Knowledge.{Knowledge}, call_events.Asking.{Ask, asks_of, OpAfterStepWith}}
+use Rattle.gate_steps.specs.call_events.{KnownSteps.{KnownSteps}, SeatedTasks.{SeatedTask, task_state}}
 use Rattle.gate_steps.specs.call_events.Waited.{OpUnderWayWaiting, OpAfterStepWaiting}
 use Rattle.gate_steps.proofs.call_events.Leading.{led_on, led_to}
 use Rattle.vfs_gates.specs.Lines.{taking_at}

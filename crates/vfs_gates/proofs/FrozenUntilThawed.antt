@@ -4,11 +4,8 @@ use Rattle.std.proofs.lemmas.{Bool.{and_parts, cases_Bool, false≢true, Decides
 use Rattle.std.specs.Prelude.{◌==◌, ◌||◌, ◌⊎◌, not, if◌then◌else◌, Result, Err}
 use mathlib.Core.Option.{some}
 use lib.ListN.{get_elem?}
-use Rattle.access_model.specs.Actions.{after_action}
-use Rattle.access_model.specs.Histories.{Done, end_of, IsLegal, own_part}
-use Rattle.access_model.specs.Holders.{held_by, with_holder}
-use Rattle.access_model.specs.Laws.{IsFrozenFor}
-use Rattle.access_model.specs.States.{Limits, State}
+use Rattle.access_model.specs.{Actions.{after_action}, Histories.{Done, end_of, IsLegal, own_part}, Holders.{held_by, with_holder}}
+use Rattle.access_model.specs.{Laws.{IsFrozenFor}, States.{Limits, State}}
 use Rattle.access_model.specs.declared.actions.{Action.{Action, TheVariants.{Hold, Leave}}, Holder.{Holder, TheVariants.{Kernel, User}}, Holders.Holders}
 use Rattle.access_model.specs.declared.errors.GateError.{GateError, TheVariants.Invalid}
 use Rattle.access_model.specs.declared.replies.{Next.TheVariants.Done as Ends, Reply.Reply}
@@ -19,12 +16,10 @@ use Rattle.freeze_levels.specs.Holders.{holders_in}
 use Rattle.gated_tree.specs.Refusals.{finds_thawed, loads_stage}
 use Rattle.gate_world.specs.{Configs.{IsWithin, model_limits}, Headline.{world_after, actions_so_far, actions_since, IsOneRun}, Shown.shown}
 use Rattle.gate_world.specs.traces.{Found.{is_load, says_incomplete, says_unheld, some_event}, TraceStates.state_of_trace, Traces.{actions_of, IsHonestAnswer}}
-use Rattle.gate_world.specs.{Work.next_of}
-use Rattle.gate_world.specs.declared.entries.Entry.{Entry, TheVariants.{Begins, Steps}}
+use Rattle.gate_world.specs.{Work.{next_of}, declared.entries.Entry.{Entry, TheVariants.{Begins, Steps}}}
 use Rattle.gate_world.specs.declared.{config.Config.Config, operations.Op.{Op, TheVariants.{Snapshot, Thaw}}, views.{Traced.Traced, View.View}}
 use Rattle.gate_schedules.proofs.schedules.HeadlineProof.{whole_run}
-use Rattle.gate_steps.specs.Seating.{DealtNumbers, HaveHistory, IsPrefix}
-use Rattle.gate_steps.specs.declared.seating.Numbered.{Numbered}
+use Rattle.gate_steps.specs.{Seating.{DealtNumbers, HaveHistory, IsPrefix}, declared.seating.Numbered.{Numbered}}
 use Rattle.gate_steps.specs.call_events.{Grown.{HasSeen, StaySeen}, Runs.{ran_items, AreMoves, Called}, Spans.IsEventDuring}
 use Rattle.gate_steps.proofs.call_events.{Grown.{after_more, only}, Moments.{actions_append, part_more}, Spanning.each_event}
 use Rattle.vfs_gates.specs.{Ended.EndedWith, Frozen.{holders_of, NeverThaws, NeedsFreeze}, Held.own_actions, TaskStates.{SeatedTask, own_number, own_view}}

@@ -1,11 +1,9 @@
 -- A gate is there where its count word is, and its counts are summed.
 use Rattle.std.proofs.Common.{◌≡◌, ℕ, ◌+◌, ◌%◌, ◌<◌, sym, ap, ◌∙◌, add-one, arith}
 use Rattle.finite_sums.specs.Sums.{total}
-use Rattle.access_model.specs.declared.actions.Gate.{Gate}
-use Rattle.access_model.specs.declared.actions.Gate.TheVariants.{Mount, Level}
+use Rattle.access_model.specs.declared.actions.Gate.{Gate, TheVariants.{Mount, Level}}
 use Rattle.cpu_words.specs.Names.{IsWord}
-use Rattle.gate_world.specs.Configs.{IsWithin, extents_of, extents_kept}
-use Rattle.gate_world.specs.declared.config.Config.{Config}
+use Rattle.gate_world.specs.{Configs.{IsWithin, extents_of, extents_kept}, declared.config.Config.{Config}}
 use Rattle.vfs_gates.specs.Sums.{IsGate, count_word}
 
 some_processor : (c : Config) → IsWithin c → 0 < c.processors

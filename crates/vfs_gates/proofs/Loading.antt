@@ -1,43 +1,25 @@
 -- A snapshot whose steps stand in a line: where they lead, and what its task notes of them.
 use Rattle.std.proofs.Common.{◌≡◌, ℕ, ◌+◌, ◌-◌, ◌<◌, ◌≤◌, refl, sym, ap, ◌∙◌, subst, arith, Bool, true, false}
-use Rattle.std.specs.Prelude.{Option, Some, None, Result, Ok, List, is_some, if◌then◌else◌, length, [], not, slice_set as set}
 use Rattle.std.proofs.lemmas.Bool.Decides.{nat_tests}
+use Rattle.std.specs.Prelude.{Option, Some, None, Result, Ok, List, is_some, if◌then◌else◌, length, [], not, slice_set as set}
 use Rattle.atomic_table.specs.Seated.{TableId}
-use Rattle.access_model.specs.declared.replies.Next.{Next}
-use Rattle.access_model.specs.Replies.{map_next}
-use Rattle.access_model.specs.declared.errors.GateError.{GateError}
-use Rattle.access_model.specs.declared.replies.Next.TheVariants.{Go, Done}
-use Rattle.access_model.specs.declared.replies.Reply.{Reply}
-use Rattle.access_model.specs.declared.replies.Reply.TheVariants.{Tree as TreeReply}
-use Rattle.cpu_words.specs.Touches.{event_of}
-use Rattle.cpu_words.specs.declared.events.Event.{Event}
+use Rattle.access_model.specs.{declared.{replies.Next.{Next, TheVariants.{Go, Done}}, errors.GateError.{GateError}}, Replies.{map_next}}
+use Rattle.access_model.specs.declared.replies.Reply.{Reply, TheVariants.{Tree as TreeReply}}
+use Rattle.cpu_words.specs.{Touches.{event_of}, declared.events.Event.{Event}}
 use Rattle.node_words.specs.Nodes.{node_after, unpacked}
 use Rattle.gated_tree.specs.Phases.{at_snapshot, kids_step, node_step, snapshot_after, snapshot_next}
-use Rattle.gated_tree.specs.declared.trees.TreeWords.{TreeWords}
-use Rattle.gated_tree.specs.declared.phases.TreePhase.TheVariants.{Snapshot as Snapshots}
-use Rattle.gated_tree.specs.declared.snapshots.Snapshot.{Snapshot}
-use Rattle.gated_tree.specs.declared.snapshots.SnapshotStep.{SnapshotStep}
+use Rattle.gated_tree.specs.declared.{trees.TreeWords.{TreeWords}, phases.TreePhase.TheVariants.{Snapshot as Snapshots}}
+use Rattle.gated_tree.specs.declared.snapshots.{Snapshot.{Snapshot}, SnapshotStep.{SnapshotStep}}
 use Rattle.gated_tree.specs.declared.snapshots.SnapshotStep.TheVariants.{Locks, LoadsStage, LoadsUsed, LoadsNode, LoadsKids, Releases}
-use Rattle.gate_world.specs.Accesses.{accesses_after}
-use Rattle.gate_world.specs.Views.{phase_after}
-use Rattle.gate_world.specs.Work.{after_of}
-use Rattle.gate_world.specs.declared.accesses.Accesses.{Accesses}
-use Rattle.gate_world.specs.declared.config.Config.{Config}
-use Rattle.gate_world.specs.declared.operations.Op.{Op}
-use Rattle.gate_world.specs.Beginnings.{first_phase}
-use Rattle.gate_world.specs.declared.operations.Op.TheVariants.{Snapshot as SnapshotOp}
-use Rattle.gate_world.specs.declared.work.Phase.{Phase}
-use Rattle.gate_world.specs.declared.work.Phase.TheVariants.{Trees}
-use Rattle.gate_steps.specs.Seating.{DealtNumbers, items_after}
-use Rattle.gate_steps.specs.declared.seating.Knowledge.{Knowledge}
-use Rattle.gate_steps.specs.call_events.KnownSteps.{KnownSteps}
-use Rattle.gate_steps.specs.call_events.Turns.{StateAgrees, state_at}
-use Rattle.gate_steps.proofs.call_events.Leading.{led_on, led_nowhere}
+use Rattle.gate_world.specs.{Accesses.{accesses_after}, Views.{phase_after}, Work.{after_of}, declared.accesses.Accesses.{Accesses}}
+use Rattle.gate_world.specs.{declared.{config.Config.{Config}, operations.Op.{Op}}, Beginnings.{first_phase}}
+use Rattle.gate_world.specs.declared.{operations.Op.TheVariants.{Snapshot as SnapshotOp}, work.Phase.{Phase, TheVariants.{Trees}}}
+use Rattle.gate_steps.specs.{Seating.{DealtNumbers, items_after}, declared.seating.Knowledge.{Knowledge}}
+use Rattle.gate_steps.specs.call_events.{KnownSteps.{KnownSteps}, Turns.{StateAgrees, state_at}}
+use Rattle.gate_steps.proofs.call_events.{Leading.{led_on, led_nowhere}, Turning.{unasked}}
 use Rattle.vfs_gates.specs.Noted.{Noted, taking_at, with_kids, with_nodes}
 use Rattle.vfs_gates.specs.Buffers.{BufferWords, BuffersMatch, after_noting, completed, with_words}
-use Rattle.gate_steps.proofs.call_events.Turning.{unasked}
-use Rattle.vfs_gates.proofs.Calling.{Call, Left, has_asked_none, idle, items_of, not_begun, same}
-use Rattle.vfs_gates.proofs.Noting.{follows_taking}
+use Rattle.vfs_gates.proofs.{Calling.{Call, Left, has_asked_none, idle, items_of, not_begun, same}, Noting.{follows_taking}}
 use Rattle.vfs_gates.proofs.Waiting.{has_number}
 
 -- no step of a snapshot adds an action

@@ -1,38 +1,23 @@
 -- The room for snapshots follows an event of a snapshot: what the event has loaded is noted there.
 use Rattle.std.proofs.Common.{◌≡◌, ℕ, zero, suc, ◌+◌, ◌≤◌, refl, sym, ap, ◌∙◌, subst, arith, Bool, add-one, inl, inr}
-use Rattle.std.specs.Prelude.{◌==◌, Option, Some, None, Err, List, [], ◌∷◌, true, false, if◌then◌else◌, is_some, not, length, take, slice_set as set}
-use Rattle.std.proofs.lemmas.List.{length-replicate, length-set, take-set, take_all}
-use Rattle.std.proofs.lemmas.Bool.{cases_Bool}
-use Rattle.std.proofs.lemmas.Bool.Decides.{nat_tests}
+use Rattle.std.proofs.lemmas.{List.{length-replicate, length-set, take-set, take_all}, Bool.{cases_Bool, Decides.{nat_tests}}}
 use Rattle.std.proofs.lemmas.Grind.{common_steps}
-use Rattle.access_model.specs.declared.replies.Next.{Next}
-use Rattle.access_model.specs.declared.replies.Next.TheVariants.{Go, Wait, Done}
-use Rattle.access_model.specs.Replies.{map_next}
-use Rattle.cpu_words.specs.Hooks.{HookAnswer}
-use Rattle.cpu_words.specs.Touches.{event_of}
-use Rattle.cpu_words.specs.declared.events.Event.{Event}
-use Rattle.cpu_words.specs.declared.names.WordName.{WordName}
-use Rattle.cpu_words.specs.declared.names.WordName.TheVariants.{Kids}
+use Rattle.std.specs.Prelude.{◌==◌, Option, Some, None, Err, List, [], ◌∷◌, true, false, if◌then◌else◌, is_some, not, length, take, slice_set as set}
+use Rattle.access_model.specs.{declared.replies.Next.{Next, TheVariants.{Go, Wait, Done}}, Replies.{map_next}}
 use Rattle.access_model.specs.declared.errors.GateError.TheVariants.{Again, Invalid}
+use Rattle.cpu_words.specs.{Hooks.{HookAnswer}, Touches.{event_of}, declared.{events.Event.{Event}, names.WordName.{WordName}}}
+use Rattle.cpu_words.specs.declared.names.WordName.TheVariants.{Kids}
 use Rattle.node_words.specs.Nodes.{node_after, unpacked}
-use Rattle.gated_tree.specs.Phases.{at_snapshot, kids_step, node_step}
-use Rattle.gated_tree.specs.Trees.{loaded}
-use Rattle.gated_tree.specs.declared.phases.TreePhase.TheVariants.{Snapshot as Snapshots}
-use Rattle.gated_tree.specs.declared.snapshots.Snapshot.{Snapshot as Taking}
+use Rattle.gated_tree.specs.{Phases.{at_snapshot, kids_step, node_step}, Trees.{loaded}}
+use Rattle.gated_tree.specs.declared.{phases.TreePhase.TheVariants.{Snapshot as Snapshots}, snapshots.Snapshot.{Snapshot as Taking}}
 use Rattle.gated_tree.specs.declared.snapshots.SnapshotStep.{SnapshotStep}
 use Rattle.gated_tree.specs.declared.snapshots.SnapshotStep.TheVariants.{Locks, LoadsStage, LoadsUsed, LoadsNode, LoadsKids, Releases}
 use Rattle.gated_tree.specs.declared.trees.TreeWords.{TreeWords}
-use Rattle.gate_world.specs.declared.operations.Op.{Op}
-use Rattle.gate_world.specs.declared.work.Phase.{Phase}
-use Rattle.gate_world.specs.declared.work.Phase.TheVariants.{Trees}
-use Rattle.gate_world.specs.declared.views.Snapshot.{Snapshot as Noted}
-use Rattle.gate_world.specs.declared.views.Traced.{Traced}
-use Rattle.gate_world.specs.traces.Found.{is_load}
-use Rattle.gate_world.specs.traces.Snapshots.{completes, last_snapshot, loads_noted, noted_last}
-use Rattle.gate_world.specs.Views.{phase_after}
+use Rattle.gate_world.specs.declared.{operations.Op.{Op}, work.Phase.{Phase, TheVariants.{Trees}}, views.Snapshot.{Snapshot as Noted}}
+use Rattle.gate_world.specs.{declared.views.Traced.{Traced}, traces.Found.{is_load}}
+use Rattle.gate_world.specs.{traces.Snapshots.{completes, last_snapshot, loads_noted, noted_last}, Views.{phase_after}}
 use Rattle.gate_world.specs.Work.{after_of, next_of}
-use Rattle.gate_steps.specs.Seating.{DealtNumbers, done_by, items_after}
-use Rattle.gate_steps.specs.declared.seating.Numbered.{Numbered}
+use Rattle.gate_steps.specs.{Seating.{DealtNumbers, done_by, items_after}, declared.seating.Numbered.{Numbered}}
 use Rattle.vfs_gates.specs.Buffers.{BufferWords, BuffersMatch, HasNodes, IsSized, LastTells, NextTells, StepTells, after_noting, completed, noted_in, trace_so_far, with_words}
 use Rattle.vfs_gates.specs.TaskStates.{own_view}
 

@@ -1,14 +1,10 @@
 -- A change of a mount to writable, which waits: it is done.
-use Rattle.std.proofs.Common.{◌≡◌, ℕ, true, false, refl, sym, subst, inl, inr}
-use Rattle.std.proofs.lemmas.Bool.{cases_Bool}
+use Rattle.std.proofs.{Common.{◌≡◌, ℕ, true, false, refl, sym, subst, inl, inr}, lemmas.Bool.{cases_Bool}}
 use Rattle.std.specs.Prelude.{◌==◌, Ok, List, [], ◌∷◌}
-use Rattle.access_model.specs.declared.actions.Action.{Action}
-use Rattle.access_model.specs.declared.replies.{Next.Next, Reply.Reply}
+use Rattle.access_model.specs.declared.{actions.Action.{Action}, replies.{Next.{Next}, Reply.{Reply}}}
 use Rattle.cpu_words.specs.Hooks.{HookAnswer}
-use Rattle.mount_counts.specs.Phases.{has_flag}
-use Rattle.mount_counts.specs.declared.phases.{ChangeStep.ChangeStep, MountPhase.MountPhase}
-use Rattle.gate_world.specs.traces.TraceStates.{state_of_trace, trace_state_after}
-use Rattle.gate_world.specs.Work.{after_of}
+use Rattle.mount_counts.specs.{Phases.{has_flag}, declared.phases.{ChangeStep.{ChangeStep}, MountPhase.{MountPhase}}}
+use Rattle.gate_world.specs.{traces.TraceStates.{state_of_trace, trace_state_after}, Work.{after_of}}
 use Rattle.gate_world.specs.declared.{config.Config.Config, operations.Op.Op, views.Traced.Traced, work.Phase.Phase}
 
 -- the change at a step

@@ -1,31 +1,18 @@
 -- What calls are of a task that rests.
 use Rattle.std.proofs.Common.{◌≡◌, ℕ, zero, suc, ◌<◌, ◌≤◌, Bool, true, false, cond, eqb, List, [], ◌∷◌, ◌++◌, length, refl, sym, ap, ◌∙◌, subst, arith, lt-ltb, true≢false}
 use Rattle.std.specs.Prelude.{Option, Some, None, Result, Ok, Err, IfErr}
-use Rattle.access_model.specs.declared.errors.GateError.{GateError}
-use Rattle.access_model.specs.declared.errors.GateError.TheVariants.{Busy, Again, ReadOnly}
-use Rattle.access_model.specs.declared.replies.Reply.{Reply}
-use Rattle.gate_world.specs.declared.config.Config.{Config}
-use Rattle.gate_world.specs.declared.operations.Op.{Op}
-use Rattle.gate_world.specs.declared.operations.Op.TheVariants.{Want, ChangeMount}
-use Rattle.gate_world.specs.declared.views.View.{View}
-use Rattle.gate_world.specs.declared.views.Traced.{Traced}
-use Rattle.gate_world.specs.traces.Traces.{IsHonestAnswer}
-use Rattle.gate_world.specs.Views.{opening_view}
+use Rattle.access_model.specs.declared.{errors.GateError.{GateError, TheVariants.{Busy, Again, ReadOnly}}, replies.Reply.{Reply}}
+use Rattle.gate_world.specs.declared.{config.Config.{Config}, operations.Op.{Op, TheVariants.{Want, ChangeMount}}, views.View.{View}}
+use Rattle.gate_world.specs.{declared.{views.Traced.{Traced}, entries.Entry.{Entry}}, traces.Traces.{IsHonestAnswer}, Views.{opening_view}}
 use Rattle.atomic_table.specs.Seated.{TableId}
-use Rattle.gate_steps.specs.Rules.{first_known}
-use Rattle.gate_steps.specs.call_events.Runs.{told_as, unit_of, Called, Performs}
-use Rattle.gate_steps.specs.call_events.TaskState.{TaskState}
+use Rattle.gate_steps.specs.{Rules.{first_known}, call_events.{Runs.{told_as, unit_of, Called, Performs}, TaskState.{TaskState}}}
 use Rattle.gate_steps.specs.Seating.{DealtNumbers, HaveViews, numbered, times, view_in, kept_of, given_of, deal}
 use Rattle.gate_steps.specs.call_events.GhostAgrees.{GhostAgrees}
 use Rattle.gate_steps.proofs.call_events.Giving.{view_in-at}
 use Rattle.vfs_gates.specs.declared.gates.Gates.{Gates}
 use Rattle.vfs_gates.specs.TaskStates.{SeatedTask, task_state, own_number, own_view, spare_of, refusal_at, Empty, IsFrom}
-use Rattle.gate_world.specs.declared.entries.Entry.{Entry}
-use Rattle.vfs_gates.specs.Ended.{EndedWith}
-use Rattle.vfs_gates.specs.Parts.{SplitOf}
-use Rattle.vfs_gates.specs.Held.{Rests, own_actions}
-use Rattle.vfs_gates.proofs.Parting.{rest-at}
-use Rattle.vfs_gates.proofs.Holding.{adds, keeps, refused_call_keeps, rests_on}
+use Rattle.vfs_gates.specs.{Ended.{EndedWith}, Parts.{SplitOf}, Held.{Rests, own_actions}}
+use Rattle.vfs_gates.proofs.{Parting.{rest-at}, Holding.{adds, keeps, refused_call_keeps, rests_on}}
 
 -- there is a mount and a processor
 pub some_mount : (s : SeatedTask) (g : Gates) → IsFrom s g → 0 < s.config.mounts

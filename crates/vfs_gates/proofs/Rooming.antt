@@ -1,46 +1,25 @@
 -- What the room for snapshots tells of a task, as its operation begins and goes on.
-use Rattle.gate_world.specs.declared.entries.Entry.{Entry}
-use Rattle.gate_steps.specs.Seating.{knows}
+use Rattle.gate_world.specs.declared.{entries.Entry.{Entry}, config.Config.{Config}, operations.Op.{Op}, work.Phase.{Phase}}
+use Rattle.gate_world.specs.declared.work.Phase.TheVariants.{Mounts, Remounts, DownReads, UpReads, Callbacks, Writes, Freezes, Thaws, Trees, Closes}
+use Rattle.gate_world.specs.{declared.views.Traced.{Traced}, Beginnings.{first_phase}, traces.Snapshots.{completes, last_snapshot}}
+use Rattle.gate_world.specs.{Views.{phase_after}, Work.{after_of, next_of}, declared.views.{View.{View}, Snapshot.{Snapshot as Noted}}}
+use Rattle.gate_world.specs.traces.TraceStates.{trace_state_after, state_of_trace}
+use Rattle.gate_steps.specs.{Seating.{knows, DealtNumbers, deal, done_by, given_of, items_after, kept_of}, Rules.{first_items}}
+use Rattle.gate_steps.specs.{declared.seating.Numbered.{Numbered}, call_events.{TaskState.{TaskState}, Step.{Step}}}
+use Rattle.gate_steps.specs.call_events.{Runs.{Called, OpUnderWay, completed_by, items_at, ran_items, ran_snapshot}, Stepped.{Stepped}}
+use Rattle.gate_steps.specs.call_events.{GhostAgrees.{GhostAgrees}, Turns.{step_was}}
 use Rattle.std.proofs.Common.{◌≡◌, ℕ, zero, suc, ◌≤◌, refl, sym, ap, ◌∙◌, subst, arith, Bool, true≢false}
 use Rattle.std.specs.Prelude.{Option, Some, None, Result, List, [], ◌∷◌, ◌++◌, false, option_map, length}
-use Rattle.access_model.specs.declared.replies.Next.{Next}
-use Rattle.access_model.specs.declared.replies.Next.TheVariants.{Go, Wait, Done}
-use Rattle.access_model.specs.Replies.{map_next}
-use Rattle.cpu_words.specs.Hooks.{HookAnswer}
-use Rattle.cpu_words.specs.Touches.{event_of, found_by}
-use Rattle.cpu_words.specs.declared.events.Event.{Event}
+use Rattle.access_model.specs.{declared.{replies.Next.{Next, TheVariants.{Go, Wait, Done}}, actions.Action.{Action}}, Replies.{map_next}}
+use Rattle.access_model.specs.declared.{errors.GateError.{GateError}, replies.Reply.{Reply}}
+use Rattle.cpu_words.specs.{Hooks.{HookAnswer}, Touches.{event_of, found_by}, declared.events.Event.{Event}}
 use Rattle.gated_tree.specs.declared.phases.TreePhase.{TreePhase}
 use Rattle.gated_tree.specs.declared.phases.TreePhase.TheVariants.{Create as Creates, Remove as Removes, Grow as Grows, MoveTo as Moves, Mark as TreeMarks, OpenFile as OpensOne, Snapshot as Snapshots, ClearMarks as TreeClears}
-use Rattle.gated_tree.specs.declared.snapshots.Snapshot.{Snapshot as Taking}
-use Rattle.gated_tree.specs.declared.trees.TreeWords.{TreeWords}
+use Rattle.gated_tree.specs.declared.{snapshots.Snapshot.{Snapshot as Taking}, trees.TreeWords.{TreeWords}}
 use Rattle.percpu_rwsem.specs.Readers.{up_read_after}
-use Rattle.gate_world.specs.declared.config.Config.{Config}
-use Rattle.gate_world.specs.declared.operations.Op.{Op}
-use Rattle.gate_world.specs.declared.work.Phase.{Phase}
-use Rattle.gate_world.specs.declared.work.Phase.TheVariants.{Mounts, Remounts, DownReads, UpReads, Callbacks, Writes, Freezes, Thaws, Trees, Closes}
-use Rattle.gate_world.specs.declared.views.Traced.{Traced}
-use Rattle.gate_world.specs.Beginnings.{first_phase}
-use Rattle.gate_world.specs.traces.Snapshots.{completes, last_snapshot}
-use Rattle.gate_world.specs.Views.{phase_after}
-use Rattle.gate_world.specs.Work.{after_of, next_of}
-use Rattle.gate_steps.specs.Seating.{DealtNumbers, deal, done_by, given_of, items_after, kept_of}
-use Rattle.gate_steps.specs.Rules.{first_items}
-use Rattle.gate_steps.specs.declared.seating.Numbered.{Numbered}
-use Rattle.gate_steps.specs.call_events.TaskState.{TaskState}
-use Rattle.gate_steps.specs.call_events.Step.{Step}
 use Rattle.atomic_table.specs.Seated.{TableId}
-use Rattle.access_model.specs.declared.actions.Action.{Action}
-use Rattle.access_model.specs.declared.errors.GateError.{GateError}
-use Rattle.access_model.specs.declared.replies.Reply.{Reply}
-use Rattle.gate_world.specs.declared.views.View.{View}
-use Rattle.gate_world.specs.declared.views.Snapshot.{Snapshot as Noted}
-use Rattle.gate_world.specs.traces.TraceStates.{trace_state_after, state_of_trace}
 use Rattle.vfs_gates.specs.Buffers.{BufferWords, HasSnapshotRoom, LastTells, NextTells, BuffersMatch, is_of_snapshot, last_in, trace_so_far}
 use Rattle.vfs_gates.specs.TaskStates.{SeatedTask, own_number, own_view, task_state}
-use Rattle.gate_steps.specs.call_events.Runs.{Called, OpUnderWay, completed_by, items_at, ran_items, ran_snapshot}
-use Rattle.gate_steps.specs.call_events.Stepped.{Stepped}
-use Rattle.gate_steps.specs.call_events.GhostAgrees.{GhostAgrees}
-use Rattle.gate_steps.specs.call_events.Turns.{step_was}
 use Rattle.vfs_gates.proofs.Calling.{Call, Left, ended_at, goes_at, idle, own_is}
 
 -- what comes next is none

@@ -7,26 +7,20 @@ pub use Rattle.atomic_table.specs.Seated.{TableId}
 use Rattle.access_model.specs.declared.replies.{Reply.Reply}
 use Rattle.gate_world.specs.declared.operations.Op.TheVariants.{Want, DropMount}
 pub use Rattle.gate_steps.specs.Rules.{first_known}
-use Rattle.gate_steps.specs.call_events.Runs.{ran_items, told_as, unit_of}
-use Rattle.gate_steps.specs.Seating.{DealtNumbers, HaveViews, kept_of, times}
+use Rattle.gate_steps.specs.{call_events.Runs.{ran_items, told_as, unit_of}, Seating.{DealtNumbers, HaveViews, kept_of, times}}
 pub use Rattle.gate_steps.proofs.call_events.Dealing.{times-append}
 use Rattle.gate_world.specs.declared.views.{Traced.Traced, View.View}
 pub use Rattle.gate_world.specs.Configs.{IsWithin}
 pub use Rattle.gate_world.specs.declared.config.Config.{Config}
-use Rattle.vfs_gates.specs.Held.{own_actions, IsGivenBack, takes_nothing}
+use Rattle.vfs_gates.specs.{Held.{own_actions, IsGivenBack, takes_nothing}, Ended.{EndedWith}}
 use Rattle.gate_world.specs.declared.entries.Entry.{Entry}
-use Rattle.vfs_gates.specs.Ended.{EndedWith}
 pub use Rattle.vfs_gates.specs.Rounds.{GateError, Mount, Op, ChangeMount, Performs, Rests, SeatedTask, IsFrom, ComesAfter, Did, Ended, Granted, refused, round}
 use Rattle.access_model.specs.declared.actions.Gate.{Gate}
-use Rattle.vfs_gates.specs.Rounds.{granted_in}
-use Rattle.vfs_gates.specs.Parts.{SplitOf}
-use Rattle.vfs_gates.specs.TaskStates.{own_number, own_view, refusal_at, spare_of, Empty}
+use Rattle.vfs_gates.specs.{Rounds.{granted_in}, Parts.{SplitOf}, TaskStates.{own_number, own_view, refusal_at, spare_of, Empty}}
 pub use Rattle.vfs_gates.specs.TaskStates.{task_state}
-use Rattle.vfs_gates.proofs.Holding.{keeps, rests_on}
-use Rattle.vfs_gates.proofs.Reopening.{Opens, opens}
+use Rattle.vfs_gates.proofs.{Holding.{keeps, rests_on}, Reopening.{Opens, opens}}
 use Rattle.vfs_gates.proofs.Resting.{both_end, first_ends, second_ends, change_begins, split_done_nothing}
-use Rattle.vfs_gates.proofs.Returning.{may, was_done, dropped}
-use Rattle.vfs_gates.proofs.Timing.{comes_after}
+use Rattle.vfs_gates.proofs.{Returning.{may, was_done, dropped}, Timing.{comes_after}}
 
 -- a call that takes nothing leaves a task at rest
 pub rests_after : {op : Op} {old left : SeatedTask} {outcome : Result (Unit {0}) GateError} → takes_nothing op ≡ true → Rests old →

@@ -1,26 +1,14 @@
 -- A task's last snapshot is of a moment of the one history.
-use Rattle.gate_world.specs.declared.entries.Entry.{Entry}
+use Rattle.gate_world.specs.declared.{entries.Entry.{Entry}, config.Config.{Config}, operations.Op.{Op}, views.View.{View}}
+use Rattle.gate_world.specs.{declared.views.{Traced.{Traced}, Snapshot.{Snapshot}}, Configs.{model_limits}}
+use Rattle.gate_world.specs.{traces.{Snapshots.{last_snapshot}, TraceStates.{state_of_trace}}, Moments.{HasMoment}}
 use Rattle.std.proofs.Common.{◌≡◌, ℕ, ◌≤◌, arith, List, [], ◌∷◌, ◌++◌, length, refl, ap, ◌∙◌, subst}
 use Rattle.std.specs.Prelude.{Option, Some, None, Result}
-use Rattle.access_model.specs.declared.actions.Action.{Action}
-use Rattle.access_model.specs.declared.errors.GateError.{GateError}
-use Rattle.access_model.specs.declared.replies.Reply.{Reply}
+use Rattle.access_model.specs.declared.{actions.Action.{Action}, errors.GateError.{GateError}, replies.Reply.{Reply}}
 use Rattle.freeze_laws.proofs.moments.Frozen.{tells}
-use Rattle.gate_world.specs.declared.config.Config.{Config}
-use Rattle.gate_world.specs.declared.operations.Op.{Op}
-use Rattle.gate_world.specs.declared.views.View.{View}
-use Rattle.gate_world.specs.declared.views.Traced.{Traced}
-use Rattle.gated_tree.specs.declared.trees.TreeWords.{TreeWords}
-use Rattle.gate_world.specs.declared.views.Snapshot.{Snapshot}
-use Rattle.gate_world.specs.Configs.{model_limits}
-use Rattle.gate_world.specs.traces.Snapshots.{last_snapshot}
-use Rattle.gated_tree.specs.Trees.{node_at}
-use Rattle.gate_world.specs.Moments.{HasMoment}
-use Rattle.gate_world.specs.traces.TraceStates.{state_of_trace}
-use Rattle.gate_steps.specs.Seating.{DealtNumbers, HaveHistory, done_by}
-use Rattle.vfs_gates.specs.TaskStates.{SeatedTask, own_number, own_view, spare_of}
-use Rattle.vfs_gates.specs.Seen.{IsOfAMoment}
-use Rattle.gate_steps.specs.call_events.Runs.{completed_by, ran_snapshot, ran_items, Called}
+use Rattle.gated_tree.specs.{declared.trees.TreeWords.{TreeWords}, Trees.{node_at}}
+use Rattle.gate_steps.specs.{Seating.{DealtNumbers, HaveHistory, done_by}, call_events.Runs.{completed_by, ran_snapshot, ran_items, Called}}
+use Rattle.vfs_gates.specs.{TaskStates.{SeatedTask, own_number, own_view, spare_of}, Seen.{IsOfAMoment}}
 
 -- in any history of a task's numbers
 pub saw_a_moment : (c : Config) (items : DealtNumbers) (last_seen : List (List Entry)) (all : HaveHistory c items last_seen)

@@ -4,12 +4,9 @@ use mathlib.Core.Logic.{dite}
 use native.Mathlib.Decide.{ℕ_discrete, dec_lt}
 use Rattle.access_model.specs.declared.errors.GateError.{GateError, TheVariants.{Order, TooMany, NoMemory}}
 use Rattle.gate_world.specs.declared.config.Config.{Config}
-use Rattle.gate_steps.specs.Rules.{first_items}
-use Rattle.gate_steps.specs.Seating.{DealtNumbers, times, kept_of, given_of, deal, view_in, without}
-use Rattle.gate_steps.proofs.call_events.Giving.{times-without, times-without_other}
-use Rattle.gate_steps.proofs.call_events.Opening.{times-deal, times-deal_below}
-use Rattle.vfs_gates.specs.Parts.{SplitOf, SplitRefused}
-use Rattle.vfs_gates.specs.TaskStates.{SeatedTask, IsIdle, own_number, own_view, spare_of}
+use Rattle.gate_steps.specs.{Rules.{first_items}, Seating.{DealtNumbers, times, kept_of, given_of, deal, view_in, without}}
+use Rattle.gate_steps.proofs.call_events.{Giving.{times-without, times-without_other}, Opening.{times-deal, times-deal_below}}
+use Rattle.vfs_gates.specs.{Parts.{SplitOf, SplitRefused}, TaskStates.{SeatedTask, IsIdle, own_number, own_view, spare_of}}
 use Rattle.vfs_gates.specs.Splitting.{AreNumbered, Gives, HasBegun, HaveDoneNothing}
 
 -- the numbers behind the first of so many

@@ -1,36 +1,21 @@
 -- A snapshot that replied has taken one: its last load but its release is the last load of the tree.
-use Rattle.std.proofs.Common.{◌≡◌, ℕ, ◌≤◌, refl, ap, ◌∙◌, subst, inl, inr, arith, Bool}
+use Rattle.std.proofs.{Common.{◌≡◌, ℕ, ◌≤◌, refl, ap, ◌∙◌, subst, inl, inr, arith, Bool}, lemmas.Bool.{cases_Bool}}
 use Rattle.std.specs.Prelude.{Option, Some, None, Result, Ok, Err, List, [], ◌∷◌, ◌++◌, ◌==◌, true, false, is_some, length}
-use Rattle.std.proofs.lemmas.Bool.{cases_Bool}
-use Rattle.access_model.specs.declared.actions.Action.{Action}
-use Rattle.access_model.specs.declared.errors.GateError.{GateError}
-use Rattle.access_model.specs.declared.replies.Next.{Next}
-use Rattle.access_model.specs.declared.replies.Next.TheVariants.{Go, Wait, Done}
-use Rattle.access_model.specs.declared.replies.Reply.{Reply}
-use Rattle.access_model.specs.Replies.{map_next}
-use Rattle.gated_tree.specs.declared.phases.TreePhase.TheVariants.{Snapshot as Snapshots}
-use Rattle.gated_tree.specs.declared.snapshots.Snapshot.{Snapshot}
+use Rattle.access_model.specs.declared.{actions.Action.{Action}, errors.GateError.{GateError}, replies.Next.{Next}}
+use Rattle.access_model.specs.{declared.replies.{Next.TheVariants.{Go, Wait, Done}, Reply.{Reply}}, Replies.{map_next}}
+use Rattle.gated_tree.specs.declared.{phases.TreePhase.TheVariants.{Snapshot as Snapshots}, snapshots.Snapshot.{Snapshot}}
 use Rattle.gated_tree.specs.declared.snapshots.SnapshotStep.{SnapshotStep}
 use Rattle.gated_tree.specs.declared.snapshots.SnapshotStep.TheVariants.{Locks, LoadsStage, LoadsUsed, LoadsNode, LoadsKids, Releases}
-use Rattle.gated_tree.specs.declared.trees.TreeWords.{TreeWords}
-use Rattle.gated_tree.specs.Trees.{LoadedClean, LoadedSound}
-use Rattle.node_words.specs.Nodes.{node_after, unpacked}
+use Rattle.gated_tree.specs.{declared.trees.TreeWords.{TreeWords}, Trees.{LoadedClean, LoadedSound}}
 use Rattle.gated_tree.specs.Phases.{snapshot_after, snapshot_locked_out, node_step, kids_step, at_snapshot}
-use Rattle.gate_world.specs.declared.config.Config.{Config}
-use Rattle.gate_world.specs.declared.operations.Op.{Op}
-use Rattle.gate_world.specs.declared.operations.Op.TheVariants.{Snapshot as SnapshotOp}
-use Rattle.gate_world.specs.declared.work.Phase.{Phase}
-use Rattle.gate_world.specs.declared.work.Phase.TheVariants.{Trees}
-use Rattle.gate_world.specs.declared.views.Traced.{Traced}
-use Rattle.gate_world.specs.declared.views.View.{View}
-use Rattle.gate_world.specs.declared.views.Snapshot.{Snapshot as Noted}
-use Rattle.gate_world.specs.Views.{actions_after}
-use Rattle.gate_world.specs.traces.TraceStates.{state_of_trace, trace_state_after, IsNext, IsTrace}
+use Rattle.node_words.specs.Nodes.{node_after, unpacked}
+use Rattle.gate_world.specs.declared.{config.Config.{Config}, operations.Op.{Op, TheVariants.{Snapshot as SnapshotOp}}, work.Phase.{Phase}}
+use Rattle.gate_world.specs.declared.{work.Phase.TheVariants.{Trees}, views.{Traced.{Traced}, View.{View}, Snapshot.{Snapshot as Noted}}}
+use Rattle.gate_world.specs.{Views.{actions_after}, traces.TraceStates.{state_of_trace, trace_state_after, IsNext, IsTrace}}
 use Rattle.gate_world.specs.traces.Snapshots.{last_snapshot, noted_last, snapshot_completes}
 use Rattle.gate_steps.specs.Seating.{DealtNumbers, done_by}
-use Rattle.vfs_gates.specs.TaskStates.{SeatedTask, own_number, own_view, refusal_at, spare_of}
 use Rattle.gate_steps.specs.call_events.Runs.{Called, Performs, completed_by, ran_items, ran_snapshot, told_as, unit_of}
-use Rattle.vfs_gates.specs.Seen.{HasTaken}
+use Rattle.vfs_gates.specs.{TaskStates.{SeatedTask, own_number, own_view, refusal_at, spare_of}, Seen.{HasTaken}}
 use Rattle.vfs_gates.proofs.Seeing.{call_saw, same_own}
 
 module _ (c : Config) (t : ℕ) (wait : Bool) (others : List (ℕ × ℕ)) (v : View) where

@@ -3,28 +3,17 @@ use Rattle.std.proofs.Common.{◌≡◌, ℕ, suc, ◌≤◌, refl, sym, ap, ◌
 use Rattle.std.specs.Prelude.{Bool, Option, Some, None, Result, Ok, List, [], ◌∷◌, ◌++◌, length}
 use mathlib.Core.Option.{some}
 use lib.ListN.{get_elem?}
-use Rattle.access_model.specs.Histories.{Done, own_part}
-use Rattle.access_model.specs.declared.actions.Action.{Action}
-use Rattle.access_model.specs.declared.errors.GateError.{GateError}
+use Rattle.access_model.specs.{Histories.{Done, own_part}, declared.{actions.Action.{Action}, errors.GateError.{GateError}}}
 use Rattle.access_model.specs.declared.replies.Reply.{Reply}
 use Rattle.gated_tree.specs.declared.trees.TreeWords.{TreeWords}
-use Rattle.gate_world.specs.traces.TraceStates.{state_of_trace}
-use Rattle.gate_world.specs.Headline.{actions_so_far, actions_since}
-use Rattle.gate_world.specs.traces.Snapshots.{last_snapshot}
-use Rattle.gate_world.specs.declared.config.Config.{Config}
-use Rattle.gate_world.specs.declared.operations.Op.{Op}
-use Rattle.gate_world.specs.declared.operations.Op.TheVariants.{Snapshot as SnapshotOp}
-use Rattle.gate_world.specs.declared.views.Snapshot.{Snapshot as Noted}
-use Rattle.gate_world.specs.declared.views.Traced.{Traced}
-use Rattle.gate_world.specs.declared.views.View.{View}
-use Rattle.gate_steps.specs.Seating.{DealtNumbers, done_by}
-use Rattle.gate_steps.specs.declared.seating.Numbered.{Numbered}
-use Rattle.gate_steps.specs.call_events.Grown.{StaySeen}
+use Rattle.gate_world.specs.{traces.{TraceStates.{state_of_trace}, Snapshots.{last_snapshot}}, Headline.{actions_so_far, actions_since}}
+use Rattle.gate_world.specs.declared.{config.Config.{Config}, operations.Op.{Op, TheVariants.{Snapshot as SnapshotOp}}}
+use Rattle.gate_world.specs.declared.views.{Snapshot.{Snapshot as Noted}, Traced.{Traced}, View.{View}}
+use Rattle.gate_steps.specs.{Seating.{DealtNumbers, done_by}, declared.seating.Numbered.{Numbered}, call_events.Grown.{StaySeen}}
 use Rattle.gate_steps.specs.call_events.Runs.{completed_by, ran_items, ran_snapshot, AreMoves, Called}
 use Rattle.gate_steps.specs.call_events.Spans.{AreInOrder, IsTreeDuring, TakesEffect}
 use Rattle.gate_steps.proofs.call_events.{Caused.tree_during, Effects.{call_effect, in_order}}
-use Rattle.vfs_gates.specs.Handed.{ComesAfter}
-use Rattle.vfs_gates.specs.TaskStates.{SeatedTask, own_number, own_view, spare_of}
+use Rattle.vfs_gates.specs.{Handed.{ComesAfter}, TaskStates.{SeatedTask, own_number, own_view, spare_of}}
 use Rattle.vfs_gates.proofs.{Seeing.same_own, Taking.replied_one}
 
 -- calls of one configuration, of which the later one has seen what the earlier one left

@@ -1,9 +1,8 @@
 -- Operations begun and done as far as they go at once.
 use Rattle.std.specs.Prelude.{◌≡◌, Some, None, Result, Ok, Err}
 use Rattle.access_model.specs.declared.errors.GateError.{GateError}
-use Rattle.gate_steps.specs.call_events.Progress.{Progress}
+use Rattle.gate_steps.specs.call_events.{Progress.{Progress}, Runs.{ProgressMatches}}
 use Rattle.gate_world.specs.declared.operations.Op.{Op}
-use Rattle.gate_steps.specs.call_events.Runs.{ProgressMatches}
 use Rattle.vfs_gates.specs.TaskStates.{SeatedTask, refusal_at}
 
 -- An operation whose beginning is refused changes nothing. Any other has done its first step at least, and goes on, or was done whole.

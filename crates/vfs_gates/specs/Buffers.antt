@@ -1,24 +1,14 @@
 -- Room for the snapshots of a task, and what it tells of them.
 use Rattle.std.specs.Prelude.{◌≡◌, ℕ, Bool, true, false, if◌then◌else◌, Option, Some, None, List, [], length, take}
 use Rattle.cpu_words.specs.declared.events.Event.{Event}
-use Rattle.gated_tree.specs.declared.phases.TreePhase.{TreePhase}
-use Rattle.gated_tree.specs.declared.phases.TreePhase.TheVariants.{Snapshot as Snapshots}
-use Rattle.gated_tree.specs.declared.snapshots.SnapshotStep.{SnapshotStep}
-use Rattle.gated_tree.specs.declared.snapshots.SnapshotStep.TheVariants.{LoadsKids, LoadsNode}
-use Rattle.gated_tree.specs.declared.trees.TreeWords.{TreeWords}
-use Rattle.gated_tree.specs.Trees.{words_of, loaded, loads_last}
+use Rattle.gated_tree.specs.declared.phases.TreePhase.{TreePhase, TheVariants.{Snapshot as Snapshots}}
+use Rattle.gated_tree.specs.declared.snapshots.SnapshotStep.{SnapshotStep, TheVariants.{LoadsKids, LoadsNode}}
+use Rattle.gated_tree.specs.{declared.trees.TreeWords.{TreeWords}, Trees.{words_of, loaded, loads_last}}
 use Rattle.gated_tree.specs.declared.snapshots.Snapshot.{Snapshot as Taking}
-use Rattle.gate_world.specs.declared.operations.Op.{Op}
-use Rattle.gate_world.specs.declared.work.Phase.{Phase}
-use Rattle.gate_world.specs.declared.work.Phase.TheVariants.{Trees}
-use Rattle.gate_world.specs.declared.views.View.{View}
-use Rattle.gate_world.specs.declared.views.Traced.{Traced}
-use Rattle.gate_world.specs.declared.views.Snapshot.{Snapshot}
-use Rattle.gate_world.specs.traces.Found.{is_load}
-use Rattle.gate_world.specs.traces.Snapshots.{loads_noted}
+use Rattle.gate_world.specs.declared.{operations.Op.{Op}, work.Phase.{Phase, TheVariants.{Trees}}, views.{View.{View}, Traced.{Traced}}}
+use Rattle.gate_world.specs.{declared.views.Snapshot.{Snapshot}, traces.{Found.{is_load}, Snapshots.{loads_noted}}}
 use Rattle.gate_steps.specs.Seating.{DealtNumbers}
-use Rattle.vfs_gates.specs.declared.buffers.SnapshotBuffers.{SnapshotBuffers}
-use Rattle.vfs_gates.specs.TaskStates.{own_view}
+use Rattle.vfs_gates.specs.{declared.buffers.SnapshotBuffers.{SnapshotBuffers}, TaskStates.{own_view}}
 
 -- What a task's buffers have: whether there is a last snapshot, its words, and those of the snapshot that is being taken.
 pub record BufferWords : Type 0 where

@@ -1,20 +1,13 @@
 -- What is known of the words once no thread shares them.
 use Rattle.std.specs.Prelude.{◌≡◌, ℕ, ◌*◌, ◌<◌, ◌≤◌, None, List, slice_index}
-use Rattle.cpu_words.specs.Names.{place, stride}
-use Rattle.cpu_words.specs.declared.names.WordName.TheVariants.{Used, Node, Kids}
+use Rattle.cpu_words.specs.{Names.{place, stride}, declared.names.WordName.TheVariants.{Used, Node, Kids}, Words.{opening_words}}
 use Rattle.node_words.specs.Nodes.{node_shown}
 use Rattle.gated_tree.specs.Trees.{IsSound}
-use Rattle.cpu_words.specs.Words.{opening_words}
-use Rattle.gate_world.specs.declared.config.Config.{Config}
-use Rattle.gate_world.specs.Configs.{IsWithin}
-use Rattle.gate_world.specs.Headline.{world_after}
-use Rattle.gate_world.specs.Worlds.{World}
+use Rattle.gate_world.specs.{declared.config.Config.{Config}, Configs.{IsWithin}, Headline.{world_after}, Worlds.{World}}
 use Rattle.gate_world.specs.declared.entries.Entry.{Entry}
-use Rattle.gate_steps.specs.Histories.{HasHistory}
-use Rattle.gate_steps.specs.Seating.{DealtNumbers, HaveViews, HaveSeen, times}
-use Rattle.gate_steps.specs.Rules.{TableShows, Ruled}
-use Rattle.vfs_gates.specs.TaskStates.{SeatedTask, IsIdle, HoldsNothing}
+use Rattle.gate_steps.specs.{Histories.{HasHistory}, Seating.{DealtNumbers, HaveViews, HaveSeen, times}, Rules.{TableShows, Ruled}}
 use Rattle.gate_steps.specs.call_events.GhostAgrees.{IsStill}
+use Rattle.vfs_gates.specs.TaskStates.{SeatedTask, IsIdle, HoldsNothing}
 
 -- the task rests, and each number is its own or its to give
 abbrev pub HasAll : SeatedTask → Type 0

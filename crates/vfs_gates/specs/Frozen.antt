@@ -1,12 +1,8 @@
 -- Who holds a freeze by a task's own list, and which lists leave none.
 use Rattle.std.specs.Prelude.{◌≡◌, true, false, List, [], ◌∷◌}
-use Rattle.access_model.specs.Holders.{nobody, with_holder}
-use Rattle.access_model.specs.declared.actions.Action.{Action}
-use Rattle.access_model.specs.declared.actions.Action.TheVariants.{Hold, Leave}
-use Rattle.access_model.specs.declared.actions.Holder.{Holder}
-use Rattle.access_model.specs.declared.actions.Holders.{Holders}
-use Rattle.gate_world.specs.declared.operations.Op.{Op}
-use Rattle.gate_world.specs.declared.operations.Op.TheVariants.{Snapshot, Thaw}
+use Rattle.access_model.specs.{Holders.{nobody, with_holder}, declared.actions.Action.{Action, TheVariants.{Hold, Leave}}}
+use Rattle.access_model.specs.declared.actions.{Holder.{Holder}, Holders.{Holders}}
+use Rattle.gate_world.specs.declared.operations.Op.{Op, TheVariants.{Snapshot, Thaw}}
 
 -- who holds a freeze if nobody took or left one but by these actions, the newest first
 abbrev pub holders_of : List Action → Holders

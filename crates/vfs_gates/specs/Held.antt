@@ -1,11 +1,7 @@
 -- What a task holds between two calls, and what whole calls leave of it.
 use Rattle.std.specs.Prelude.{◌≡◌, Bool, true, false, Result, Ok, List, ◌∷◌}
-use Rattle.access_model.specs.declared.actions.Action.{Action}
-use Rattle.access_model.specs.declared.actions.Action.TheVariants.{Grant, Return}
-use Rattle.access_model.specs.declared.actions.Gate.{Gate}
-use Rattle.access_model.specs.declared.errors.GateError.{GateError}
-use Rattle.gate_world.specs.declared.operations.Op.{Op}
-use Rattle.gate_world.specs.declared.operations.Op.TheVariants.{Want, DropMount, Start, End, WantWrite, DropWrite, Open, Close}
+use Rattle.access_model.specs.declared.{actions.{Action.{Action, TheVariants.{Grant, Return}}, Gate.{Gate}}, errors.GateError.{GateError}}
+use Rattle.gate_world.specs.declared.operations.Op.{Op, TheVariants.{Want, DropMount, Start, End, WantWrite, DropWrite, Open, Close}}
 use Rattle.gate_world.specs.Views.{held_of}
 use Rattle.vfs_gates.specs.TaskStates.{SeatedTask, own_number, own_view, IsIdle, HoldsNothing}
 

@@ -1,22 +1,12 @@
 -- Operations that are done in a line.
 use Rattle.std.specs.Prelude.{◌≡◌, ℕ, Bool, true, false, Result, Ok}
-use Rattle.access_model.specs.Replies.{map_next}
-use Rattle.access_model.specs.declared.errors.GateError.{GateError}
-use Rattle.access_model.specs.declared.replies.Next.{Next}
-use Rattle.access_model.specs.declared.replies.Next.TheVariants.{Done}
-use Rattle.access_model.specs.declared.replies.Reply.{Reply}
-use Rattle.access_model.specs.declared.replies.Reply.TheVariants.{Unit as UnitReply}
-use Rattle.composite_ops.specs.declared.write_access.phases.WritePhase.{WritePhase}
-use Rattle.composite_ops.specs.declared.write_access.phases.WritePhase.TheVariants.{Takes}
-use Rattle.gate_steps.specs.call_events.Runs.{told_as, unit_of, Called}
-use Rattle.gate_steps.specs.call_events.SeatedTasks.{SeatedTask}
-use Rattle.gate_world.specs.declared.operations.Op.{Op}
-use Rattle.gate_world.specs.declared.work.Phase.{Phase}
-use Rattle.gate_world.specs.declared.work.Phase.TheVariants.{DownReads, Mounts}
-use Rattle.mount_counts.specs.declared.phases.MountPhase.TheVariants.{Want as Wants}
-use Rattle.mount_counts.specs.declared.phases.Want.{Want}
-use Rattle.percpu_rwsem.specs.declared.readers.DownRead.{DownRead}
-use Rattle.percpu_rwsem.specs.declared.readers.DownReadStep.{DownReadStep}
+use Rattle.access_model.specs.{Replies.{map_next}, declared.{errors.GateError.{GateError}, replies.Next.{Next, TheVariants.{Done}}}}
+use Rattle.access_model.specs.declared.replies.Reply.{Reply, TheVariants.{Unit as UnitReply}}
+use Rattle.composite_ops.specs.declared.write_access.phases.WritePhase.{WritePhase, TheVariants.{Takes}}
+use Rattle.gate_steps.specs.call_events.{Runs.{told_as, unit_of, Called}, SeatedTasks.{SeatedTask}}
+use Rattle.gate_world.specs.declared.{operations.Op.{Op}, work.Phase.{Phase, TheVariants.{DownReads, Mounts}}}
+use Rattle.mount_counts.specs.declared.phases.{MountPhase.TheVariants.{Want as Wants}, Want.{Want}}
+use Rattle.percpu_rwsem.specs.declared.readers.{DownRead.{DownRead}, DownReadStep.{DownReadStep}}
 
 -- what comes next of a want of an access at a mount, as phases
 abbrev pub of_want : Next Want → Next Phase

@@ -1,24 +1,14 @@
 -- Lines of steps of a snapshot, whose loads its task notes in its buffers, and where they have led.
 use Rattle.std.specs.Prelude.{ℕ, Bool, true, false, List, Option, Some, None, Ok}
 use Rattle.atomic_table.specs.Seated.{TableId}
-use Rattle.access_model.specs.Replies.{map_next}
-use Rattle.access_model.specs.declared.replies.Next.{Next}
-use Rattle.access_model.specs.declared.replies.Next.TheVariants.{Done}
+use Rattle.access_model.specs.{Replies.{map_next}, declared.replies.Next.{Next, TheVariants.{Done}}}
 use Rattle.access_model.specs.declared.replies.Reply.TheVariants.{Tree as TreeReply}
-use Rattle.gated_tree.specs.declared.phases.TreePhase.{TreePhase}
-use Rattle.gated_tree.specs.declared.phases.TreePhase.TheVariants.{Snapshot as Snapshots}
-use Rattle.gated_tree.specs.declared.snapshots.Snapshot.{Snapshot}
-use Rattle.gated_tree.specs.declared.snapshots.SnapshotStep.{SnapshotStep}
-use Rattle.gated_tree.specs.declared.snapshots.SnapshotStep.TheVariants.{LoadsNode, LoadsKids, Releases}
+use Rattle.gated_tree.specs.declared.{phases.TreePhase.{TreePhase, TheVariants.{Snapshot as Snapshots}}, snapshots.Snapshot.{Snapshot}}
+use Rattle.gated_tree.specs.declared.snapshots.SnapshotStep.{SnapshotStep, TheVariants.{LoadsNode, LoadsKids, Releases}}
 use Rattle.gated_tree.specs.declared.trees.TreeWords.{TreeWords}
-use Rattle.gate_world.specs.declared.accesses.Accesses.{Accesses}
-use Rattle.gate_world.specs.declared.config.Config.{Config}
-use Rattle.gate_world.specs.declared.operations.Op.{Op}
-use Rattle.gate_world.specs.declared.work.Phase.{Phase}
-use Rattle.gate_world.specs.declared.work.Phase.TheVariants.{Trees}
-use Rattle.gate_world.specs.Views.{phase_after}
-use Rattle.gate_steps.specs.declared.seating.Knowledge.{Knowledge}
-use Rattle.gate_steps.specs.call_events.KnownSteps.{KnownSteps}
+use Rattle.gate_world.specs.declared.{accesses.Accesses.{Accesses}, config.Config.{Config}, operations.Op.{Op}, work.Phase.{Phase}}
+use Rattle.gate_world.specs.{declared.work.Phase.TheVariants.{Trees}, Views.{phase_after}}
+use Rattle.gate_steps.specs.{declared.seating.Knowledge.{Knowledge}, call_events.KnownSteps.{KnownSteps}}
 use Rattle.vfs_gates.specs.Buffers.{BufferWords, BuffersMatch, completed, with_words}
 
 -- what comes next of a call at the tree, as phases

@@ -1,7 +1,6 @@
 -- Numbers that go from task to task.
 use Rattle.std.specs.Prelude.{◌≡◌, ℕ, ◌<◌, ◌≤◌}
-use Rattle.access_model.specs.declared.errors.GateError.{GateError}
-use Rattle.access_model.specs.declared.errors.GateError.TheVariants.{Order, TooMany, NoMemory}
+use Rattle.access_model.specs.declared.errors.GateError.{GateError, TheVariants.{Order, TooMany, NoMemory}}
 use Rattle.gate_steps.specs.Seating.{times, kept_of, given_of}
 use Rattle.vfs_gates.specs.TaskStates.{SeatedTask, IsIdle, spare_of}
 

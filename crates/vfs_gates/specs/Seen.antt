@@ -1,11 +1,8 @@
 -- What a task's last snapshot is of.
-use Rattle.gate_world.specs.declared.entries.Entry.{Entry}
+use Rattle.gate_world.specs.{declared.{entries.Entry.{Entry}, config.Config.{Config}, views.Snapshot.{Snapshot}}, Configs.{model_limits}}
+use Rattle.gate_world.specs.Moments.{IsOfMoment}
 use Rattle.std.specs.Prelude.{◌≡◌, ℕ, Some, List, length, ◌∷◌}
 use Rattle.freeze_laws.specs.moments.Moments.{MomentTells}
-use Rattle.gate_world.specs.declared.config.Config.{Config}
-use Rattle.gate_world.specs.declared.views.Snapshot.{Snapshot}
-use Rattle.gate_world.specs.Configs.{model_limits}
-use Rattle.gate_world.specs.Moments.{IsOfMoment}
 use Rattle.gated_tree.specs.Trees.{node_at}
 use Rattle.gate_steps.specs.Seating.{DealtNumbers, HaveHistory, done_by}
 use Rattle.vfs_gates.specs.TaskStates.{own_number, own_view, spare_of}

@@ -1,9 +1,7 @@
 -- The words of a gate.
 use Rattle.std.specs.Prelude.{ℕ, ◌<◌, ◌≤◌}
-use Rattle.access_model.specs.declared.actions.Gate.{Gate}
-use Rattle.access_model.specs.declared.actions.Gate.TheVariants.{Mount, Level}
-use Rattle.cpu_words.specs.declared.names.WordName.{WordName}
-use Rattle.cpu_words.specs.declared.names.WordName.TheVariants.{MountCount, LevelCount}
+use Rattle.access_model.specs.declared.actions.Gate.{Gate, TheVariants.{Mount, Level}}
+use Rattle.cpu_words.specs.declared.names.WordName.{WordName, TheVariants.{MountCount, LevelCount}}
 use Rattle.gate_world.specs.declared.config.Config.{Config}
 
 -- the word that counts a gate's writers on a processor

@@ -1,10 +1,7 @@
 -- What a task keeps of its waits.
 use Rattle.std.specs.Prelude.{◌≡◌, ℕ, Option, Some, None}
-use Rattle.gate_world.specs.traces.TraceStates.{state_of_trace}
-use Rattle.gate_world.specs.Views.{phase_after}
-use Rattle.gate_world.specs.declared.config.Config.{Config}
-use Rattle.gate_world.specs.declared.operations.Op.{Op}
-use Rattle.gate_world.specs.declared.views.View.{View}
+use Rattle.gate_world.specs.{traces.TraceStates.{state_of_trace}, Views.{phase_after}, declared.config.Config.{Config}}
+use Rattle.gate_world.specs.declared.{operations.Op.{Op}, views.View.{View}}
 pub use Rattle.gate_steps.specs.call_events.Waited.{counted, is_wait, waited_at, waits_of}
 
 -- a view stands where the events of its operation have led; one with no operation is idle

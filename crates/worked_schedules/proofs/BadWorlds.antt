@@ -2,8 +2,7 @@
 use Rattle.std.{proofs.Common.{ℕ, zero, suc, ◌+◌, ◌≤◌, true, refl, arith, sym, true≢false}, specs.Prelude.{Some, Ok, [], ◌∷◌}}
 use Rattle.finite_sums.specs.Sums.{total}
 use Rattle.access_model.specs.declared.{actions.Holder.Holder, errors.GateError.GateError, replies.Reply.Reply}
-use Rattle.cpu_words.specs.Sums.{lead}
-use Rattle.cpu_words.specs.gate_counts.{Gates.{admitted, unread}, Levels.level_as_gate}
+use Rattle.cpu_words.specs.{Sums.{lead}, gate_counts.{Gates.{admitted, unread}, Levels.{level_as_gate}}}
 use Rattle.gated_tree.specs.declared.{phases.TreePhase.TreePhase, snapshots.SnapshotStep.SnapshotStep}
 use Rattle.mount_counts.specs.declared.phases.{Change.Change, MountPhase.MountPhase}
 use Rattle.percpu_rwsem.specs.declared.{readers.DownReadStep.DownReadStep, writers.DownWriteStep.DownWriteStep}

@@ -2,21 +2,17 @@
 use Rattle.std.{proofs.Common.{◌≡◌, ◌+◌, ◌*◌, ◌<◌, ℕ, zero, suc, true, false, List, [], ◌∷◌, ◌++◌, refl, sym, ap, ◌∙◌, arith}, specs.Prelude.{Ok, Err, Option, Some, None, slice_index}}
 use Rattle.std.proofs.lemmas.List.{append_assoc}
 use Rattle.access_model.specs.declared.{actions.Holder.Holder, errors.GateError.GateError}
-use Rattle.gated_tree.specs.declared.trees.TreeWords.{TreeWords}
+use Rattle.gated_tree.specs.{declared.trees.TreeWords.{TreeWords}, Trees.{node_at}}
 use Rattle.gate_world.specs.refusals.Causes.{trail_of, since_begun, last_question, WantRefused}
-use Rattle.cpu_words.specs.Touches.{event_of}
-use Rattle.gated_tree.specs.Trees.{node_at}
-use Rattle.mount_counts.specs.declared.phases.MountPhase.{MountPhase}
-use Rattle.node_words.specs.Nodes.{node_shown}
 use Rattle.gate_world.specs.{Configs.IsWithin, Moments.IsPresentTree, Views.with_hook, Work.next_of, Worlds.{run, opening, found_at, task_of}}
 use Rattle.gate_world.specs.declared.{operations.Op.Op, views.Traced.Traced, work.Phase.Phase}
 use Rattle.gate_world.specs.declared.entries.Entry.{Entry, TheVariants.{Begins}}
-use Rattle.gate_schedules.specs.Answers.{step_answer}
-use Rattle.gate_schedules.specs.declared.steps.Progress.{Progress}
-use Rattle.gate_steps.specs.Seating.{DealtNumbers, IsPrefix}
-use Rattle.gate_steps.specs.call_events.Caused.{IsCausedBy}
-use Rattle.gate_steps.specs.call_events.Spans.{IsEventDuring, IsCausedDuring, IsTreeDuring}
-use Rattle.gate_steps.specs.call_events.SeatedTasks.{own_number}
+use Rattle.cpu_words.specs.Touches.{event_of}
+use Rattle.mount_counts.specs.declared.phases.MountPhase.{MountPhase}
+use Rattle.node_words.specs.Nodes.{node_shown}
+use Rattle.gate_schedules.specs.{Answers.{step_answer}, declared.steps.Progress.{Progress}}
+use Rattle.gate_steps.specs.{Seating.{DealtNumbers, IsPrefix}, call_events.Caused.{IsCausedBy}}
+use Rattle.gate_steps.specs.call_events.{Spans.{IsEventDuring, IsCausedDuring, IsTreeDuring}, SeatedTasks.{own_number}}
 use Rattle.worked_schedules.specs.Schedules.{small, steps}
 use Rattle.worked_schedules.proofs.TreeRows.{freezes as frozen, snapshots}
 

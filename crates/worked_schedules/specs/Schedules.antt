@@ -1,7 +1,6 @@
 -- Schedules that were written out by hand, on two processors and one mount.
 use Rattle.std.specs.Prelude.{ℕ, true, Ok, List, ◌∷◌, ◌++◌, replicate}
-use Rattle.gate_world.specs.declared.config.Config.{Config}
-use Rattle.gate_world.specs.declared.operations.Op.TheVariants.{Want, DropMount}
+use Rattle.gate_world.specs.declared.{config.Config.{Config}, operations.Op.TheVariants.{Want, DropMount}}
 use Rattle.gate_world.specs.declared.entries.Entry.{Entry, TheVariants.{Begins, Steps}}
 
 -- three tasks, two processors, one mount

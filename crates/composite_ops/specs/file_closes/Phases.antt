@@ -1,25 +1,14 @@
 -- The order of events of a close: which word an event touches and how, and what comes after it.
 use Rattle.std.specs.Prelude.{ℕ, ◌==◌, ◌&&◌, if◌then◌else◌, Option, Some, None, Ok, Err}
-use Rattle.access_model.specs.declared.actions.Action.{Action}
-use Rattle.access_model.specs.declared.actions.Action.TheVariants.{Return, Close as CloseAction}
-use Rattle.access_model.specs.declared.actions.Gate.TheVariants.{Level}
-use Rattle.access_model.specs.declared.errors.GateError.TheVariants.{Again}
-use Rattle.access_model.specs.declared.replies.Next.{Next}
-use Rattle.access_model.specs.declared.replies.Next.TheVariants.{Go, Wait, Done}
+use Rattle.access_model.specs.declared.actions.{Action.{Action, TheVariants.{Return, Close as CloseAction}}, Gate.TheVariants.{Level}}
+use Rattle.access_model.specs.declared.{errors.GateError.TheVariants.{Again}, replies.Next.{Next, TheVariants.{Go, Wait, Done}}}
 use Rattle.access_model.specs.declared.replies.Reply.TheVariants.{Unit as UnitReply}
-use Rattle.cpu_words.specs.declared.names.WordName.{WordName}
-use Rattle.cpu_words.specs.declared.names.WordName.TheVariants.{Removed, Used, Node}
-use Rattle.cpu_words.specs.declared.events.Touch.{Touch}
+use Rattle.cpu_words.specs.declared.{names.WordName.{WordName, TheVariants.{Removed, Used, Node}}, events.Touch.{Touch}}
 use Rattle.cpu_words.specs.declared.events.Touch.TheVariants.{Load, Sub, Cas}
-use Rattle.node_words.specs.declared.nodes.NodeWord.{NodeWord}
-use Rattle.node_words.specs.Nodes.{word_of, closed_node, any_file_in}
-use Rattle.node_words.specs.Phases.{after_look}
-use Rattle.percpu_rwsem.specs.declared.readers.DownRead.{DownRead}
-use Rattle.percpu_rwsem.specs.declared.readers.DownReadStep.TheVariants.{EntersSection}
-use Rattle.percpu_rwsem.specs.declared.readers.UpRead.{UpRead}
+use Rattle.node_words.specs.{declared.nodes.NodeWord.{NodeWord}, Nodes.{word_of, closed_node, any_file_in}, Phases.{after_look}}
+use Rattle.percpu_rwsem.specs.declared.readers.{DownRead.{DownRead}, DownReadStep.TheVariants.{EntersSection}, UpRead.{UpRead}}
 use Rattle.percpu_rwsem.specs.Readers.{down_read_next, down_read_after, up_read_next}
-use Rattle.composite_ops.specs.declared.file_closes.phases.Closing.{Closing}
-use Rattle.composite_ops.specs.declared.file_closes.phases.ClosePhase.{ClosePhase}
+use Rattle.composite_ops.specs.declared.file_closes.phases.{Closing.{Closing}, ClosePhase.{ClosePhase}}
 use Rattle.composite_ops.specs.declared.file_closes.phases.ClosePhase.TheVariants.{LoadsFile, LowersCount, Enters, FreesNode, RefundsBlocks, Uncounts, Leaves}
 
 -- the up-read of level 3 on a processor

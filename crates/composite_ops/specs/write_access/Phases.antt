@@ -1,23 +1,12 @@
 -- The order of events of a taking and of a return of write access: level 1 and a mount, each by the phases of its own gate.
 use Rattle.std.specs.Prelude.{ℕ, true, Option, Some, Ok, Err}
-use Rattle.access_model.specs.declared.actions.Action.{Action}
-use Rattle.access_model.specs.declared.actions.Action.TheVariants.{Return}
-use Rattle.access_model.specs.declared.actions.Gate.TheVariants.{Mount, Level}
-use Rattle.access_model.specs.declared.replies.Next.{Next}
-use Rattle.access_model.specs.declared.replies.Next.TheVariants.{Go, Wait, Done}
-use Rattle.access_model.specs.declared.replies.Reply.TheVariants.{Unit as UnitReply}
-use Rattle.cpu_words.specs.declared.names.WordName.{WordName}
-use Rattle.cpu_words.specs.declared.names.WordName.TheVariants.{MountCount}
-use Rattle.cpu_words.specs.declared.events.Touch.{Touch}
-use Rattle.cpu_words.specs.declared.events.Touch.TheVariants.{Sub}
-use Rattle.mount_counts.specs.declared.phases.Want.{Want}
-use Rattle.mount_counts.specs.declared.phases.WantStep.TheVariants.{CountsUp}
-use Rattle.mount_counts.specs.Phases.{want_next, want_after}
-use Rattle.percpu_rwsem.specs.declared.readers.DownRead.{DownRead}
-use Rattle.percpu_rwsem.specs.declared.readers.UpRead.{UpRead}
+use Rattle.access_model.specs.declared.actions.{Action.{Action, TheVariants.{Return}}, Gate.TheVariants.{Mount, Level}}
+use Rattle.access_model.specs.declared.replies.{Next.{Next, TheVariants.{Go, Wait, Done}}, Reply.TheVariants.{Unit as UnitReply}}
+use Rattle.cpu_words.specs.declared.{names.WordName.{WordName, TheVariants.{MountCount}}, events.Touch.{Touch, TheVariants.{Sub}}}
+use Rattle.mount_counts.specs.{declared.phases.{Want.{Want}, WantStep.TheVariants.{CountsUp}}, Phases.{want_next, want_after}}
+use Rattle.percpu_rwsem.specs.declared.readers.{DownRead.{DownRead}, UpRead.{UpRead}}
 use Rattle.percpu_rwsem.specs.Readers.{down_read_next, down_read_after, up_read_next}
-use Rattle.composite_ops.specs.declared.write_access.phases.WritePhase.{WritePhase}
-use Rattle.composite_ops.specs.declared.write_access.phases.WritePhase.TheVariants.{Takes, Wants, GivesBack, Drops, Ends}
+use Rattle.composite_ops.specs.declared.write_access.phases.WritePhase.{WritePhase, TheVariants.{Takes, Wants, GivesBack, Drops, Ends}}
 
 -- the up-read of level 1 on a processor
 abbrev pub leaves_on : ℕ → UpRead

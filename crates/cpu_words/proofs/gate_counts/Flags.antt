@@ -2,8 +2,8 @@
 use Rattle.std.proofs.Common.{◌≡◌, ℕ, suc, ◌+◌, ◌*◌, ◌%◌, ◌<◌, ◌≤◌, ap, subst, arith}
 use Rattle.finite_sums.{proofs.Totals.{total_le, total_bound, total_add, total_at, total_none, total_zero}, specs.Sums.{update, total}}
 use Rattle.cpu_words.specs.{Sums.ahead, Touches.wrap_add}
-use Rattle.cpu_words.proofs.gate_counts.{Events.{words_sum, flag_event}, Numbers.{below_le, below_step, below_first, ahead_none, ahead_past, ahead_step}}
 use Rattle.cpu_words.specs.gate_counts.Gates.{Barring, Apart, Reading, ReadZero, bars, GateView, past, admitted, unread, counted, BarringHolds, GateHolds}
+use Rattle.cpu_words.proofs.gate_counts.{Events.{words_sum, flag_event}, Numbers.{below_le, below_step, below_first, ahead_none, ahead_past, ahead_step}}
 
 module _ {tasks processors bit unowned : ℕ} {shut : ℕ → Type 0} {count : ℕ → ℕ} {at : ℕ → GateView}
     (good : GateHolds tasks processors bit unowned shut count at) where

@@ -1,12 +1,11 @@
 -- Each event at a freeze level keeps what holds of its counts.
 use Rattle.std.proofs.{Common.{◌≡◌, ℕ, zero, suc, ◌+◌, ◌<◌, ◌≤◌, refl, sym, ap, ◌∙◌, subst, inl, inr, arith}, lemmas.Bool.Decides.eqb_tells}
 use Rattle.finite_sums.{proofs.Totals.{total_at, update_map}, specs.Sums.{update, total}}
-use Rattle.cpu_words.specs.Touches.{wrap_add, wrap_sub}
-use Rattle.cpu_words.proofs.gate_counts.Flags.{none_held, none_admitted, bars_gate, reads_on, reads_zero, begins_anew, opens_gate, leaves_it_set, takes_it_over}
-use Rattle.cpu_words.proofs.gate_counts.Readers.{is_granted as gate_grants, is_refused as gate_refuses, adds, adds_granted, backs_off, returns}
-use Rattle.cpu_words.specs.gate_counts.Gates.{Apart, bars, below, GateHolds}
+use Rattle.cpu_words.specs.{Touches.{wrap_add, wrap_sub}, gate_counts.Gates.{Apart, bars, below, GateHolds}}
 use Rattle.cpu_words.specs.gate_counts.Levels.{LevelRole, Out, Seeking, BackingOff, Summing, Passed, LevelView, processor_of, barring_of, sums_up, level_as_gate}
 use Rattle.cpu_words.specs.gate_counts.Levels.{LevelHolds}
+use Rattle.cpu_words.proofs.gate_counts.Flags.{none_held, none_admitted, bars_gate, reads_on, reads_zero, begins_anew, opens_gate, leaves_it_set, takes_it_over}
+use Rattle.cpu_words.proofs.gate_counts.Readers.{is_granted as gate_grants, is_refused as gate_refuses, adds, adds_granted, backs_off, returns}
 
 has_passed : (r : LevelRole) → 0 < bars (barring_of r) → sums_up r ≡ 0 → r ≡ Passed
 has_passed (Summing k sum) h z = absurd (omega arith)

@@ -2,8 +2,8 @@
 use Rattle.std.{proofs.Common.{◌≡◌, ℕ, suc, ◌+◌, ◌*◌, ◌%◌, ◌<◌, ◌≤◌, refl, ap, subst, inl, inr, arith}, specs.Prelude.◌⊎◌}
 use Rattle.finite_sums.{proofs.Totals.{update_at, update_off, each_updated, total_updated, total_bound}, specs.Sums.{update, total}}
 use Rattle.cpu_words.specs.Touches.{wrap_add, wrap_sub}
-use Rattle.cpu_words.proofs.gate_counts.{Events.{counts_follow, reader_event}, Numbers.{below_tells, below_le, below_first, one_more, lead_up, lead_down}}
 use Rattle.cpu_words.specs.gate_counts.Gates.{Barring, below, GateView, past, admitted, unread, counted, CountsHold, GateHolds}
+use Rattle.cpu_words.proofs.gate_counts.{Events.{counts_follow, reader_event}, Numbers.{below_tells, below_le, below_first, one_more, lead_up, lead_down}}
 
 module _ {tasks processors bit unowned : ℕ} {shut : ℕ → Type 0} {count : ℕ → ℕ} {at : ℕ → GateView}
     (good : GateHolds tasks processors bit unowned shut count at) (t : ℕ) (lt : t < tasks) where

@@ -4,8 +4,7 @@ use Rattle.percpu_rwsem.specs.{SyncWords.is_queued, declared.sync_word.GpState.G
 use Rattle.freeze_laws.proofs.levels.TransitionLaws.{entered_not_idle, calls_idle}
 use Rattle.freeze_laws.specs.levels.Changes.{state_found_in, state_found}
 use Rattle.freeze_laws.specs.levels.Events.{SyncLevel, SyncLevelHolds, SyncEvent, FindsIdle, Enters, Looks, Passes, Exits, Claims, LooksClaimed, Calls, Thaws, Stays}
-use Rattle.freeze_laws.specs.levels.Events.{Happens}
-use Rattle.freeze_laws.specs.levels.{Laws.OnlyCallbacksIdle, Roles.Ready}
+use Rattle.freeze_laws.specs.levels.{Events.{Happens}, Laws.{OnlyCallbacksIdle}, Roles.{Ready}}
 use Rattle.freeze_laws.proofs.levels.EventLaws
 use Rattle.freeze_laws.proofs.levels.NumberLaws
 

@@ -1,6 +1,5 @@
 -- each event of an operation at a level is one of the level
-use Rattle.std.proofs.{Common.{◌≡◌, ℕ, true, ◌+◌, ◌<◌, refl, sym, ap, ◌∙◌}, lemmas.Bool.eq-eqb}
-use Rattle.std.proofs.Common.{arith}
+use Rattle.std.proofs.{Common.{◌≡◌, ℕ, true, ◌+◌, ◌<◌, refl, sym, ap, ◌∙◌, arith}, lemmas.Bool.{eq-eqb}}
 use Rattle.std.specs.Prelude.{Option, Some, ◌==◌}
 use Rattle.finite_sums.{proofs.Totals.update_same, specs.Sums.{update, total}}
 use Rattle.cpu_words.specs.{Sums.sum_taking, Touches.left, declared.sums.Taken.Taken}
@@ -14,8 +13,7 @@ use Rattle.percpu_rwsem.specs.declared.writers.{DownWrite.DownWrite, DownWriteSt
 use Rattle.freeze_laws.proofs.levels.{EventLaws.swap_keeps, Exchanges.exchanges_make_transitions}
 use Rattle.freeze_laws.specs.levels.Changes.{transition, state_found, role_entered, role_found, waits, claims}
 use Rattle.freeze_laws.specs.levels.Events.{SyncLevel, SyncLevelHolds, SyncEvent, Enters, Looks, Passes, Swaps, Opens, Exits, Claims, LooksClaimed, Calls, Stays}
-use Rattle.freeze_laws.specs.levels.Events.{Happens, SyncStep}
-use Rattle.freeze_laws.specs.levels.Exchanges.{KnowsWords, MakesTransition}
+use Rattle.freeze_laws.specs.levels.{Events.{Happens, SyncStep}, Exchanges.{KnowsWords, MakesTransition}}
 use Rattle.freeze_laws.specs.levels.Operations.{down_write_role, up_write_role, callback_role, KnowsDownWrite, KnowsUpWrite, KnowsCallback, by_next, HoldsOfNext}
 use Rattle.freeze_laws.specs.levels.Operations.{DownWriteIsThere, UpWriteIsThere, CallbackIsThere, DownWritesAreThere, UpWritesAreThere, CallbacksAreThere}
 use Rattle.freeze_laws.specs.levels.Roles.{SyncRole, Out, Past, Entered, Closed, Ready, entered}

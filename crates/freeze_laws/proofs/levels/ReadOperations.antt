@@ -5,16 +5,11 @@ use Rattle.finite_sums.specs.Sums.{update}
 use Rattle.finite_sums.proofs.Totals.{update_same}
 use Rattle.access_model.specs.declared.replies.Next.TheVariants.{Go}
 use Rattle.cpu_words.specs.Touches.{wrap_add}
-use Rattle.percpu_rwsem.specs.declared.sync_word.GpState.{GpState}
-use Rattle.percpu_rwsem.specs.declared.sync_word.GpState.TheVariants.{Idle, Enter, Passed, Exit, Replay}
-use Rattle.percpu_rwsem.specs.declared.sync_word.SyncWord.{SyncWord}
-use Rattle.percpu_rwsem.specs.declared.readers.DownRead.{DownRead}
-use Rattle.percpu_rwsem.specs.declared.readers.DownReadStep.{DownReadStep}
+use Rattle.percpu_rwsem.specs.declared.sync_word.{GpState.{GpState, TheVariants.{Idle, Enter, Passed, Exit, Replay}}, SyncWord.{SyncWord}}
+use Rattle.percpu_rwsem.specs.declared.readers.{DownRead.{DownRead}, DownReadStep.{DownReadStep}}
 use Rattle.percpu_rwsem.specs.declared.readers.DownReadStep.TheVariants.{EntersSection, LoadsSync, CountsUpFast, CountsUpSlow, LoadsBlock, CountsDown, LeavesAdmitted, LeavesBlocked}
-use Rattle.percpu_rwsem.specs.SyncWords.{unpack}
-use Rattle.percpu_rwsem.specs.Readers.{at_down_read, step_in, step_found, left_blocked}
-use Rattle.freeze_laws.specs.levels.Roles.{SyncRole, Out, Fast, fast}
-use Rattle.freeze_laws.specs.levels.Changes.{state_found_in, state_found}
+use Rattle.percpu_rwsem.specs.{SyncWords.{unpack}, Readers.{at_down_read, step_in, step_found, left_blocked}}
+use Rattle.freeze_laws.specs.levels.{Roles.{SyncRole, Out, Fast, fast}, Changes.{state_found_in, state_found}}
 use Rattle.freeze_laws.specs.levels.Events.{SyncLevel, SyncEvent, TurnsSection, FindsIdle, AddsFast, Stays, Happens, SyncStep}
 use Rattle.freeze_laws.specs.levels.Operations.{down_read_role, down_read_inside, by_next, DownReadIsThere, DownReadsAreThere}
 

@@ -8,8 +8,7 @@ use Rattle.freeze_laws.specs.stages.Events.{Stages, Holds, RepresentsStages, Sta
 use Rattle.freeze_laws.specs.stages.Events.{ClearsMarkReadOnly, Completes, Fails, FreezesAtOnce, HoldsOne, LeavesOne, Passes, SetsRemount, SetsWritable, Syncs, Thaws}
 use Rattle.freeze_laws.specs.stages.Events.{ThawsAtOnce}
 use Rattle.freeze_laws.specs.stages.Roles.{StageRole, Owning, Remounting, Freezing, Reopening, CleanBelow, Closing, HasPassed, KnowsStage, has_position, owns}
-use Rattle.freeze_laws.specs.stages.Roles.{passed_by, remounts}
-use Rattle.freeze_laws.specs.stages.Shown.{AsksOthers}
+use Rattle.freeze_laws.specs.stages.{Roles.{passed_by, remounts}, Shown.{AsksOthers}}
 
 -- the action that there is, or else this one
 abbrev action_or : Action → Option Action → Action

@@ -4,8 +4,7 @@ use Rattle.std.specs.Prelude.{Bool, Some}
 use Rattle.finite_sums.proofs.Totals.{total_none, total_zero, total_at, HasPlace, total_place}
 use Rattle.freeze_laws.proofs.stages.{Allowed.may, EachEvent.after_kind, Effects.effect, Facts.{up_to_off, freeze_role}}
 use Rattle.freeze_laws.proofs.stages.Positions.{block_at, block_idle, not_full, one_position, other_position, passed_idle, passed_own, who_freezes, way, nobody_at_four}
-use Rattle.freeze_laws.proofs.stages.Positions.{passed_in_order}
-use Rattle.freeze_laws.proofs.stages.StageLaws.{freeze_bound, relied_on}
+use Rattle.freeze_laws.proofs.stages.{Positions.{passed_in_order}, StageLaws.{freeze_bound, relied_on}}
 use Rattle.freeze_laws.specs.stages.Events.{Stages, Holds, StageEvent, Happens}
 use Rattle.freeze_laws.specs.stages.Laws.{opening, EventsKeep, ActionsAreAllowed, ActionsHaveTheirEffect, FreezeIsUnderWay, FreezeKeepsOthersOut, FrozenAsAWhole}
 use Rattle.freeze_laws.specs.stages.Laws.{OnlyTheFreezeMovesTheStage, OpenElsewhere, PositionsAreAlone, PositionsTellTheLevels, LevelsPassInOrder, NobodyAtStageFour}

@@ -10,8 +10,7 @@ use Rattle.freeze_laws.specs.stages.Events.{ClearsMarkReadOnly, ClearsRemount, C
 use Rattle.freeze_laws.specs.stages.Events.{LocksAgain, MarksNode, Passes, Recalls, Releases, ReleasesOpen, SetsBlock, SetsReadOnly, SetsRemount, SetsWritable, Stays}
 use Rattle.freeze_laws.specs.stages.Events.{Syncs, Thaws, ThawsAtOnce, WashesNode}
 use Rattle.freeze_laws.specs.stages.Roles.{StageRole, Aside, Owning, Remounting, Freezing, Reopening, StagesHold, Before, Closing, HasPassed, KnowsStage, has_position}
-use Rattle.freeze_laws.specs.stages.Roles.{is_full, passed_by}
-use Rattle.freeze_laws.specs.stages.Shown.{ShowsStages, state_after}
+use Rattle.freeze_laws.specs.stages.{Roles.{is_full, passed_by}, Shown.{ShowsStages, state_after}}
 
 -- a state shows a moment
 abbrev pub ShowsAt : ℕ → Stages → State → Type 0

@@ -4,8 +4,7 @@ use Rattle.finite_sums.{proofs.Totals.{total_same, total_add, total_le, total_at
 use Rattle.freeze_laws.proofs.stages.Facts.{owner_only, parts, closes_le, reopens_at, passed_three, three, way_is, full_is, passed_test, other_zero, total_alone}
 use Rattle.freeze_laws.proofs.stages.Facts.{nonzero, stage_bound, no_levels, full_levels, some_position}
 use Rattle.freeze_laws.specs.stages.Roles.{StageRole, owns, freezes, reopens, has_position, remounts, closes, passes, sums, passed_by, under_way, is_full, StagesHold}
-use Rattle.freeze_laws.specs.stages.Roles.{up_to}
-use Rattle.freeze_laws.specs.stages.Shown.{is_passed, passed_shown}
+use Rattle.freeze_laws.specs.stages.{Roles.{up_to}, Shown.{is_passed, passed_shown}}
 
 module _ (tasks stage sb remount : ℕ) (block : ℕ → ℕ) (at : ℕ → StageRole) (good : StagesHold tasks stage sb remount block at) where
   -- the stage as arithmetic: whether it is 1 to 3, and whether the file system is frozen as a whole

@@ -2,8 +2,7 @@
 use Rattle.std.specs.Prelude.{◌≡◌, ℕ, Option, Some, None}
 use Rattle.cpu_words.specs.Touches.{left}
 use Rattle.percpu_rwsem.specs.{SyncWords.IsLawful, Transitions.{transition_next, transition_after}}
-use Rattle.percpu_rwsem.specs.declared.sync_word.SyncWord.{SyncWord}
-use Rattle.percpu_rwsem.specs.declared.transitions.Transition.{Transition, TheVariants.{Loads, Exchanges}}
+use Rattle.percpu_rwsem.specs.declared.{sync_word.SyncWord.{SyncWord}, transitions.Transition.{Transition, TheVariants.{Loads, Exchanges}}}
 use Rattle.percpu_rwsem.specs.declared.transitions.TransitionNext.{TransitionNext, TheVariants.{More, Undefined, Made}}
 use Rattle.freeze_laws.specs.levels.Changes.{transition, state_found}
 

@@ -3,8 +3,7 @@ use Rattle.std.proofs.Common.{◌≡◌, ℕ, ◌+◌, ◌<◌, ◌≤◌, true,
 use Rattle.std.proofs.lemmas.Bool.Decides.{eqb_tells}
 use Rattle.finite_sums.specs.Sums.{update, total}
 use Rattle.finite_sums.proofs.Totals.{each_updated, total_updated, total_at, total_none, total_zero, total_le, update_off}
-use Rattle.access_model.specs.declared.actions.Holders.{Holders}
-use Rattle.access_model.specs.Holders.{nobody, with_holder, is_unheld}
+use Rattle.access_model.specs.{declared.actions.Holders.{Holders}, Holders.{nobody, with_holder, is_unheld}}
 use Rattle.freeze_levels.specs.Holders.{word_of, holders_in}
 use Rattle.freeze_levels.specs.holder_laws.Roles.{HolderRole, Apart, Found, Fills, Empties, minds, between, is_held, is_four, KnowsHolders, HoldersHold}
 use Rattle.freeze_levels.specs.holder_laws.Events.{HolderMoment, HoldsAt, HolderEvent, Happens, Finds, LetsGo, Freezes, Moves, HoldsFirst, Joins, Leaves, LeavesLast, Thaws, Stays}

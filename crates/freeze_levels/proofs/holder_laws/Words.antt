@@ -1,11 +1,8 @@
 -- Words of holders.
 use Rattle.std.proofs.Common.{◌≡◌, Bool, true, false, refl, sym, ap, arith, true≢false}
-use Rattle.access_model.specs.declared.actions.Holder.{Holder}
-use Rattle.access_model.specs.declared.actions.Holder.TheVariants.{Kernel, User}
-use Rattle.access_model.specs.declared.actions.Holders.{Holders}
+use Rattle.access_model.specs.declared.actions.{Holder.{Holder, TheVariants.{Kernel, User}}, Holders.{Holders}}
 use Rattle.access_model.specs.Holders.{nobody, held_by, with_holder, is_unheld}
-use Rattle.freeze_levels.specs.Holders.{word_of, holders_in}
-use Rattle.freeze_levels.specs.holder_laws.Roles.{is_held}
+use Rattle.freeze_levels.specs.{Holders.{word_of, holders_in}, holder_laws.Roles.{is_held}}
 
 -- these holders
 abbrev these : Bool → Bool → Holders

@@ -1,9 +1,7 @@
 -- The holders from event to event.
 use Rattle.std.specs.Prelude.{◌≡◌, ℕ, true, false}
 use Rattle.finite_sums.specs.Sums.{update, total}
-use Rattle.access_model.specs.declared.actions.Holder.{Holder}
-use Rattle.access_model.specs.declared.actions.Holders.{Holders}
-use Rattle.access_model.specs.Holders.{nobody, with_holder, is_unheld}
+use Rattle.access_model.specs.{declared.actions.{Holder.{Holder}, Holders.{Holders}}, Holders.{nobody, with_holder, is_unheld}}
 use Rattle.freeze_levels.specs.Holders.{word_of, holders_in}
 use Rattle.freeze_levels.specs.holder_laws.Roles.{HolderRole, Apart, Found, Fills, Empties, HoldersHold, minds}
 

@@ -1,9 +1,7 @@
 -- The laws of the holders.
 use Rattle.std.specs.Prelude.{◌≡◌, ℕ, ◌<◌, false}
-use Rattle.access_model.specs.Holders.{is_unheld}
-use Rattle.access_model.specs.declared.actions.Holders.{Holders}
-use Rattle.freeze_levels.specs.Holders.{holders_in}
-use Rattle.freeze_levels.specs.holder_laws.Roles.{Apart, Found, between}
+use Rattle.access_model.specs.{Holders.{is_unheld}, declared.actions.Holders.{Holders}}
+use Rattle.freeze_levels.specs.{Holders.{holders_in}, holder_laws.Roles.{Apart, Found, between}}
 use Rattle.freeze_levels.specs.holder_laws.Events.{HolderMoment, HoldsAt, HolderEvent, Happens}
 
 -- nothing is frozen, and everybody is apart

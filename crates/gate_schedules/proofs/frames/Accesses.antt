@@ -1,7 +1,6 @@
 -- What an action makes of what a task holds, and of its lists at run time.
 use Rattle.std.proofs.Common.{◌≡◌, ℕ, ◌+◌, ◌-◌, ◌<◌, true, false, length, refl, sym, ap, ◌∙◌, inl, inr, arith, get_or-set_same, get_or-set_other}
-use Rattle.std.proofs.lemmas.Grind.{common_steps}
-use Rattle.std.proofs.{lemmas.Bool.Decides.eqb_tells}
+use Rattle.std.proofs.lemmas.{Grind.{common_steps}, Bool.Decides.{eqb_tells}}
 use Rattle.std.specs.Prelude.{List, Option, Some, None, slice_index, slice_index_or, slice_set}
 use Rattle.finite_sums.{proofs.Totals.{update_at, update_off}, specs.Sums.update}
 use Rattle.access_model.specs.declared.actions.{Action.Action, Gate.Gate}

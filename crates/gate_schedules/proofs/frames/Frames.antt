@@ -1,10 +1,10 @@
 -- What an event leaves alone.
 use Rattle.access_model.specs.States.{openers}
 use Rattle.cpu_words.specs.{Words.Words, declared.{events.Touch.Touch, names.WordName.WordName}}
+use Rattle.cpu_words.specs.gate_counts.Levels.{LevelHolds, LevelRole, LevelView, Out as CountsNot}
 use Rattle.finite_sums.proofs.Totals.{each_updated, total_updated, update_map, update_same}
 use Rattle.finite_sums.specs.Sums.{total, update}
-use Rattle.freeze_levels.specs.Holders.{holders_in}
-use Rattle.cpu_words.specs.gate_counts.Levels.{LevelHolds, LevelRole, LevelView, Out as CountsNot}
+use Rattle.freeze_levels.specs.{Holders.{holders_in}, holder_laws.Roles.{HolderRole, HoldersHold}}
 use Rattle.gate_schedules.proofs.frames.Known.{known_same}
 use Rattle.gate_world.specs.{Fits.{Fits, HasFile, file_of}, Holdings.Holdings, Levels.{at_level, inside, is_frozen_whole, level_added_by, level_taken_by}}
 use Rattle.gate_world.specs.{SameRoles.{Roles, no_roles, roles_of}, Levels.sync_role_of, Owners.KnowsWords, Roles.{count_role_if, role_if, sync_role_if}}
@@ -15,10 +15,8 @@ use Rattle.gate_world.specs.{Views.{has_open, held_at, held_of, holds_level, tak
 use Rattle.gate_world.specs.declared.work.Phase.{Phase}
 use Rattle.node_words.specs.Nodes.{node_shown, opens_in}
 use Rattle.gated_tree.specs.Roles.{Role as TreeRole, TreeHolds, TreeState}
-use Rattle.freeze_levels.specs.holder_laws.Roles.{HolderRole, HoldersHold}
-use Rattle.freeze_laws.specs.levels.Roles.{Out as IsApart, SyncNumberHolds, SyncRole}
+use Rattle.freeze_laws.specs.{levels.Roles.{Out as IsApart, SyncNumberHolds, SyncRole}, stages.Roles.{StageRole, StagesHold}}
 use Rattle.mount_counts.specs.Roles.{MountHolds, MountView, Out, Role, ro_bit}
-use Rattle.freeze_laws.specs.stages.Roles.{StageRole, StagesHold}
 use Rattle.std.proofs.{Common.{Bool, ap, arith, inl, inr, refl, subst, suc, sym, true≢false, ℕ, ◌+◌, ◌<◌, ◌∙◌, ◌≡◌}, lemmas.Bool.{eq-eqb, ne_eqb}}
 use Rattle.std.proofs.lemmas.Bool.Decides.{eqb_tells}
 use Rattle.std.specs.Prelude.{Option, false, if◌then◌else◌, true, ◌%◌, ◌&&◌, ◌==◌, ◌||◌}

@@ -8,8 +8,7 @@ use Rattle.gate_world.specs.{Holdings.Holdings, Remounts.{remount_owns, remount_
 use Rattle.gate_world.specs.{Rules.{AtMount, GatesHold, IsGood, IsSteady, Owner, OwnerHolds, ViewFits, at_mount, owns, remounts, role_of}, Shown.closing}
 use Rattle.gate_world.specs.{Shown.shown, Views.{added_by, held_of, taken_by}, refusals.Waits.{HasCulprit, IsWaitedFor}, Worlds.World, declared.config.Config.Config}
 use Rattle.gate_world.specs.declared.{views.View.View, work.Phase.Phase}
-use Rattle.mount_counts.specs.{Roles.{Role, has_hold, hold_bit, ro_bit, skips}}
-use Rattle.mount_counts.specs.declared.{remounts.RemountStep.RemountStep}
+use Rattle.mount_counts.specs.{Roles.{Role, has_hold, hold_bit, ro_bit, skips}, declared.remounts.RemountStep.{RemountStep}}
 use Rattle.std.proofs.{Common.{Bool, ap, arith, inl, inr, refl, suc, ℕ, ◌+◌, ◌<◌, ◌∙◌, ◌≡◌, ◌≤◌}, lemmas.Bool.Decides.eqb_tells}
 use Rattle.std.specs.Prelude.{Option, Some, ◌-◌, ◌==◌}
 

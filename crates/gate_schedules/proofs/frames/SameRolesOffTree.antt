@@ -1,7 +1,7 @@
 -- An operation that stands at a phase of another one, and relies on something at the tree meanwhile, as a last close does inside level 3:
 -- the law of the other's event is the law of its event, but for the tree and the open files, which the event leaves alone.
 use Rattle.access_model.specs.declared.{actions.Action.Action, replies.Next.Next}
-use Rattle.std.proofs.Common.{arith}
+use Rattle.std.proofs.Common.{arith, Bool, ap, false, refl, subst, sym, true, true≢false, ℕ, ◌<◌, ◌∙◌, ◌≡◌}
 use Rattle.cpu_words.specs.{Hooks.HookAnswer, Touches.left, Words.{put, read}, declared.{events.Touch.Touch, names.WordName.WordName}}
 use Rattle.finite_sums.proofs.Totals.{each_updated, update_at}
 use Rattle.finite_sums.specs.Sums.{update}
@@ -13,7 +13,6 @@ use Rattle.gate_world.specs.{Rules.{IsGood, Known, Moves, Owner, Part, SameView,
 use Rattle.gate_world.specs.{Views.{held_of, phase_after, taken_by, view_with}, Worlds.World, declared.{config.Config.Config, views.View.View}}
 use Rattle.gate_world.specs.declared.work.Phase.{Phase}
 use Rattle.freeze_laws.specs.levels.Events.{SyncStep}
-use Rattle.std.proofs.{Common.{Bool, ap, false, refl, subst, sym, true, true≢false, ℕ, ◌<◌, ◌∙◌, ◌≡◌}}
 use Rattle.std.specs.Prelude.{Option, if◌then◌else◌}
 
 pub roles_off_tree : {p q : Option Phase} {r : Roles} → p ≡ q → r ≡ off_tree (roles_of q) → r ≡ off_tree (roles_of p)

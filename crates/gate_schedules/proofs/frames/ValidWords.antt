@@ -2,11 +2,9 @@
 -- is one.
 use Rattle.std.proofs.Common.{◌≡◌, ℕ, ◌<◌, ◌≤◌, ◌*◌, subst, ap, true, false, arith}
 use Rattle.std.specs.Prelude.{Some, is_some}
-use Rattle.mount_counts.specs.{Phases.{want_next, change_next}, Remounts.remount_next}
-use Rattle.mount_counts.specs.declared.phases.{WantStep.TheVariants.CountsUp}
+use Rattle.mount_counts.specs.{Phases.{want_next, change_next}, Remounts.{remount_next}, declared.phases.WantStep.TheVariants.{CountsUp}}
 use Rattle.mount_counts.specs.declared.phases.{ChangeStep.{TheVariants.Locks, ChangeStep}, Want.Want, Change.Change, WantStep.WantStep}
-use Rattle.mount_counts.specs.declared.remounts.{Remount.Remount}
-use Rattle.mount_counts.specs.declared.remounts.RemountStep.{RemountStep}
+use Rattle.mount_counts.specs.declared.remounts.{Remount.{Remount}, RemountStep.{RemountStep}}
 use Rattle.percpu_rwsem.specs.{Callbacks.callback_next, Readers.down_read_next, Transitions.transition_next, Writers.{down_write_next, up_write_next}}
 use Rattle.percpu_rwsem.specs.declared.{callbacks.{Callback.Callback, CallbackStep.CallbackStep}, readers.DownReadStep.TheVariants.LoadsSync}
 use Rattle.percpu_rwsem.specs.declared.{readers.{DownRead.DownRead, DownReadStep.DownReadStep}, transitions.Transition.TheVariants.{Loads, Exchanges}}
@@ -14,12 +12,12 @@ use Rattle.percpu_rwsem.specs.declared.{transitions.Transition.Transition}
 use Rattle.percpu_rwsem.specs.declared.writers.{UpWriteStep.TheVariants.{ClearsBlock, Exits}, DownWrite.DownWrite, UpWrite.UpWrite}
 use Rattle.percpu_rwsem.specs.declared.writers.{DownWriteStep.DownWriteStep, UpWriteStep.UpWriteStep}
 use Rattle.composite_ops.specs.{write_access.Phases.next as write_next, declared.write_access.phases.WritePhase.{WritePhase}}
+use Rattle.composite_ops.specs.{file_closes.Phases.next as close_next, declared.file_closes.phases.ClosePhase.{ClosePhase, TheVariants.{LoadsFile as CloseLoadsFile, LowersCount}}}
+use Rattle.composite_ops.specs.declared.file_closes.phases.ClosePhase.TheVariants.{Enters as EntersLevel, FreesNode as ClosesNode}
 use Rattle.freeze_levels.specs.{Freezes.freeze_next, Thaws.thaw_next, declared.freezes.FreezeStep.TheVariants.{Closes}}
-use Rattle.freeze_levels.specs.declared.freezes.{FreezeStep.{FreezeStep}, Freeze.Freeze}
-use Rattle.freeze_levels.specs.declared.thaws.{ThawStep.{ThawStep}, Thaw.Thaw}
+use Rattle.freeze_levels.specs.declared.{freezes.{FreezeStep.{FreezeStep}, Freeze.{Freeze}}, thaws.{ThawStep.{ThawStep}, Thaw.{Thaw}}}
 use Rattle.node_words.specs.Nodes.{unpacked, opens_in}
-use Rattle.gated_tree.specs.Calls.{CreateStepFits, SnapshotStepFits, TreePhaseFits}
-use Rattle.gated_tree.specs.Phases.{next as tree_next, remove_next}
+use Rattle.gated_tree.specs.{Calls.{CreateStepFits, SnapshotStepFits, TreePhaseFits}, Phases.{next as tree_next, remove_next}}
 use Rattle.gated_tree.specs.{Phases.{grow_next, move_next, mark_next, create_next, snapshot_next, open_next}, Roles.RoleHolds}
 use Rattle.gated_tree.specs.declared.changes.{Create.Create, Remove.Remove, MoveTo.MoveTo}
 use Rattle.gated_tree.specs.declared.changes.{CreateStep.CreateStep, RemoveStep.RemoveStep, MoveStep.MoveStep}
@@ -31,12 +29,9 @@ use Rattle.gated_tree.specs.declared.snapshots.{SnapshotStep.{TheVariants.LoadsN
 use Rattle.gate_world.specs.{Configs.IsWithin, traces.TraceStates.{WordIsValid, ReadIsValid, CloseReadIsValid, OpenReadIsValid, EventsMayBe}, Fits.{FreezeFits, ThawFits, WriteFits}}
 use Rattle.gate_world.specs.{Fits.{PhaseFits, CloseFits, HasFile, file_of, Fits}, Holdings.Holdings, Remounts.RemountFits, Rules.{IsGood, Tree, Files}}
 use Rattle.gate_world.specs.{Rules.{Fitting, SyncAt, SyncHoldsIn}, Trees.{tree_bounds, tree_role_of}, Views.{held_of, has_open}, Work.next_of, Worlds.World}
-use Rattle.gate_world.specs.declared.{config.Config.Config}
-use Rattle.gate_world.specs.declared.work.Phase.{TheVariants.{Trees, Closes}, Phase}
+use Rattle.gate_world.specs.declared.{config.Config.{Config}, work.Phase.{TheVariants.{Trees, Closes}, Phase}}
 use Rattle.node_words.proofs.Packing.{packed_unpacks}
 use Rattle.cpu_words.specs.{Hooks.HookAnswer, Words.read, declared.names.WordName.{TheVariants.{Node, Sync}, WordName}}
-use Rattle.composite_ops.specs.{file_closes.Phases.next as close_next, declared.file_closes.phases.ClosePhase.{ClosePhase, TheVariants.{LoadsFile as CloseLoadsFile, LowersCount}}}
-use Rattle.composite_ops.specs.declared.file_closes.phases.ClosePhase.TheVariants.{Enters as EntersLevel, FreesNode as ClosesNode}
 use Rattle.finite_sums.specs.Sums.{update, total}
 use Rattle.finite_sums.proofs.Totals.{total_at, total_updated, total_bound, each_updated}
 use Rattle.access_model.specs.States.{one_if, most_tasks}

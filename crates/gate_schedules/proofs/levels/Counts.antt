@@ -5,8 +5,8 @@ use Rattle.std.specs.Prelude.{◌==◌, if◌then◌else◌, Option}
 use Rattle.finite_sums.{proofs.Totals.{update_map, update_at, update_off}, specs.Sums.update}
 use Rattle.access_model.specs.declared.{actions.Action.Action, replies.Next.Next}
 use Rattle.cpu_words.specs.{Hooks.HookAnswer, Touches.{wrap_add, wrap_sub}, Words.{Words, put}, declared.{events.Touch.Touch, names.WordName.WordName}}
-use Rattle.cpu_words.proofs.gate_counts.LevelLaws.{adds_slow, adds_fast, backs_away, gives_back}
 use Rattle.cpu_words.specs.gate_counts.Levels.{Out as CountsNot, Seeking, BackingOff, LevelRole, LevelView, LevelHolds}
+use Rattle.cpu_words.proofs.gate_counts.LevelLaws.{adds_slow, adds_fast, backs_away, gives_back}
 use Rattle.gate_world.specs.{Configs.IsWithin, Levels.{is_frozen_whole, at_level, level_role_of, level_added_by, level_taken_by}, Roles.count_role_if}
 use Rattle.gate_world.specs.{Rules.{IsGood, Holds, AtLevel}, Views.{holds_level, view_with}, Worlds.World, declared.{config.Config.Config, views.View.View}}
 use Rattle.gate_world.specs.declared.work.Phase.{Phase}

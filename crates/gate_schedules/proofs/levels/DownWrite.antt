@@ -1,26 +1,24 @@
 -- What each event of a down-write leaves of the levels: it enters the rcu_sync of its level, sets `block`, and sums the counts until nobody
 -- is counted.
 use Rattle.std.proofs.Common.{◌≡◌, ℕ, suc, ◌+◌, ◌<◌, ◌≤◌, refl, sym, ap, ◌∙◌, subst, inl, inr, arith, true≢false}
-use Rattle.std.proofs.lemmas.Grind.{common_steps}
-use Rattle.std.proofs.lemmas.{Bool.{eq-eqb, lt-ltb, le-ltb, cases_lt, Decides.eqb_tells}, Option.none-some}
+use Rattle.std.proofs.lemmas.{Grind.{common_steps}, Bool.{eq-eqb, lt-ltb, le-ltb, cases_lt, Decides.{eqb_tells}}, Option.{none-some}}
 use Rattle.std.specs.Prelude.{Option, Some, None, Ok, Bool, true, false, ◌==◌, if◌then◌else◌}
 use Rattle.finite_sums.{proofs.Totals.{update_at, update_map, update_same}, specs.Sums.{update, total}}
 use Rattle.access_model.specs.declared.{actions.Action.Action, replies.{Next.Next, Reply.Reply}}
 use Rattle.cpu_words.specs.{Sums.sum_taking, Touches.{found_by, left, wrap_add}, Words.{Words, read, put}}
 use Rattle.cpu_words.specs.declared.{events.Touch.Touch, names.WordName.WordName, sums.{Sum.Sum, Taken.Taken}}
-use Rattle.cpu_words.proofs.gate_counts.LevelLaws.{swaps, sums_on, passes, sums_anew, none_passed}
 use Rattle.cpu_words.specs.gate_counts.Levels.{LevelRole, LevelView, LevelHolds, Out as CountsNot, Summing, Passed as CountsPassed}
+use Rattle.cpu_words.proofs.gate_counts.LevelLaws.{swaps, sums_on, passes, sums_anew, none_passed}
 use Rattle.percpu_rwsem.specs.{Graces.looked, SyncWords.{unpack, is_passed, is_queued, on_enter, on_callback}, Transitions.transition_after}
 use Rattle.percpu_rwsem.specs.Writers.{down_write_next, down_write_after, at_down_write, enter_step, callback_step, sections_awaited}
-use Rattle.percpu_rwsem.specs.Writers.{passed_awaited, sum_begun, down_write_summed}
-use Rattle.percpu_rwsem.specs.declared.{grace.GraceNext.GraceNext}
+use Rattle.percpu_rwsem.specs.{Writers.{passed_awaited, sum_begun, down_write_summed}, declared.grace.GraceNext.{GraceNext}}
 use Rattle.percpu_rwsem.specs.declared.{sync_word.{GpState.GpState, SyncWord.SyncWord}, transitions.{Transition.Transition, TransitionNext.TransitionNext}}
 use Rattle.percpu_rwsem.specs.declared.writers.{DownWrite.DownWrite, DownWriteStep.DownWriteStep}
 use Rattle.freeze_laws.proofs.levels.{EventLaws.swap_keeps, Operations.down_writes_are_there}
+use Rattle.freeze_laws.{proofs.stages.{Facts.total_alone, Positions.{other_position, not_full}}, specs.stages.Roles.has_position}
 use Rattle.freeze_laws.specs.levels.Events.{SyncLevelHolds, SyncStep}
 use Rattle.freeze_laws.specs.levels.Operations.{down_write_role, value_at, left_by, by_next, HoldsOfNext}
 use Rattle.freeze_laws.specs.levels.Roles.{Out as IsApart, Closed, entered}
-use Rattle.freeze_laws.{proofs.stages.{Facts.total_alone, Positions.{other_position, not_full}}, specs.stages.Roles.has_position}
 use Rattle.gate_world.specs.{Configs.IsWithin, Fits.DownWriteFits, LevelRuns.level_in, Levels.{sync_role_of, at_level, is_frozen_whole, level_role_of}}
 use Rattle.gate_world.specs.Roles.{LevelPosition, position_count, position_sync, closed_to, down_count_role}
 use Rattle.gate_world.specs.{Rules.{AtLevel, Holds, IsGood, Stages, stage_role_of, stage_roles}}

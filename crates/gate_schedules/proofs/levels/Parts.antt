@@ -1,6 +1,6 @@
 -- What an event at a freeze level leaves alone, where it leaves the word `block` of each.
 use Rattle.gate_schedules.proofs.frames.{ByPhase.closing_as, Frames.{shown_as, left_alone, view_as, unwritten}, Known.known_same}
-use Rattle.std.{proofs.Common.{◌≡◌, ℕ, ◌<◌, sym, ap, ◌∙◌, arith}, specs.Prelude.{◌==◌, ◌||◌, Option, Some}}
+use Rattle.std.{proofs.Common.{◌≡◌, ℕ, ◌<◌, sym, ap, ◌∙◌, arith, refl}, specs.Prelude.{◌==◌, ◌||◌, Option, Some}}
 use Rattle.finite_sums.{proofs.Totals.{update_same, each_updated}, specs.Sums.update}
 use Rattle.access_model.specs.{Replies.map_next, declared.replies.Next.Next}
 use Rattle.cpu_words.specs.Words.{Words}
@@ -12,7 +12,6 @@ use Rattle.gate_world.specs.{SameRoles.{Roles, no_roles, roles_of}, Levels.{at_l
 use Rattle.gate_world.specs.Rules.{IsGood, Holds, ViewFits, Owner, Known, AtMount, AtLevel, SyncAt, Sections, Stages, Holding, Fitting, Tree, Files}
 use Rattle.gate_world.specs.{Shown.{closing, shown}, Views.{held_at, added_by, phase_after, taken_by, holds_level, has_open}, Worlds.World}
 use Rattle.gate_world.specs.declared.{config.Config.Config, views.View.View, work.Phase.Phase}
-use Rattle.std.proofs.Common.{refl}
 
 -- the words that are no level's own, and `block`
 abbrev pub beside_levels : Words → Words

@@ -1,6 +1,5 @@
 -- Events as steps of a level.
-use Rattle.std.proofs.Common.{◌≡◌, ℕ, ◌<◌, ap, ◌∙◌}
-use Rattle.std.proofs.Common.{arith}
+use Rattle.std.proofs.Common.{◌≡◌, ℕ, ◌<◌, ap, ◌∙◌, arith}
 use Rattle.finite_sums.{proofs.Totals.{update_same}, specs.Sums.update}
 use Rattle.cpu_words.specs.Words.{Words}
 use Rattle.freeze_laws.specs.levels.Events.{SyncLevel, SyncStep, Stays}

@@ -1,6 +1,5 @@
 -- What each event of an up-write leaves of the levels: its store opens its level, and its exchange leaves the rcu_sync.
-use Rattle.std.{proofs.Common.{◌≡◌, ℕ, ◌<◌, ◌≤◌, refl, sym, ◌∙◌, subst}, specs.Prelude.Some}
-use Rattle.std.proofs.Common.{arith}
+use Rattle.std.{proofs.Common.{◌≡◌, ℕ, ◌<◌, ◌≤◌, refl, sym, ◌∙◌, subst, arith}, specs.Prelude.{Some}}
 use Rattle.finite_sums.proofs.Totals.{update_at}
 use Rattle.access_model.specs.declared.replies.Next.{Next}
 use Rattle.cpu_words.specs.{Touches.{found_by, left}, Words.{Words, read, put}, declared.{events.Touch.Touch, names.WordName.WordName}}
@@ -11,8 +10,7 @@ use Rattle.freeze_laws.proofs.levels.Operations.{up_writes_are_there}
 use Rattle.freeze_laws.specs.levels.{Events.SyncStep, Operations.{up_write_role, left_by, by_next, HoldsOfNext}, Roles.Out as IsApart}
 use Rattle.gate_world.specs.{Configs.IsWithin, Fits.UpWriteFits, LevelRuns.level_in, Levels.is_frozen_whole, Roles.{LevelPosition, position_count, position_sync}}
 use Rattle.gate_world.specs.{Rules.{IsGood, Holds, AtLevel}, Worlds.World, declared.{config.Config.Config, views.View.View}}
-use Rattle.gate_schedules.proofs.frames.Frames.{SameLevelCounts}
-use Rattle.gate_schedules.proofs.levels.PositionRoles.{count_at, sync_at, SayBeside, counts_left}
+use Rattle.gate_schedules.proofs.{frames.Frames.{SameLevelCounts}, levels.PositionRoles.{count_at, sync_at, SayBeside, counts_left}}
 use Rattle.gate_schedules.proofs.levels.PositionRoles.{counts_become, levels_move}
 use Rattle.gate_schedules.proofs.levels.LevelPositions.{HasPosition, opening_position, position_after_opening, LevelsHold, left_world}
 use Rattle.gate_schedules.proofs.levels.Worlds.{found_level, IsEventAt, event_word}

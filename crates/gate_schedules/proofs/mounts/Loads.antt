@@ -1,6 +1,6 @@
 -- Loads of a task at a mount: they leave the words and the shown model.
 use Rattle.access_model.specs.declared.replies.Next.{Next}
-use Rattle.std.proofs.Common.{arith}
+use Rattle.std.proofs.Common.{arith, ap, refl, subst, sym, ℕ, ◌<◌, ◌∙◌, ◌≡◌}
 use Rattle.cpu_words.specs.{Hooks.HookAnswer, Words.{put, read}, declared.{events.Touch.Touch, names.WordName.WordName}}
 use Rattle.finite_sums.proofs.Totals.{update_same}
 use Rattle.finite_sums.specs.Sums.{update}
@@ -10,7 +10,6 @@ use Rattle.gate_world.specs.{Fits.{Fits, MountFits}, Roles.mount_owns, Rules.{At
 use Rattle.gate_world.specs.{Rules.role_of, Shown.{closing, shown}, Views.{added_by, held_of, phase_after, taken_by, view_with}, Worlds.World}
 use Rattle.gate_world.specs.declared.{config.Config.Config, views.View.View, work.Phase.Phase}
 use Rattle.mount_counts.specs.declared.phases.MountPhase.{MountPhase}
-use Rattle.std.proofs.Common.{ap, refl, subst, sym, ℕ, ◌<◌, ◌∙◌, ◌≡◌}
 use Rattle.std.specs.Prelude.{None, Option, Some}
 
 pub steady : {p q r : Option Phase} → p ≡ r → IsSteady r q → IsSteady p q

@@ -4,11 +4,9 @@ use Rattle.std.specs.Prelude.{Some, false, if◌then◌else◌}
 use Rattle.access_model.specs.{Histories.{levels_of, opens_of}, Replies.map_next, declared.{actions.Action.Action, replies.Next.Next}}
 use Rattle.cpu_words.specs.{Hooks.HookAnswer, Touches.{found_by, left}, Words.{Words, put, read}}
 use Rattle.cpu_words.specs.declared.{events.Touch.Touch, names.WordName.WordName}
-use Rattle.mount_counts.specs.Phases.{next, after}
-use Rattle.mount_counts.specs.declared.phases.{MountPhase.MountPhase}
+use Rattle.mount_counts.specs.{Phases.{next, after}, declared.phases.MountPhase.{MountPhase}}
 use Rattle.gate_world.specs.{traces.Found.is_load, Levels.{at_level, level_added_after, level_taken_after, level_added_by, level_taken_by}}
-use Rattle.gate_world.specs.{SameRoles.{Roles, no_roles, roles_of}, Rules.{Holds, IsGood, Known, Part}}
-use Rattle.gate_world.specs.Rules.{SameView}
+use Rattle.gate_world.specs.{SameRoles.{Roles, no_roles, roles_of}, Rules.{Holds, IsGood, Known, Part, SameView}}
 use Rattle.gate_world.specs.Rules.{SameWords, Stages, Holding, StepKeeps, at_gates, GateStepKeeps, Tree, AtLevel, SyncAt, Sections, Files}
 use Rattle.gate_world.specs.{Trees.tree_role_of, Views.{phase_after, view_after, actions_after, has_open}, Worlds.{World, after_step, value_at}}
 use Rattle.gate_world.specs.{Worlds.words_after, declared.{config.Config.Config, views.View.View, work.Phase.Phase}}

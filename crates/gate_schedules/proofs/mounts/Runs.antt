@@ -1,6 +1,5 @@
 -- What an event off the levels makes of each of them: it leaves it, and so each event of want, drop and change does.
-use Rattle.std.{proofs.Common.{◌≡◌, ℕ, ◌<◌, refl, sym, ap, ◌∙◌}, specs.Prelude.Some}
-use Rattle.std.proofs.Common.{arith}
+use Rattle.std.{proofs.Common.{◌≡◌, ℕ, ◌<◌, refl, sym, ap, ◌∙◌, arith}, specs.Prelude.{Some}}
 use Rattle.cpu_words.specs.{Hooks.HookAnswer, Words.Words}
 use Rattle.mount_counts.specs.{Phases.after, declared.phases.{MountPhase.MountPhase}}
 use Rattle.freeze_laws.specs.levels.{Events.SyncStep, Roles.Out as IsApart}

@@ -4,6 +4,7 @@ use Rattle.cpu_words.specs.{Hooks.HookAnswer, Touches.{event_of, left}, Words.{W
 use Rattle.finite_sums.proofs.Totals.{each_updated, total_updated}
 use Rattle.freeze_levels.specs.{Freezes.{freeze_after, freeze_next}, Holders.word_of, Thaws.{thaw_next}, declared.freezes.Freeze.Freeze}
 use Rattle.freeze_levels.specs.declared.{freezes.FreezeStep.{FreezeStep, TheVariants.Closes}, thaws.{Thaw.Thaw, ThawStep.ThawStep}}
+use Rattle.freeze_levels.specs.holder_laws.Roles.{HoldersHold, between, is_four, is_held}
 use Rattle.gate_schedules.proofs.frames.Holders.{holders_at}
 use Rattle.gate_world.specs.{Fits.Fits, traces.Found.stores_stage, Headline.{HoldersAreTold, is_between, stores_nobody}, Rules.Fitting}
 use Rattle.gate_world.specs.{Rules.{Holding, IsGood, Known, holder_role_of}, Views.{held_of, phase_after, view_after, with_hook}}
@@ -12,7 +13,6 @@ use Rattle.gate_world.specs.declared.entries.Entry.{Entry, TheVariants.{Begins, 
 use Rattle.gate_world.specs.{Worlds.{step_of, value_at, words_after}, declared.{config.Config.Config, operations.Op.Op, views.{Traced.Traced, View.View}}}
 use Rattle.gate_world.specs.declared.work.Phase.{Phase, TheVariants.Closes}
 use Rattle.freeze_levels.proofs.holder_laws.{HolderLaws.held_exactly, Words.held_word}
-use Rattle.freeze_levels.specs.holder_laws.Roles.{HoldersHold, between, is_four, is_held}
 use Rattle.percpu_rwsem.specs.{Transitions.transition_next, Writers.{down_write_next, up_write_next}, declared.transitions.Transition.Transition}
 use Rattle.percpu_rwsem.specs.declared.writers.{DownWrite.DownWrite, DownWriteStep.DownWriteStep, UpWrite.UpWrite, UpWriteStep.UpWriteStep}
 use Rattle.std.proofs.{Common.{Bool, ap, arith, false, if◌then◌else◌, inl, inr, refl, subst, sym, true, ℕ, ◌<◌, ◌∙◌, ◌≡◌}, lemmas.Bool.{cases_lt, le-ltb}}

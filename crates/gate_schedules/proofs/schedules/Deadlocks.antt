@@ -1,7 +1,6 @@
 -- Of every schedule: a reply is near, or each operation under way is blocked; and all that is under way settles.
 use Rattle.std.specs.Prelude.{List}
-use Rattle.gate_world.specs.{Configs.IsWithin, Headline.world_after, declared.config.Config.Config}
-use Rattle.gate_world.specs.declared.entries.Entry.{Entry}
+use Rattle.gate_world.specs.{Configs.{IsWithin}, Headline.{world_after}, declared.{config.Config.{Config}, entries.Entry.{Entry}}}
 use Rattle.gate_schedules.proofs.operations.{AllOperations.{phase_ends, phase_keeps}, deadlocks.{BlockedIsStable.blocked_stays, RepliesOrFrozen.world_replies, Settles.world_settles}}
 use Rattle.gate_schedules.proofs.{operations.deadlocks.BlockedOrProgress.world_goes, schedules.HeadlineProof.whole_rule}
 use Rattle.gate_schedules.specs.operations.Progress.{EventsKeepRule, EventsMoveModel, EverybodySettles, BlockedStaysBlocked, ReplyOrAllBlocked, RepliesOrIsFrozen}

@@ -1,13 +1,11 @@
 -- Each task's own list is its part of the history.
-use Rattle.std.proofs.{Common.{ℕ, inl, inr}, lemmas.Bool.{cases_Bool}}
-use Rattle.std.proofs.Common.{arith}
+use Rattle.std.proofs.{Common.{ℕ, inl, inr, arith}, lemmas.Bool.{cases_Bool}}
 use Rattle.std.specs.Prelude.{nat_lt, Option, Some, None, List, [], ◌∷◌}
 use Rattle.access_model.specs.{Histories.{Done, IsMerge}, declared.{actions.Action.Action, errors.GateError.GateError}}
 use Rattle.cpu_words.specs.Hooks.{HookAnswer}
 use Rattle.gate_world.specs.{Beginnings.{view_refusal}}
 use Rattle.gate_world.specs.Worlds.{World, begin_of, after_step_with_others, step_of, happens, phase_action, action_of, task_of, with_action}
-use Rattle.gate_world.specs.declared.entries.Entry.{Entry, TheVariants.{Begins, Steps}}
-use Rattle.gate_world.specs.Worlds.{run, history}
+use Rattle.gate_world.specs.{declared.entries.Entry.{Entry, TheVariants.{Begins, Steps}}, Worlds.{run, history}}
 use Rattle.gate_world.specs.declared.{config.Config.Config, operations.Op.Op, work.Phase.Phase}
 
 -- the lists of a world

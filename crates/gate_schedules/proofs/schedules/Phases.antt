@@ -5,8 +5,7 @@ use Rattle.cpu_words.{proofs.Places.place_small, specs.{Hooks.HookAnswer, Names.
 use Rattle.gate_world.specs.{Configs.{IsWithin, extents_kept, extents_among}, Fits.{PhaseFits, Fits, ActionFits}}
 use Rattle.gate_world.specs.{Holdings.{Holdings, Agree, held_after}, Views.phase_after, Work.{next_of, after_of}}
 use Rattle.gate_world.specs.declared.{config.Config.Config, work.Phase.Phase}
-use Rattle.gate_schedules.proofs.frames.{OperationLaws.word_kept, Places.few_among}
-use Rattle.gate_schedules.proofs.operations.AllOperations.{phase_keeps}
+use Rattle.gate_schedules.proofs.{frames.{OperationLaws.{word_kept}, Places.{few_among}}, operations.AllOperations.{phase_keeps}}
 
 module _ (c : Config) (within : IsWithin c) (t : ℕ) (held : Holdings) where
   -- the word of its next event is there

@@ -2,13 +2,14 @@
 use Rattle.access_model.specs.{Actions.{IsAllowed, after_action}, Histories.{Done, IsLegal, end_of}, States.{State, most_tasks, one_if, openers}}
 use Rattle.access_model.specs.{States.opening_state, declared.{actions.Action.Action, errors.GateError.GateError}}
 use Rattle.cpu_words.specs.Hooks.{HookAnswer}
+use Rattle.cpu_words.specs.gate_counts.{Gates.{below, counted as counted_of}, Levels.{level_as_gate, processor_of as level_processor}}
 use Rattle.finite_sums.proofs.Totals.{each_updated, total_bound, total_none, total_same}
 use Rattle.finite_sums.specs.Sums.{total, update}
 use Rattle.gate_schedules.proofs.operations.AllOperations.{op_keeps, phase_keeps}
 use Rattle.gate_schedules.proofs.frames.{SameRolesOffTree.{SameCounts, good_off_tree, roles_off_tree, view_shown_off_tree}, Frames.{left_alone, opens_left, same_words}}
 use Rattle.gate_schedules.proofs.{schedules.Beginnings.{MayBegin, first_fits, may_begin}, trees.worlds.Trees.tree_within}
+use Rattle.gate_schedules.proofs.trees.Each.{opening_holds}
 use Rattle.cpu_words.proofs.gate_counts.{Events.words_sum, Flags.gate_begins, Numbers.below_le}
-use Rattle.cpu_words.specs.gate_counts.{Gates.{below, counted as counted_of}, Levels.{level_as_gate, processor_of as level_processor}}
 use Rattle.gate_world.specs.{SameRoles.{SameRolesOffTree, off_tree}, Beginnings.{first_phase, view_refusal}, Configs.{IsWithin, model_limits}, Fits.{HasFile, file_of}}
 use Rattle.gate_world.specs.{Headline.{IdleSumsHold, SumsHold}, Levels.{at_level, level_role_of}, Owners.KnowsWords, Rules.{AtLevel, AtMount, Files, Fitting}}
 use Rattle.gate_world.specs.Rules.{Holding, Holds, IsGood, Known, LevelHoldsIn, MountHoldsIn, Moves, Owner, Part, Sections, Stages, SyncAt, Tree}
@@ -18,13 +19,11 @@ use Rattle.gate_world.specs.declared.entries.Entry.{Entry, TheVariants.{Begins, 
 use Rattle.gate_world.specs.{Worlds.{task_of, with_action}, declared.{config.Config.Config, operations.Op.Op, views.View.View, work.Phase.Phase}}
 use Rattle.node_words.specs.Nodes.{opens_in}
 use Rattle.freeze_levels.proofs.holder_laws.HolderLaws.{opens as holders_open}
-use Rattle.freeze_laws.proofs.levels.CitedLaws.{opening_is_right}
+use Rattle.freeze_laws.proofs.{levels.CitedLaws.{opening_is_right}, stages.CitedLaws.{opening_is_right as stages_open}}
 use Rattle.mount_counts.specs.Roles.{counted, mount_shut, processor_of, sought}
-use Rattle.freeze_laws.proofs.stages.CitedLaws.{opening_is_right as stages_open}
 use Rattle.std.proofs.{Common.{ap, arith, false, inl, inr, refl, subst, sym, true≢false, ℕ, ◌%◌, ◌*◌, ◌<◌, ◌∙◌, ◌≡◌, ◌≤◌}, Math.Path.fun_ext}
 use Rattle.std.proofs.lemmas.Bool.{cases_Bool, ltb-true, Decides.eqb_tells}
 use Rattle.std.specs.Prelude.{List, None, Option, Some, [], is_some, nat_lt, ◌∷◌}
-use Rattle.gate_schedules.proofs.trees.Each.{opening_holds}
 
 pub idle_is : (p : Option Phase) → is_some p ≡ false → p ≡ None
 idle_is None h = refl

@@ -1,6 +1,5 @@
 -- A snapshot under way stands in a frozen tree, from its load of stage 4 to its release.
-use Rattle.std.{proofs.Common.{◌≡◌, ℕ, subst}, specs.Prelude.{Some}}
-use Rattle.std.proofs.Common.{arith}
+use Rattle.std.{proofs.Common.{◌≡◌, ℕ, subst, arith}, specs.Prelude.{Some}}
 use Rattle.gated_tree.specs.{Calls.{words_loaded, reading}, Roles.RoleHolds, declared.snapshots.SnapshotStep.SnapshotStep}
 use Rattle.freeze_laws.specs.stages.Roles.{KnowsStage}
 use Rattle.gate_world.specs.{Headline.SnapshotsStand, Rules.{IsGood, Stages, Tree, stage_role_of}, traces.Snapshots.values_noted}

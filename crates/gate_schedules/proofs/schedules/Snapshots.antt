@@ -1,6 +1,5 @@
 -- Each last snapshot has its moment in the history, and keeps it.
-use Rattle.std.proofs.{Common.{◌≡◌, ℕ, ◌<◌, refl, sym, subst, ap, ◌∙◌, inl, inr}, lemmas.Bool.{cases_Bool, ltb-true}}
-use Rattle.std.proofs.Common.{arith}
+use Rattle.std.proofs.{Common.{◌≡◌, ℕ, ◌<◌, refl, sym, subst, ap, ◌∙◌, inl, inr, arith}, lemmas.Bool.{cases_Bool, ltb-true}}
 use Rattle.std.specs.Prelude.{nat_lt, Option, Some, None, List, [], ◌∷◌, length, slice_index}
 use Rattle.finite_sums.proofs.Totals.{each_updated, total_same}
 use Rattle.access_model.specs.{Histories.{Done, end_of, IsLegal, own_part, IsMerge}, States.{State, size_of, IsDirectory}}
@@ -12,8 +11,7 @@ use Rattle.gate_world.specs.{Beginnings.{view_refusal}, Configs.{IsWithin, model
 use Rattle.gate_world.specs.{Moments.{HasMoment, AllHaveMoments, IsPresentTree, CompletesNow}, Rules.{IsGood, Moves}, Shown.shown}
 use Rattle.gate_world.specs.{traces.Snapshots.{completes, last_snapshot}, Views.{view_after_with_others}}
 use Rattle.gate_world.specs.Worlds.{World, begin_of, after_step_with_others, step_of, happens, phase_action, action_of, task_of, with_action}
-use Rattle.gate_world.specs.declared.entries.Entry.{Entry, TheVariants.{Begins, Steps}}
-use Rattle.gate_world.specs.Worlds.{found_at, value_at, run, history}
+use Rattle.gate_world.specs.{declared.entries.Entry.{Entry, TheVariants.{Begins, Steps}}, Worlds.{found_at, value_at, run, history}}
 use Rattle.gate_world.specs.declared.{config.Config.Config, operations.Op.Op, views.{Snapshot.Snapshot, View.View}, work.Phase.Phase}
 use Rattle.gate_schedules.proofs.{operations.AllOperations.phase_keeps, schedules.{Lists.{lists, happens_lists}, Schedule.{happens_keeps, legal_more}}}
 use Rattle.gate_schedules.proofs.trees.worlds.Frozen.{frozen_whole}

@@ -1,6 +1,5 @@
 -- The marks that a trace has cleared are nothing that a task holds.
-use Rattle.std.{proofs.{Common.{◌≡◌, ℕ}}, specs.Prelude.{List, [], ◌∷◌, ◌++◌}}
-use Rattle.std.proofs.Common.{arith}
+use Rattle.std.{proofs.Common.{◌≡◌, ℕ, arith}, specs.Prelude.{List, [], ◌∷◌, ◌++◌}}
 use Rattle.access_model.specs.declared.actions.Action.{Action}
 use Rattle.cpu_words.specs.declared.{events.Touch.Touch, names.WordName.WordName}
 use Rattle.gate_world.specs.{traces.Found.{clean_found, cleans}, Holdings.holdings_of, declared.views.Traced.Traced}

@@ -1,6 +1,5 @@
 -- What a trace says, kept from each event to the next.
-use Rattle.std.{proofs.Common.{ℕ}, specs.Prelude.{List, [], ◌∷◌}}
-use Rattle.std.proofs.Common.{arith}
+use Rattle.std.{proofs.Common.{ℕ, arith}, specs.Prelude.{List, [], ◌∷◌}}
 use Rattle.access_model.specs.declared.{actions.Action.Action, replies.Next.Next}
 use Rattle.cpu_words.specs.{Hooks.HookAnswer, Touches.{event_of, found_by}, declared.events.Event.Event}
 use Rattle.gate_world.specs.{Beginnings.first_phase, traces.TraceStates.{trace_state_after, state_of_trace, IsEventOf, IsNext, IsTrace, ReadIsValid}}

@@ -1,7 +1,5 @@
 -- Each view follows its operation, after every schedule.
-use Rattle.std.proofs.Common.{◌≡◌, ℕ, refl, ap, inl, inr, ◌<◌}
-use Rattle.std.proofs.Common.{arith}
-use Rattle.std.proofs.lemmas.Bool.{cases_Bool, cases_lt, lt-ltb, le-ltb}
+use Rattle.std.proofs.{Common.{◌≡◌, ℕ, refl, ap, inl, inr, ◌<◌, arith}, lemmas.Bool.{cases_Bool, cases_lt, lt-ltb, le-ltb}}
 use Rattle.std.specs.Prelude.{Option, Some, None, nat_lt, List, ◌∷◌, ◌++◌}
 use Rattle.finite_sums.proofs.Totals.{each_updated}
 use Rattle.access_model.specs.declared.{actions.Action.Action, errors.GateError.GateError, replies.Next.Next}

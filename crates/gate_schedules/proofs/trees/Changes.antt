@@ -7,12 +7,10 @@ use Rattle.access_model.specs.States.{size_of, is_dirty, is_removed, one_if, IsF
 use Rattle.access_model.specs.declared.actions.{Action.Action, Kind.Kind, NodeInfo.NodeInfo}
 use Rattle.node_words.proofs.Words.{word_shows, word_opens, file_is_node, lawful_file, new_is_node, free_is_node}
 use Rattle.node_words.specs.Nodes.{IsLawful, opens_in, word_of, info_of, node_shown, new_node, grown_node, moved_node, marked_node, opened_node, closed_node}
-use Rattle.node_words.specs.Nodes.{unlinked_node}
+use Rattle.node_words.specs.{Nodes.{unlinked_node}, declared.nodes.NodeWord.{NodeWord}}
 use Rattle.gated_tree.specs.Roles.{Role, Out, Loaded, Placing, Moving, Charged, Freed, Returning, Removing, Freeing, Dropped, Bounds, TreeState, AreWithin}
 use Rattle.gated_tree.specs.Roles.{charge, child_charge, removal, frees, IsFileNode, IsLastOpen, MayGrow, IsDirectoryAt, HasParent, RoleHolds, TreeHolds}
-use Rattle.gated_tree.specs.Roles.{NobodyReads, MayDirty, NobodyElseFrees}
-use Rattle.node_words.specs.declared.nodes.NodeWord.{NodeWord}
-use Rattle.gated_tree.specs.Trees.{is_same, has_parent}
+use Rattle.gated_tree.specs.{Roles.{NobodyReads, MayDirty, NobodyElseFrees}, Trees.{is_same, has_parent}}
 use Rattle.gate_schedules.{proofs.trees.Laws.{role_says, not_freed, node_changes}, specs.trees.Events.{with_node, tree_shown, opens_shown, TreeDoes, MayClean}}
 
 -- a file, as the model has it

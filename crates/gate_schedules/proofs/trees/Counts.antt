@@ -5,11 +5,10 @@ use Rattle.finite_sums.{proofs.Totals.{each_updated, total_bound, total_at}, spe
 use Rattle.access_model.specs.{States.{is_removed, one_if}, declared.actions.{Kind.Kind, NodeInfo.NodeInfo}}
 use Rattle.cpu_words.specs.Touches.{wrap_add, wrap_sub}
 use Rattle.node_words.proofs.Words.{file_loaded, any_file_loaded, directory_loaded, word_shows}
-use Rattle.node_words.specs.Nodes.{node_shown, info_of, file_in, any_file_in, directory_in}
+use Rattle.node_words.specs.{Nodes.{node_shown, info_of, file_in, any_file_in, directory_in}, declared.nodes.NodeWord.{NodeWord}}
 use Rattle.gated_tree.specs.Roles.{Role, Out, Loaded, Found, Placing, Targets, Moving, Growing, Charged, Refunding, Freed, Returning, Removing, Freeing}
 use Rattle.gated_tree.specs.Roles.{Dropped, Uncounting, Bare, Bounds, TreeState, AreWithin, charge, child_charge, removal, IsFileNode, MayGrow, IsDirectoryAt}
 use Rattle.gated_tree.specs.Roles.{HasParent, RoleHolds, TreeHolds, NobodyReads, MayRemove, HasNoCharge}
-use Rattle.node_words.specs.declared.nodes.NodeWord.{NodeWord}
 use Rattle.gated_tree.specs.Trees.{is_same, has_parent, is_child}
 use Rattle.gate_schedules.proofs.frames.Openers.{one_le}
 use Rattle.gate_schedules.{proofs.trees.Laws.{same_here, same_off, role_says, all_change, counts_change, moves}, specs.trees.Events.{turned, with_used, with_kids, with_removed}}

@@ -10,8 +10,7 @@ use Rattle.gate_schedules.proofs.trees.Changes.{creates, removes, marks_removed,
 use Rattle.gate_schedules.proofs.trees.Clearings.{seals, opens, goes_bare, stops_bare, clearing_begins, clears, passes, clearing_ends, snapshot_begins, snapshot_loads}
 use Rattle.gate_schedules.proofs.trees.Counts.{looks, finds_directory, finds_file, finds_target, finds_room, leaves, create_fails, move_fails, grow_fails, charges_blocks}
 use Rattle.gate_schedules.proofs.trees.Counts.{refunds_blocks, frees_blocks, drops_blocks, remove_fails, counts_removal, uncounts, finds_last, finds_none, create_adds}
-use Rattle.gate_schedules.proofs.trees.Counts.{move_adds, subtracts_child}
-use Rattle.gate_schedules.proofs.trees.Laws.{role_says}
+use Rattle.gate_schedules.proofs.trees.{Counts.{move_adds, subtracts_child}, Laws.{role_says}}
 use Rattle.gate_schedules.specs.trees.Events.{Event, MovesBy, opening_tree, turned, FindsDirectory, FindsFile, FindsTarget, FindsRoom, Looks}
 use Rattle.gate_schedules.specs.trees.Events.{Leaves, CreateFails, MoveFails, RemoveFails, GrowFails, ChargesBlocks, RefundsBlocks, FreesBlocks, DropsBlocks}
 use Rattle.gate_schedules.specs.trees.Events.{CountsRemoval, Uncounts, CreateAdds, MoveAdds, SubtractsChild, Creates, Removes, MarksRemoved, Grows, Moves, Dirties}

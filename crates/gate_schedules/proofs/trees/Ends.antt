@@ -5,19 +5,15 @@ use Rattle.std.specs.Prelude.{◌==◌, ◌&&◌, Option, Some, None, Result, Ok
 use Rattle.access_model.specs.declared.{actions.Action.Action, errors.GateError.GateError, replies.{Next.Next, Reply.Reply}}
 use Rattle.cpu_words.specs.{Touches.{event_of, found_by}, declared.events.Event.Event}
 use Rattle.node_words.proofs.Refused.{file_refused, directory_refused, taken_some, size_loaded}
-use Rattle.node_words.specs.Nodes.{kind_in, word_of, unpacked, file_in, directory_in, node_after}
-use Rattle.node_words.specs.Phases.{after_look}
+use Rattle.node_words.specs.{Nodes.{kind_in, word_of, unpacked, file_in, directory_in, node_after}, Phases.{after_look}}
+use Rattle.node_words.specs.declared.nodes.NodeWord.{NodeWord}
 use Rattle.gated_tree.specs.Phases.{create_next, create_looked, at_create, remove_next, removes_file, at_remove, grow_next, at_grow, move_next}
 use Rattle.gated_tree.specs.Phases.{at_move, mark_next, mark_done, at_mark, open_next, at_open, opens_from, snapshot_next, snapshot_locked_out, node_step}
 use Rattle.gated_tree.specs.Phases.{kids_step}
 use Rattle.gated_tree.specs.Refusals.{CreateHonest, FileHonest, GrowHonest, MoveHonest, SnapshotHonest, finds_free, finds_gone, finds_taken, finds_file}
 use Rattle.gated_tree.specs.Refusals.{finds_directory, finds_large, finds_full, finds_other, finds_owner, finds_thawed}
 use Rattle.gated_tree.specs.declared.changes.{Create.Create, CreateStep.CreateStep, MoveStep.MoveStep, MoveTo.MoveTo, Remove.Remove, RemoveStep.RemoveStep}
-use Rattle.node_words.specs.declared.nodes.NodeWord.{NodeWord}
-use Rattle.gated_tree.specs.declared.growth.Grow.{Grow}
-use Rattle.gated_tree.specs.declared.growth.GrowStep.{GrowStep}
-use Rattle.gated_tree.specs.declared.marks.Mark.{Mark}
-use Rattle.gated_tree.specs.declared.marks.MarkStep.{MarkStep}
+use Rattle.gated_tree.specs.declared.{growth.{Grow.{Grow}, GrowStep.{GrowStep}}, marks.{Mark.{Mark}, MarkStep.{MarkStep}}}
 use Rattle.gated_tree.specs.declared.{opens.{OpenFile.OpenFile, OpenStep.OpenStep}, snapshots.{Snapshot.Snapshot, SnapshotStep.SnapshotStep}}
 use Rattle.gate_schedules.specs.trees.Ends.{action_if_done, remove_added, move_added, create_adds, IsReply, IsNodeReply, CreateKnows, RemoveKnows, GrowKnows, MoveAnswers}
 use Rattle.gate_schedules.specs.trees.Ends.{MoveKnows, SnapshotAnswers, SnapshotKnows, NextIsJustified, SeesMore, CreateEnds, RemoveEnds, GrowEnds, MoveEnds, MarkEnds, OpenEnds}

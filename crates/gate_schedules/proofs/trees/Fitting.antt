@@ -1,28 +1,18 @@
 -- The numbers of a phase stay in range, and each word of its events is there.
-use Rattle.std.proofs.{Common.{◌≡◌, ℕ, Bool, true, false, ◌<◌, arith}}
-use Rattle.std.proofs.lemmas.Grind.{common_steps}
+use Rattle.std.proofs.{Common.{◌≡◌, ℕ, Bool, true, false, ◌<◌, arith}, lemmas.Grind.{common_steps}}
 use Rattle.std.specs.Prelude.{◌==◌, Option, Some, Result, Ok, if◌then◌else◌}
 use Rattle.access_model.specs.{Replies.map_next, declared.{errors.GateError.GateError, replies.Next.Next}}
 use Rattle.cpu_words.specs.Hooks.{HookAnswer}
 use Rattle.node_words.proofs.Words.{file_narrow}
 use Rattle.gated_tree.specs.Calls.{CreateStepFits, RemoveStepFits, MoveStepFits, SnapshotStepFits, TreePhaseFits, NextFits}
-use Rattle.node_words.specs.Nodes.{word_of, file_in, directory_in}
-use Rattle.node_words.specs.Phases.{after_look}
 use Rattle.gated_tree.specs.Phases.{after, create_after, remove_after, grow_after}
-use Rattle.gated_tree.specs.Phases.{move_after, at_move, mark_after, open_after, snapshot_after}
-use Rattle.node_words.specs.Phases.{clear_after}
-use Rattle.gated_tree.specs.Roles.{Bounds, AreWithin}
+use Rattle.gated_tree.specs.{Phases.{move_after, at_move, mark_after, open_after, snapshot_after}, Roles.{Bounds, AreWithin}}
 use Rattle.gated_tree.specs.declared.changes.{Create.Create, CreateStep.CreateStep, MoveStep.MoveStep, MoveTo.MoveTo, Remove.Remove, RemoveStep.RemoveStep}
-use Rattle.node_words.specs.declared.marks.ClearMarks.{ClearMarks}
-use Rattle.gated_tree.specs.declared.growth.Grow.{Grow}
-use Rattle.gated_tree.specs.declared.growth.GrowStep.{GrowStep}
-use Rattle.gated_tree.specs.declared.marks.Mark.{Mark}
-use Rattle.gated_tree.specs.declared.marks.MarkStep.{MarkStep}
-use Rattle.node_words.specs.declared.nodes.NodeWord.{NodeWord}
-use Rattle.gated_tree.specs.declared.opens.OpenFile.{OpenFile}
-use Rattle.gated_tree.specs.declared.opens.OpenStep.{OpenStep}
-use Rattle.gated_tree.specs.declared.phases.TreePhase.{TreePhase}
+use Rattle.gated_tree.specs.declared.{growth.{Grow.{Grow}, GrowStep.{GrowStep}}, marks.{Mark.{Mark}, MarkStep.{MarkStep}}}
+use Rattle.gated_tree.specs.declared.{opens.{OpenFile.{OpenFile}, OpenStep.{OpenStep}}, phases.TreePhase.{TreePhase}}
 use Rattle.gated_tree.specs.declared.snapshots.{Snapshot.Snapshot, SnapshotStep.SnapshotStep}
+use Rattle.node_words.specs.{Nodes.{word_of, file_in, directory_in}, Phases.{after_look, clear_after}}
+use Rattle.node_words.specs.declared.{marks.ClearMarks.{ClearMarks}, nodes.NodeWord.{NodeWord}}
 
 module _ (c : Bounds) (within : AreWithin c) (t : ℕ) where
   -- what comes after a look at a node

@@ -5,12 +5,10 @@ use Rattle.std.specs.Prelude.{◌⊎◌, Option, Some, None, nat_lt}
 use Rattle.finite_sums.{proofs.Totals.{each_updated, total_updated, total_changed_by, total_at}, specs.Sums.{update, total}}
 use Rattle.access_model.specs.{States.{size_of, is_dirty, is_removed, one_if, IsDirectory}, declared.actions.{Kind.Kind, NodeInfo.NodeInfo}}
 use Rattle.node_words.proofs.Words.{word_shows, word_opens}
-use Rattle.node_words.specs.Nodes.{IsNode, opens_in, info_of, node_shown}
+use Rattle.node_words.specs.{Nodes.{IsNode, opens_in, info_of, node_shown}, declared.nodes.NodeWord.{NodeWord}}
 use Rattle.gated_tree.specs.Roles.{Role, Loaded, Found, Placing, Targets, Moving, Freeing, Bare, Clearing, Reading, Bounds, TreeState, charge, child_charge}
 use Rattle.gated_tree.specs.Roles.{removal, frees, is_bare, cleared, words_read, tree_word, seen_as, IsLastOpen, HasParent, RoleHolds, TreeHolds, NobodyReads}
-use Rattle.gated_tree.specs.Roles.{MayDirty}
-use Rattle.node_words.specs.declared.nodes.NodeWord.{NodeWord}
-use Rattle.gated_tree.specs.Trees.{is_same, has_parent, is_child}
+use Rattle.gated_tree.specs.{Roles.{MayDirty}, Trees.{is_same, has_parent, is_child}}
 use Rattle.gate_schedules.specs.trees.Events.{turned, with_node}
 
 pub same_here : (d : ℕ) → is_same d d ≡ 1

@@ -7,27 +7,21 @@ use Rattle.access_model.specs.declared.{actions.{Action.Action, Kind.Kind}, erro
 use Rattle.cpu_words.specs.{Words.{Words, read, put}, declared.{events.Touch.Touch, names.WordName.WordName}}
 use Rattle.gated_tree.specs.Calls.{create_role, remove_role, grow_role, move_role, mark_role, open_role, role_after, CreateStepFits, RemoveStepFits}
 use Rattle.gated_tree.specs.Calls.{OpenStepFits}
-use Rattle.node_words.specs.Nodes.{word_of, unpacked, file_in, directory_in, node_after, marked_node}
-use Rattle.node_words.specs.Phases.{after_look}
 use Rattle.gated_tree.specs.Phases.{create_next, create_looked, create_looks_at, create_past, create_after, at_create, remove_next, remove_after}
 use Rattle.gated_tree.specs.Phases.{removes_file, at_remove, grow_next, grow_from, grow_after, at_grow, move_next, move_after, at_move, mark_next, mark_done}
 use Rattle.gated_tree.specs.Phases.{mark_after, at_mark, open_next, open_after, at_open, opens_from}
 use Rattle.gated_tree.specs.Roles.{Role, Out, Loaded, Found, Growing, Charged, Refunding, Returning, Uncounting, Bounds, TreeState, AreWithin, TreeHolds}
 use Rattle.gated_tree.specs.Roles.{NobodyReads, MayDirty, MayRemove, HasNoCharge}
 use Rattle.gated_tree.specs.declared.changes.{Create.Create, CreateStep.CreateStep, MoveStep.MoveStep, MoveTo.MoveTo, Remove.Remove, RemoveStep.RemoveStep}
-use Rattle.node_words.specs.declared.nodes.NodeWord.{NodeWord}
-use Rattle.gated_tree.specs.declared.growth.Grow.{Grow}
-use Rattle.gated_tree.specs.declared.growth.GrowStep.{GrowStep}
-use Rattle.gated_tree.specs.declared.marks.Mark.{Mark}
-use Rattle.gated_tree.specs.declared.marks.MarkStep.{MarkStep}
+use Rattle.gated_tree.specs.declared.{growth.{Grow.{Grow}, GrowStep.{GrowStep}}, marks.{Mark.{Mark}, MarkStep.{MarkStep}}}
 use Rattle.gated_tree.specs.declared.opens.{OpenFile.OpenFile, OpenStep.OpenStep}
+use Rattle.node_words.specs.{Nodes.{word_of, unpacked, file_in, directory_in, node_after, marked_node}, Phases.{after_look}}
+use Rattle.node_words.specs.declared.nodes.NodeWord.{NodeWord}
 use Rattle.gate_schedules.proofs.trees.Counts.{looks, leaves, finds_directory, finds_file, finds_target, finds_room, create_fails, remove_fails, move_fails, grow_fails}
-use Rattle.gate_schedules.proofs.trees.Counts.{charges_blocks}
-use Rattle.gate_schedules.proofs.trees.Each.{each_event}
+use Rattle.gate_schedules.proofs.trees.{Counts.{charges_blocks}, Each.{each_event}}
 use Rattle.gate_schedules.specs.trees.Events.{Event, tree_shown, opens_shown, turned, MarksRemoved as MarksOne, OpensFile as OpensIt, CountsRemoval, Uncounts}
 use Rattle.gate_schedules.specs.trees.Events.{RefundsBlocks as TakesBack, FreesBlocks, CreateAdds, MoveAdds, SubtractsChild, Creates, Removes, Grows, Moves, Dirties}
-use Rattle.gate_schedules.specs.trees.Events.{Flushes}
-use Rattle.gate_schedules.specs.trees.Steps.{tree_in, words_left, found_at, EventKeeps, MayMark}
+use Rattle.gate_schedules.specs.trees.{Events.{Flushes}, Steps.{tree_in, words_left, found_at, EventKeeps, MayMark}}
 
 -- a write of what is there leaves the tree
 same_tree : (sealed bare : ℕ) (w : Words) (at : ℕ → Role) (name : WordName) → tree_in sealed bare (put w name (read w name)) at ≡ tree_in sealed bare w at

@@ -5,14 +5,11 @@ use Rattle.std.specs.Prelude.{is_some, Ok, Err}
 use Rattle.finite_sums.{proofs.Totals.{update_at}, specs.Sums.update}
 use Rattle.cpu_words.specs.{Words.Words, declared.names.WordName.WordName}
 use Rattle.node_words.proofs.Packing.{packed_unpacks}
-use Rattle.node_words.specs.Nodes.{dirty_in, unpacked}
+use Rattle.node_words.specs.{Nodes.{dirty_in, unpacked}, Phases.{clear_next, clear_after}, declared.marks.ClearMarks.{ClearMarks}}
 use Rattle.gated_tree.specs.Calls.{snapshot_role, role_after, SnapshotStepFits}
-use Rattle.node_words.specs.Phases.{clear_next, clear_after}
 use Rattle.gated_tree.specs.Phases.{snapshot_next, snapshot_after, snapshot_locked_out}
 use Rattle.gated_tree.specs.Roles.{Role, Out, Clearing, Reading, Bounds, TreeState, AreWithin, TreeHolds, HasNoCharge, tree_word, seen_as}
-use Rattle.node_words.specs.declared.marks.ClearMarks.{ClearMarks}
-use Rattle.gated_tree.specs.declared.snapshots.Snapshot.{Snapshot}
-use Rattle.gated_tree.specs.declared.snapshots.SnapshotStep.{SnapshotStep}
+use Rattle.gated_tree.specs.declared.snapshots.{Snapshot.{Snapshot}, SnapshotStep.{SnapshotStep}}
 use Rattle.gate_schedules.proofs.trees.{Clearings.{clears, passes, snapshot_begins, snapshot_loads}, Counts.leaves, Steps.{leaves_word, ends_free, stays_at}}
 use Rattle.gate_schedules.specs.trees.{Events.{turned, MayClean}, Steps.{tree_in, words_left, found_at, EventKeeps, NotesLoad}}
 

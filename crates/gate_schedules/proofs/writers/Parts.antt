@@ -15,8 +15,7 @@ use Rattle.gate_world.specs.Rules.{Fitting, Holding, Holds, IsGood, Known, Moves
 use Rattle.gate_world.specs.{Rules.{owns, stage_role_of, stage_roles}, Shown.shown, Views.{added_by, has_open, held_of, phase_after, taken_by}, Worlds.World}
 use Rattle.gate_world.specs.{Worlds.{after_step, phase_action, value_at}, declared.{config.Config.Config, views.View.View, work.Phase.Phase}}
 use Rattle.node_words.specs.Nodes.{node_shown, opens_in}
-use Rattle.percpu_rwsem.specs.{Writers.at_down_write}
-use Rattle.percpu_rwsem.specs.Writers.{down_write_after, down_write_next}
+use Rattle.percpu_rwsem.specs.Writers.{at_down_write, down_write_after, down_write_next}
 use Rattle.percpu_rwsem.specs.declared.writers.{DownWrite.DownWrite, DownWriteStep.DownWriteStep}
 use Rattle.freeze_laws.specs.stages.{Events.{StageEvent, action_of as stage_action_of}, Shown.{AsksOthers, ShowsStages, state_after}}
 use Rattle.std.proofs.{Common.{ap, arith, false, inl, inr, refl, subst, sym, true, true≢false, ℕ, ◌<◌, ◌∙◌, ◌≡◌, ◌⊎◌}, lemmas.Bool.cases_Bool}

@@ -8,8 +8,7 @@ use Rattle.cpu_words.specs.{Sums.{ahead, lead}, Touches.{left, found_by, wrap_ad
 use Rattle.cpu_words.proofs.gate_counts.Numbers.{ahead_past, ahead_step}
 use Rattle.percpu_rwsem.specs.{Graces.looked, SyncWords.{unpack, is_passed, on_enter, on_exit, on_callback}, Transitions.{transition_next, transition_after}}
 use Rattle.percpu_rwsem.specs.Writers.{down_write_next, down_write_after, at_down_write, enter_step, callback_step, sections_awaited}
-use Rattle.percpu_rwsem.specs.Writers.{up_write_next, up_write_after, exit_made}
-use Rattle.percpu_rwsem.specs.declared.{grace.GraceNext.GraceNext}
+use Rattle.percpu_rwsem.specs.{Writers.{up_write_next, up_write_after, exit_made}, declared.grace.GraceNext.{GraceNext}}
 use Rattle.percpu_rwsem.specs.declared.transitions.{Transition.Transition, TransitionNext.TransitionNext}
 use Rattle.percpu_rwsem.specs.declared.writers.{DownWrite.DownWrite, DownWriteStep.DownWriteStep, UpWrite.UpWrite, UpWriteStep.UpWriteStep}
 use Rattle.freeze_laws.specs.levels.{Operations.{down_write_role, up_write_role}, Roles.{SyncRole, Past, Entered, entering, entered, closed}}

@@ -1,6 +1,5 @@
 -- Events of a down-write and of an up-write: the words that they leave, the counts, and what they add.
-use Rattle.std.{proofs.Common.{◌≡◌, ℕ, ◌<◌, refl, sym, ◌∙◌, subst}, specs.Prelude.{◌==◌, if◌then◌else◌, Option, Some, None}}
-use Rattle.std.proofs.Common.{arith}
+use Rattle.std.{proofs.Common.{◌≡◌, ℕ, ◌<◌, refl, sym, ◌∙◌, subst, arith}, specs.Prelude.{◌==◌, if◌then◌else◌, Option, Some, None}}
 use Rattle.finite_sums.specs.Sums.{update}
 use Rattle.access_model.specs.{Actions.after_action, States.State, declared.{actions.Action.Action}}
 use Rattle.cpu_words.specs.{Sums.sum_taking, Touches.left, Words.{Words, read, put}, declared.sums.Taken.Taken}
@@ -13,8 +12,7 @@ use Rattle.freeze_levels.specs.Holders.{holders_in}
 use Rattle.freeze_laws.specs.stages.{Events.{StageEvent, action_of as stage_action_of}, Shown.state_after}
 use Rattle.gate_world.specs.{Configs.{IsWithin, model_limits}, Levels.{level_added_after, level_taken_after}, Rules.{Holds, IsGood, Tree, ViewFits}}
 use Rattle.gate_world.specs.{Rules.{holder_role_of, owns}, Shown.shown, Trees.{is_bare_at, is_sealed, tree_bounds, tree_of, tree_role_of, tree_roles}}
-use Rattle.gate_world.specs.Views.{added_after}
-use Rattle.gate_world.specs.{Views.taken_after, Worlds.World, declared.{config.Config.Config, views.View.View}}
+use Rattle.gate_world.specs.{Views.{added_after, taken_after}, Worlds.{World}, declared.{config.Config.{Config}, views.View.{View}}}
 use Rattle.gate_schedules.proofs.frames.{Frames.{unwritten, left_alone}, Holders.holders_stay, OperationLaws.by_bool, Stages.{IsStageEvent, stages_in}}
 use Rattle.gate_schedules.proofs.{levels.LevelPositions.{LevelsHold, left_world}, trees.worlds.Trees.{tree_then, tree_after}, writers.Owner.owner_stays}
 use Rattle.gate_schedules.proofs.writers.Parts.{IsWriter, SameAtMounts, LeavesRest, AsksWhere, WriterLaw, writer_law}

@@ -5,8 +5,7 @@ use Rattle.access_model.specs.declared.replies.Next.{Next, TheVariants.{Go, Wait
 use Rattle.cpu_words.specs.{Hooks.HookAnswer, Words.Words}
 use Rattle.gated_tree.specs.declared.phases.TreePhase.{TreePhase, TheVariants.Snapshot as Snapshots}
 use Rattle.gated_tree.specs.declared.snapshots.SnapshotStep.{SnapshotStep, TheVariants.Locks as SnapshotLocks}
-use Rattle.mount_counts.specs.Phases.{has_flag}
-use Rattle.mount_counts.specs.declared.phases.ChangeStep.{ChangeStep, TheVariants.Locks as ChangeLocks}
+use Rattle.mount_counts.specs.{Phases.{has_flag}, declared.phases.ChangeStep.{ChangeStep, TheVariants.{Locks as ChangeLocks}}}
 use Rattle.mount_counts.specs.declared.phases.MountPhase.{MountPhase, TheVariants.{Want as Wants, Change as Changes}}
 use Rattle.mount_counts.specs.declared.remounts.RemountStep.{RemountStep, TheVariants.Locks as RemountLocks}
 use Rattle.percpu_rwsem.specs.declared.readers.DownRead.{DownRead}
@@ -15,8 +14,7 @@ use Rattle.freeze_levels.specs.declared.thaws.ThawStep.{ThawStep, TheVariants.Lo
 use Rattle.composite_ops.specs.declared.write_access.phases.WritePhase.{WritePhase, TheVariants.{Takes, Wants as WriteWants}}
 use Rattle.composite_ops.specs.declared.file_closes.phases.ClosePhase.{ClosePhase, TheVariants.{LoadsFile, Enters as EntersLevel}}
 use Rattle.gate_world.specs.{Configs.IsWithin, Rules.IsGood, Work.after_of, Worlds.{World, words_after, found_at}}
-use Rattle.gate_world.specs.declared.config.Config.{Config}
-use Rattle.gate_world.specs.declared.work.Phase.{Phase}
+use Rattle.gate_world.specs.declared.{config.Config.{Config}, work.Phase.{Phase}}
 use Rattle.gate_world.specs.declared.work.Phase.TheVariants.{Mounts, Remounts, DownReads, Callbacks, Writes, Freezes, Thaws, Trees}
 use Rattle.gate_world.specs.declared.work.Phase.TheVariants.{Closes as FileCloses}
 use Rattle.gate_schedules.specs.operations.{Progress.{is_admitted, next_level, is_last_close}, Ranks.rank}

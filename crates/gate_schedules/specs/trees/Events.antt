@@ -7,11 +7,10 @@ use Rattle.access_model.specs.declared.actions.Action.{Action, TheVariants.{Crea
 use Rattle.access_model.specs.declared.actions.{Kind.{Kind, TheVariants.File}, NodeInfo.NodeInfo}
 use Rattle.cpu_words.specs.Touches.{wrap_add, wrap_sub}
 use Rattle.node_words.specs.Nodes.{dirty_in, opens_in, word_of, node_shown, IsLawful, new_node, grown_node, moved_node, marked_node, opened_node, closed_node}
-use Rattle.node_words.specs.Nodes.{unlinked_node, file_in, any_file_in, directory_in}
+use Rattle.node_words.specs.{Nodes.{unlinked_node, file_in, any_file_in, directory_in}, declared.nodes.NodeWord.{NodeWord}}
 use Rattle.gated_tree.specs.Roles.{Role, Out, Loaded, Found, Placing, Targets, Moving, Growing, Charged, Refunding, Freed, Returning, Removing, Freeing}
 use Rattle.gated_tree.specs.Roles.{Dropped, Uncounting, Bare, Clearing, Reading, Bounds, TreeState, tree_word, NobodyReads, MayDirty, MayRemove}
 use Rattle.gated_tree.specs.Roles.{NobodyElseFrees, HasNoCharge}
-use Rattle.node_words.specs.declared.nodes.NodeWord.{NodeWord}
 
 -- the same tree, with another role of task t
 abbrev pub turned : TreeState → ℕ → Role → TreeState

@@ -1,21 +1,12 @@
 -- What an operation has asked, by where it stands: a fact that holds at its first phase, and that each event keeps, holds after each trace.
 use Rattle.std.proofs.Common.{ℕ, Bool, true, false, List, [], ◌∷◌}
 use Rattle.std.specs.Prelude.{if◌then◌else◌}
-use Rattle.access_model.specs.declared.actions.Action.{Action}
-use Rattle.access_model.specs.declared.replies.Next.{Next}
-use Rattle.access_model.specs.declared.replies.Next.TheVariants.{Go, Wait, Done}
+use Rattle.access_model.specs.declared.{actions.Action.{Action}, replies.Next.{Next, TheVariants.{Go, Wait, Done}}}
 use Rattle.cpu_words.specs.Hooks.{HookAnswer}
-use Rattle.gate_world.specs.declared.config.Config.{Config}
-use Rattle.gate_world.specs.declared.operations.Op.{Op}
-use Rattle.gate_world.specs.declared.views.Traced.{Traced}
-use Rattle.gate_world.specs.declared.work.Phase.{Phase}
-use Rattle.gate_world.specs.Beginnings.{first_phase}
-use Rattle.gate_world.specs.traces.TraceStates.{trace_state_after, state_of_trace}
-use Rattle.gate_world.specs.Views.{actions_after}
+use Rattle.gate_world.specs.declared.{config.Config.{Config}, operations.Op.{Op}, views.Traced.{Traced}, work.Phase.{Phase}}
+use Rattle.gate_world.specs.{Beginnings.{first_phase}, traces.TraceStates.{trace_state_after, state_of_trace}, Views.{actions_after}}
 use Rattle.gate_world.specs.Work.{after_of}
-use Rattle.gate_steps.specs.Seating.{DealtNumbers}
-use Rattle.gate_steps.specs.call_events.Asking.{Ask, asks_with, asks_of, call_at, next_call}
-use Rattle.gate_steps.specs.call_events.Runs.{items_at}
+use Rattle.gate_steps.specs.{Seating.{DealtNumbers}, call_events.{Asking.{Ask, asks_with, asks_of, call_at, next_call}, Runs.{items_at}}}
 use Rattle.gate_steps.specs.call_events.SeatedTasks.{own_number}
 
 -- what comes next, whichever of two it is

@@ -1,18 +1,14 @@
 -- The hooks that one event more asks, and those of a whole call.
-use Rattle.std.proofs.Common.{arith}
-use Rattle.std.proofs.Common.{◌≡◌, ℕ, List, ap, sym, subst, ◌∙◌}
+use Rattle.std.proofs.Common.{arith, ◌≡◌, ℕ, List, ap, sym, subst, ◌∙◌}
 use Rattle.std.specs.Prelude.{Option, Some, None, Result, Ok, Err}
-use Rattle.access_model.specs.declared.errors.GateError.{GateError}
-use Rattle.access_model.specs.declared.replies.Reply.{Reply}
+use Rattle.access_model.specs.declared.{errors.GateError.{GateError}, replies.Reply.{Reply}}
 use Rattle.gate_schedules.specs.Answers.{unless_refused}
 use Rattle.gate_world.specs.declared.operations.Op.{Op}
-use Rattle.gate_steps.specs.call_events.Runs.{told_as, the_reply}
-use Rattle.gate_steps.specs.call_events.SeatedTasks.{SeatedTask, refusal_at}
+use Rattle.gate_steps.specs.{call_events.{Runs.{told_as, the_reply}, SeatedTasks.{SeatedTask, refusal_at}}, Seating.{DealtNumbers}}
+use Rattle.gate_steps.specs.call_events.Asking.{Ask, asks_with, WereAsked, CalledAsking, RepliesAsking}
 use Rattle.gate_steps.proofs.call_events.Running.{was_done, was_told}
 use Rattle.cpu_words.specs.Hooks.{HookAnswer}
 use Rattle.freeze_levels.specs.declared.hooks.HookCall.{HookCall}
-use Rattle.gate_steps.specs.Seating.{DealtNumbers}
-use Rattle.gate_steps.specs.call_events.Asking.{Ask, asks_with, WereAsked, CalledAsking, RepliesAsking}
 
 module _ {H : Type 0} (answers : HookCall → DealtNumbers → H → HookAnswer → H → Type 0) where
   -- the hook that is wanted was asked at this moment, and no other

@@ -1,27 +1,14 @@
 -- The hooks that a freeze has asked, by its steps.
-use Rattle.std.proofs.Common.{arith}
-use Rattle.std.proofs.Common.{◌≡◌, ℕ, zero, suc, true, false, List, [], ◌∷◌, refl, ap, subst, inl, inr}
+use Rattle.std.proofs.Common.{arith, ◌≡◌, ℕ, zero, suc, true, false, List, [], ◌∷◌, refl, ap, subst, inl, inr}
 use Rattle.std.specs.Prelude.{◌==◌, if◌then◌else◌, Option, Some, None, Ok, Err}
-use Rattle.access_model.specs.declared.actions.Action.{Action}
-use Rattle.access_model.specs.declared.actions.Action.TheVariants.{Clean}
-use Rattle.access_model.specs.declared.replies.Next.{Next}
-use Rattle.access_model.specs.declared.replies.Next.TheVariants.{Go, Wait, Done}
-use Rattle.access_model.specs.declared.replies.Reply.{Reply}
-use Rattle.access_model.specs.Replies.{map_next}
-use Rattle.access_model.specs.Holders.{held_by}
-use Rattle.cpu_words.specs.Hooks.{HookAnswer}
-use Rattle.cpu_words.specs.declared.sums.Taken.{Taken}
-use Rattle.node_words.specs.declared.marks.ClearMarks.{ClearMarks}
-use Rattle.node_words.specs.Nodes.{dirty_in, node_after}
-use Rattle.node_words.specs.Phases.{clears_at, clear_after}
-use Rattle.percpu_rwsem.specs.declared.grace.GraceNext.{GraceNext}
-use Rattle.percpu_rwsem.specs.declared.sync_word.SyncWord.{SyncWord}
-use Rattle.percpu_rwsem.specs.declared.writers.DownWrite.{DownWrite}
-use Rattle.percpu_rwsem.specs.declared.writers.DownWriteStep.{DownWriteStep}
-use Rattle.percpu_rwsem.specs.declared.writers.UpWrite.{UpWrite}
+use Rattle.access_model.specs.declared.{actions.Action.{Action, TheVariants.{Clean}}, replies.Next.{Next, TheVariants.{Go, Wait, Done}}}
+use Rattle.access_model.specs.{declared.{replies.Reply.{Reply}, actions.Holder.{Holder}}, Replies.{map_next}, Holders.{held_by}}
+use Rattle.cpu_words.specs.{Hooks.{HookAnswer}, declared.sums.Taken.{Taken}}
+use Rattle.node_words.specs.{declared.marks.ClearMarks.{ClearMarks}, Nodes.{dirty_in, node_after}, Phases.{clears_at, clear_after}}
+use Rattle.percpu_rwsem.specs.declared.{grace.GraceNext.{GraceNext}, sync_word.SyncWord.{SyncWord}, writers.DownWrite.{DownWrite}}
+use Rattle.percpu_rwsem.specs.declared.writers.{DownWriteStep.{DownWriteStep}, UpWrite.{UpWrite}}
 use Rattle.percpu_rwsem.specs.Writers.{down_write_after, sections_awaited, passed_awaited, down_write_summed, up_write_after}
-use Rattle.freeze_levels.specs.declared.freezes.Freeze.{Freeze}
-use Rattle.freeze_levels.specs.declared.freezes.FreezeStep.{FreezeStep}
+use Rattle.freeze_levels.specs.declared.freezes.{Freeze.{Freeze}, FreezeStep.{FreezeStep}}
 use Rattle.freeze_levels.specs.declared.freezes.FreezeStep.TheVariants.{
   Locks,
   LoadsStage,
@@ -43,18 +30,10 @@ use Rattle.freeze_levels.specs.declared.freezes.FreezeStep.TheVariants.{
 use Rattle.freeze_levels.specs.declared.hooks.HookCall.TheVariants.{Sync as SyncCall, FreezeFs as FreezeCall}
 use Rattle.freeze_levels.specs.Freezes.{freeze_after, at_freeze, after_closing, after_clearing, after_reopening, level_closed}
 use Rattle.freeze_levels.specs.Holders.{holders_in}
-use Rattle.gate_world.specs.declared.operations.Op.TheVariants.{Freeze as FreezeOp}
-use Rattle.gate_world.specs.declared.work.Phase.{Phase}
-use Rattle.gate_world.specs.declared.work.Phase.TheVariants.{Freezes}
-use Rattle.gate_world.specs.traces.Traces.{actions_of}
-use Rattle.gate_world.specs.Views.{actions_after}
-use Rattle.gate_world.specs.Work.{after_of}
-use Rattle.gate_steps.specs.Seating.{DealtNumbers}
-use Rattle.access_model.specs.declared.actions.Holder.{Holder}
-use Rattle.gate_steps.specs.call_events.Asked.{agreed, OnceAsked, stored_third_stage, AskedByFreeze}
-use Rattle.gate_steps.specs.call_events.Asking.{Ask, asks_with, asks_of, call_at}
-use Rattle.gate_steps.specs.call_events.Runs.{Called}
-use Rattle.gate_steps.specs.call_events.SeatedTasks.{SeatedTask}
+use Rattle.gate_world.specs.declared.{operations.Op.TheVariants.{Freeze as FreezeOp}, work.Phase.{Phase, TheVariants.{Freezes}}}
+use Rattle.gate_world.specs.{traces.Traces.{actions_of}, Views.{actions_after}, Work.{after_of}}
+use Rattle.gate_steps.specs.{Seating.{DealtNumbers}, call_events.Asked.{agreed, OnceAsked, stored_third_stage, AskedByFreeze}}
+use Rattle.gate_steps.specs.call_events.{Asking.{Ask, asks_with, asks_of, call_at}, Runs.{Called}, SeatedTasks.{SeatedTask}}
 use Rattle.gate_steps.proofs.call_events.Asked.{either_way, asked_after}
 
 -- nothing was asked

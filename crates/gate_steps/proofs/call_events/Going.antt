@@ -1,24 +1,21 @@
 -- What an event leaves of a task's fields and view.
-use Rattle.std.proofs.Common.{arith}
+use Rattle.std.proofs.Common.{arith, ◌≡◌, ℕ, Bool, List, [], ◌∷◌, refl, sym, ap, ◌∙◌, subst}
 use Rattle.gate_world.specs.declared.entries.Entry.{Entry}
+use Rattle.gate_world.specs.{Accesses.accesses_after, Fits.{PhaseFits, Fits, ActionFits}, Holdings.{Agree, holdings_of, held_after}, Views.held_of}
+use Rattle.gate_world.specs.{Views.{phase_after, view_after_with_others}, Work.{next_of, after_of}, Worlds.{World, found_at}}
+use Rattle.gate_world.specs.declared.{accesses.Accesses.Accesses, config.Config.Config, operations.Op.Op, views.View.View, work.Phase.Phase}
 use Rattle.gate_steps.specs.Seating.{knows}
-use Rattle.std.proofs.Common.{◌≡◌, ℕ, Bool, List, [], ◌∷◌, refl, sym, ap, ◌∙◌, subst}
+use Rattle.gate_steps.specs.{Seating.{DealtNumbers, numbered, entered, done_by, items_after, HasWitness}, declared.seating.Numbered.Numbered}
+use Rattle.gate_steps.specs.call_events.{Stepped.{found_step, state_after, Stepped}, SeatedTasks.{SeatedTask, task_state}, GhostAgrees.{PhaseOk, OwnNumberAgrees, GhostAgrees}}
 use Rattle.std.specs.Prelude.{Option, Some, None}
 use Rattle.access_model.specs.declared.{actions.Action.Action, replies.Next.Next}
 use Rattle.cpu_words.specs.{Hooks.HookAnswer, Touches.{found_by, event_of}, declared.events.Touch.{Touch}}
 use Rattle.cpu_words.specs.declared.{events.{Event.Event}, names.WordName.WordName}
-use Rattle.gate_world.specs.{Accesses.accesses_after, Fits.{PhaseFits, Fits, ActionFits}, Holdings.{Agree, holdings_of, held_after}, Views.held_of}
-use Rattle.gate_world.specs.{Views.{phase_after, view_after_with_others}, Work.{next_of, after_of}, Worlds.{World, found_at}}
-use Rattle.gate_world.specs.declared.{accesses.Accesses.Accesses, config.Config.Config, operations.Op.Op, views.View.View, work.Phase.Phase}
-use Rattle.gate_schedules.specs.Answers.{progress_of, phase_step}
-use Rattle.gate_schedules.specs.TaskStates.{task_holdings}
-use Rattle.gate_schedules.specs.declared.task_states.TaskState.{TaskState}
+use Rattle.gate_schedules.specs.{Answers.{progress_of, phase_step}, TaskStates.{task_holdings}, declared.task_states.TaskState.{TaskState}}
 use Rattle.gate_schedules.specs.declared.steps.Progress.{Progress}
 use Rattle.gate_schedules.proofs.frames.{Accesses.{holdings_of_after, long_after, wide_after, deep_after, agree_after}, Agreeing.agree_sym}
 use Rattle.gate_schedules.proofs.schedules.Phases.{action_fits, fits_after, fits_agree}
-use Rattle.gate_steps.specs.{Seating.{DealtNumbers, numbered, entered, done_by, items_after, HasWitness}, declared.seating.Numbered.Numbered}
 use Rattle.atomic_table.specs.Seated.{TableId}
-use Rattle.gate_steps.specs.call_events.{Stepped.{found_step, state_after, Stepped}, SeatedTasks.{SeatedTask, task_state}, GhostAgrees.{PhaseOk, OwnNumberAgrees, GhostAgrees}}
 
 -- a view stands where its phase says
 phase_ok : (c : Config) (n : ℕ) (v : View) (o : Option Phase) → v.phase ≡ o → PhaseOk c None o (numbered n v)

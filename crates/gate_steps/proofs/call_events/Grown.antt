@@ -1,21 +1,15 @@
 -- The schedule of a call goes on from all that its task had seen.
-use Rattle.std.proofs.Common.{arith}
-use Rattle.std.proofs.lemmas.Grind.{common_steps}
-use Rattle.std.proofs.Common.{◌≡◌, ℕ, zero, suc, List, [], ◌∷◌, ◌++◌, sym, ap, ◌∙◌, subst}
+use Rattle.std.proofs.{Common.{arith, ◌≡◌, ℕ, zero, suc, List, [], ◌∷◌, ◌++◌, sym, ap, ◌∙◌, subst}, lemmas.Grind.{common_steps}}
 use Rattle.std.proofs.lemmas.List.{append_assoc, append-nil}
-use Rattle.std.specs.Prelude.{Option}
+use Rattle.std.specs.Prelude.{Option, Result}
 use mathlib.Core.Option.{some, some-injective, some-ne-none}
 use lib.ListN.{get_elem?}
-use Rattle.access_model.specs.declared.replies.{Next.{Next, TheVariants.{Done}}, Reply.Reply}
-use Rattle.access_model.specs.declared.errors.GateError.{GateError}
-use Rattle.std.specs.Prelude.{Result}
+use Rattle.access_model.specs.declared.{replies.{Next.{Next, TheVariants.{Done}}, Reply.{Reply}}, errors.GateError.{GateError}}
 use Rattle.cpu_words.specs.Hooks.{HookAnswer}
 use Rattle.gate_world.specs.declared.{config.Config.Config, entries.Entry.Entry, operations.Op.Op, views.Traced.Traced, work.Phase.Phase}
 use Rattle.gate_world.specs.traces.TraceStates.{state_of_trace}
-use Rattle.gate_steps.specs.Seating.{DealtNumbers, IsPrefix, HasWitness}
-use Rattle.gate_steps.specs.call_events.Grown.{AllGoOn, StaySeen}
-use Rattle.gate_steps.specs.call_events.Runs.{items_at, begins_at, IsNextMove, AreMoves, Called}
-use Rattle.gate_steps.specs.call_events.SeatedTasks.{SeatedTask, own_number}
+use Rattle.gate_steps.specs.{Seating.{DealtNumbers, IsPrefix, HasWitness}, call_events.Grown.{AllGoOn, StaySeen}}
+use Rattle.gate_steps.specs.call_events.{Runs.{items_at, begins_at, IsNextMove, AreMoves, Called}, SeatedTasks.{SeatedTask, own_number}}
 
 pub after_more : (a b c : List Entry) → IsPrefix a b → IsPrefix b c → IsPrefix a c
 after_more a b c g h = (g.0 ++ h.0, h.1 ∙ (ap (λ (l : List Entry). l ++ h.0) g.1 ∙ append_assoc a g.0 h.0))

@@ -1,6 +1,5 @@
 -- Where lines of steps lead.
-use Rattle.std.proofs.Common.{arith}
-use Rattle.std.proofs.Common.{◌≡◌, ℕ, List, refl, sym, ap, ◌∙◌, subst}
+use Rattle.std.proofs.Common.{arith, ◌≡◌, ℕ, List, refl, sym, ap, ◌∙◌, subst}
 use Rattle.std.specs.Prelude.{Option, Some, None}
 use Rattle.atomic_table.specs.Seated.{TableId}
 use Rattle.access_model.specs.declared.{actions.Action.Action, replies.Next.{Next, TheVariants.{Go}}}
@@ -9,12 +8,10 @@ use Rattle.cpu_words.specs.declared.names.WordName.{WordName}
 use Rattle.freeze_levels.specs.declared.hooks.HookCall.{HookCall}
 use Rattle.gate_world.specs.{Accesses.accesses_after, Configs.IsWithin, Views.phase_after, Work.{next_of, after_of}}
 use Rattle.gate_world.specs.declared.{accesses.Accesses.Accesses, config.Config.Config, operations.Op.Op, work.Phase.Phase}
-use Rattle.gate_steps.specs.Seating.{DealtNumbers, items_after, HasWitness}
-use Rattle.gate_steps.specs.declared.seating.Knowledge.{Knowledge}
+use Rattle.gate_steps.specs.{Seating.{DealtNumbers, items_after, HasWitness}, declared.seating.Knowledge.{Knowledge}}
 use Rattle.gate_steps.specs.call_events.{Asking.{Ask, asks_with, call_at, OpAfterStepWith}, KnownSteps.{KnownSteps, KnownStepsAsking}}
 use Rattle.gate_steps.specs.call_events.{SeatedTasks.{SeatedTask, task_state}, Turns.{StateAgrees, AgreesAfter}}
-use Rattle.gate_steps.proofs.call_events.Asking.{AskedFor, asks_more}
-use Rattle.gate_steps.proofs.call_events.Turning.{stay_agrees, stepped_so, went_with_so}
+use Rattle.gate_steps.proofs.call_events.{Asking.{AskedFor, asks_more}, Turning.{stay_agrees, stepped_so, went_with_so}}
 
 -- one step, whose word and touch are known
 module _ (c key : Config) (same_key : key ≡ c) (within : IsWithin c) (begins : Option Op) (phase : Phase) (accesses : Accesses) (me left : Knowledge)

@@ -1,33 +1,17 @@
 -- An operation that goes on after an event, at the phase that comes next.
-use Rattle.std.proofs.Common.{arith}
-use Rattle.gate_steps.specs.declared.seating.Knowledge.{Knowledge}
-use Rattle.std.proofs.Common.{◌≡◌, ◌⊎◌, inl, inr, ap, ℕ, ◌<◌, Bool, List, subst}
+use Rattle.std.proofs.Common.{arith, ◌≡◌, ◌⊎◌, inl, inr, ap, ℕ, ◌<◌, Bool, List, subst}
+use Rattle.gate_steps.specs.{declared.seating.Knowledge.{Knowledge}, Seating.{DealtNumbers}}
+use Rattle.gate_steps.specs.call_events.{Runs.{OpUnderWay, OpAfterStep, Called, IsTrying}, Stepped.{Stepped}}
+use Rattle.gate_steps.specs.call_events.{SeatedTasks.{SeatedTask, task_state}, GhostAgrees.{GhostAgrees}, Turns.{state_at, step_was}}
 use Rattle.std.specs.Prelude.{Option, Some, None, Result}
-use Rattle.access_model.specs.declared.actions.Action.{Action}
-use Rattle.access_model.specs.declared.errors.GateError.{GateError}
-use Rattle.access_model.specs.declared.replies.Next.{Next}
-use Rattle.access_model.specs.declared.replies.Next.TheVariants.{Go, Wait, Done}
-use Rattle.access_model.specs.declared.replies.Reply.{Reply}
-use Rattle.access_model.specs.Replies.{map_next}
+use Rattle.access_model.specs.declared.{actions.Action.{Action}, errors.GateError.{GateError}, replies.Next.{Next}}
+use Rattle.access_model.specs.{declared.replies.{Next.TheVariants.{Go, Wait, Done}, Reply.{Reply}}, Replies.{map_next}}
 use Rattle.atomic_table.specs.Seated.{TableId}
-use Rattle.cpu_words.specs.Hooks.{HookAnswer}
-use Rattle.cpu_words.specs.declared.events.Event.{Event}
-use Rattle.gate_schedules.specs.Answers.{progress_of}
-use Rattle.gate_schedules.specs.declared.steps.Progress.TheVariants.{Done as Ended}
-use Rattle.gate_steps.specs.Seating.{DealtNumbers}
-use Rattle.gate_world.specs.Configs.{IsWithin}
-use Rattle.gate_world.specs.Views.{phase_after}
-use Rattle.gate_world.specs.declared.accesses.Accesses.{Accesses}
-use Rattle.gate_world.specs.declared.config.Config.{Config}
-use Rattle.gate_world.specs.declared.operations.Op.{Op}
-use Rattle.gate_world.specs.declared.work.Phase.{Phase}
-use Rattle.gate_steps.specs.call_events.Runs.{OpUnderWay, OpAfterStep, Called, IsTrying}
-use Rattle.gate_steps.specs.call_events.Stepped.{Stepped}
-use Rattle.gate_steps.specs.call_events.SeatedTasks.{SeatedTask, task_state}
-use Rattle.gate_steps.specs.call_events.GhostAgrees.{GhostAgrees}
-use Rattle.gate_steps.specs.call_events.Turns.{state_at, step_was}
-use Rattle.gate_steps.proofs.call_events.Running.{events_left, falls}
-use Rattle.gate_steps.proofs.call_events.Turning.{went_so}
+use Rattle.cpu_words.specs.{Hooks.{HookAnswer}, declared.events.Event.{Event}}
+use Rattle.gate_schedules.specs.{Answers.{progress_of}, declared.steps.Progress.TheVariants.{Done as Ended}}
+use Rattle.gate_world.specs.{Configs.{IsWithin}, Views.{phase_after}, declared.{accesses.Accesses.{Accesses}, config.Config.{Config}}}
+use Rattle.gate_world.specs.declared.{operations.Op.{Op}, work.Phase.{Phase}}
+use Rattle.gate_steps.proofs.call_events.{Running.{events_left, falls}, Turning.{went_so}}
 
 -- the phase that the operation stands at, where it goes on
 pub stands_at : {A : Type 0} (as_phase : A → Phase) (next : Next A) (x : A) → (next ≡ Go x) ⊎ (next ≡ Wait x) →

@@ -8,8 +8,7 @@ use Rattle.access_model.specs.declared.{actions.NodeInfo.NodeInfo, errors.GateEr
 use Rattle.cpu_words.specs.declared.{events.Touch.{Touch}, names.WordName.{WordName}}
 use Rattle.gate_world.specs.{Beginnings.is_in_order, Operations.{two_levels_closed, all_levels_closed}, Configs.IsWithin, traces.TraceStates.{state_of_trace, IsTrace}}
 use Rattle.gate_world.specs.{traces.Found.{clean_found, cleans, stored_stage}, Holdings.holdings_of, traces.Traces.{actions_of, Tells}, Views.held_of}
-use Rattle.gate_world.specs.declared.{config.Config.Config, operations.Op.{Op}, views.Traced.Traced}
-use Rattle.gate_world.specs.declared.work.Phase.{Phase}
+use Rattle.gate_world.specs.declared.{config.Config.{Config}, operations.Op.{Op}, views.Traced.{Traced}, work.Phase.{Phase}}
 use Rattle.gate_schedules.proofs.operations.AllOperations.{op_keeps}
 use Rattle.gate_steps.specs.Seating.{DealtNumbers}
 use Rattle.gate_steps.specs.call_events.{Refused.{LeavesTree, IsUnchanged, IsHonestWait, WaitsHonestly}, Runs.ran_items, SeatedTasks.{own_number, own_view}}

@@ -1,20 +1,12 @@
 -- The hook that a remount has asked, by its steps.
-use Rattle.std.proofs.Common.{arith}
-use Rattle.std.proofs.Common.{◌≡◌, ℕ, Bool, List, [], ◌∷◌, refl, subst, inr}
+use Rattle.std.proofs.Common.{arith, ◌≡◌, ℕ, Bool, List, [], ◌∷◌, refl, subst, inr}
 use Rattle.std.specs.Prelude.{◌+◌, ◌==◌, not, nat_lt, Ok, Err}
-use Rattle.access_model.specs.declared.actions.Action.{Action}
-use Rattle.access_model.specs.declared.replies.Next.{Next}
-use Rattle.access_model.specs.declared.replies.Next.TheVariants.{Go, Wait, Done}
-use Rattle.access_model.specs.declared.replies.Reply.{Reply}
+use Rattle.access_model.specs.declared.{actions.Action.{Action}, replies.{Next.{Next, TheVariants.{Go, Wait, Done}}, Reply.{Reply}}}
 use Rattle.access_model.specs.Replies.{map_next}
-use Rattle.cpu_words.specs.Hooks.{HookAnswer}
-use Rattle.cpu_words.specs.declared.sums.Taken.{Taken}
-use Rattle.cpu_words.specs.Sums.{sum_taking}
+use Rattle.cpu_words.specs.{Hooks.{HookAnswer}, declared.sums.Taken.{Taken}, Sums.{sum_taking}}
 use Rattle.mount_counts.specs.Phases.{has_flag}
 use Rattle.mount_counts.specs.Remounts.{remount_after, at_remount, remount_from, past_mount, let_go, leave_holds, give_up, remount_took}
-use Rattle.mount_counts.specs.Sets.{no_mounts, without_lowest}
-use Rattle.mount_counts.specs.declared.sets.MountSet.{MountSet}
-use Rattle.mount_counts.specs.declared.remounts.Remount.{Remount}
+use Rattle.mount_counts.specs.{Sets.{no_mounts, without_lowest}, declared.{sets.MountSet.{MountSet}, remounts.Remount.{Remount}}}
 use Rattle.mount_counts.specs.declared.remounts.RemountStep.{RemountStep}
 use Rattle.mount_counts.specs.declared.remounts.RemountStep.TheVariants.{
   Locks,
@@ -36,17 +28,10 @@ use Rattle.mount_counts.specs.declared.remounts.RemountStep.TheVariants.{
   Releases,
 }
 use Rattle.freeze_levels.specs.declared.hooks.HookCall.TheVariants.{Reconfigure as ReconfigureCall}
-use Rattle.gate_world.specs.declared.operations.Op.TheVariants.{RemountSb}
-use Rattle.gate_world.specs.declared.work.Phase.{Phase}
-use Rattle.gate_world.specs.declared.work.Phase.TheVariants.{Remounts}
-use Rattle.gate_world.specs.traces.TraceStates.{state_of_trace}
-use Rattle.gate_world.specs.Views.{actions_after}
-use Rattle.gate_world.specs.Work.{after_of}
-use Rattle.gate_steps.specs.Seating.{DealtNumbers}
-use Rattle.gate_steps.specs.call_events.Asked.{agreed, OnceAsked, AtMostAsked}
-use Rattle.gate_steps.specs.call_events.Asking.{Ask, asks_with, asks_of, call_at}
-use Rattle.gate_steps.specs.call_events.Runs.{Called}
-use Rattle.gate_steps.specs.call_events.SeatedTasks.{SeatedTask, own_number}
+use Rattle.gate_world.specs.declared.{operations.Op.TheVariants.{RemountSb}, work.Phase.{Phase, TheVariants.{Remounts}}}
+use Rattle.gate_world.specs.{traces.TraceStates.{state_of_trace}, Views.{actions_after}, Work.{after_of}}
+use Rattle.gate_steps.specs.{Seating.{DealtNumbers}, call_events.Asked.{agreed, OnceAsked, AtMostAsked}}
+use Rattle.gate_steps.specs.call_events.{Asking.{Ask, asks_with, asks_of, call_at}, Runs.{Called}, SeatedTasks.{SeatedTask, own_number}}
 use Rattle.gate_steps.proofs.call_events.Asked.{either_way, asked_after}
 
 module _ (read_only : Bool) where

@@ -1,41 +1,26 @@
 -- An operation, event after event, from its beginning to its reply.
-use Rattle.gate_world.specs.declared.entries.Entry.{Entry}
-use Rattle.std.proofs.Common.{◌≡◌, ℕ, ◌+◌, ◌-◌, ◌<◌, ◌≤◌, List, [], ◌∷◌, ◌++◌, length, refl, sym, ap, ◌∙◌, subst, arith, add-zero}
-use Rattle.std.specs.Prelude.{Option, Some, None, Result, Ok, Err, IfOk, is_some}
-use Rattle.access_model.specs.declared.actions.Action.{Action}
-use Rattle.access_model.specs.declared.errors.GateError.{GateError}
-use Rattle.access_model.specs.declared.replies.Next.{Next}
-use Rattle.access_model.specs.declared.replies.Next.TheVariants.{Go, Wait, Done}
-use Rattle.access_model.specs.declared.replies.Reply.{Reply}
-use Rattle.gate_world.specs.declared.operations.Op.TheVariants.{Callback}
-use Rattle.cpu_words.specs.Hooks.{HookAnswer}
-use Rattle.cpu_words.specs.Touches.{found_by, event_of}
-use Rattle.gate_world.specs.declared.config.Config.{Config}
-use Rattle.gate_world.specs.declared.operations.Op.{Op}
-use Rattle.gate_world.specs.declared.work.Phase.{Phase}
-use Rattle.gate_world.specs.declared.views.Traced.{Traced}
-use Rattle.gate_world.specs.declared.views.View.{View}
-use Rattle.gate_world.specs.Configs.{IsWithin}
+use Rattle.gate_world.specs.declared.{entries.Entry.{Entry}, operations.Op.{TheVariants.{Callback}, Op}, config.Config.{Config}}
+use Rattle.gate_world.specs.{declared.{work.Phase.{Phase}, views.{Traced.{Traced}, View.{View}}}, Configs.{IsWithin}}
 use Rattle.gate_world.specs.traces.Snapshots.{completes, last_snapshot}
-use Rattle.gate_world.specs.Views.{phase_after, actions_after, view_after_with_others, with_hook, held_of}
-use Rattle.gate_world.specs.Work.{next_of, after_of}
+use Rattle.gate_world.specs.{Views.{phase_after, actions_after, view_after_with_others, with_hook, held_of}, Work.{next_of, after_of}}
 use Rattle.gate_world.specs.Beginnings.{first_phase}
 use Rattle.gate_world.specs.traces.TraceStates.{TraceState, trace_state_with, trace_state_after, state_of_trace, IsEventOf, IsNext, IsTrace, ReadIsValid}
 use Rattle.gate_world.specs.traces.Traces.{actions_of, Tells, ReplyMatchesTrace, most_events, IsShort, MayWait}
+use Rattle.std.proofs.Common.{◌≡◌, ℕ, ◌+◌, ◌-◌, ◌<◌, ◌≤◌, List, [], ◌∷◌, ◌++◌, length, refl, sym, ap, ◌∙◌, subst, arith, add-zero}
+use Rattle.std.specs.Prelude.{Option, Some, None, Result, Ok, Err, IfOk, is_some}
+use Rattle.access_model.specs.declared.{actions.Action.{Action}, errors.GateError.{GateError}, replies.Next.{Next}}
+use Rattle.access_model.specs.declared.replies.{Next.TheVariants.{Go, Wait, Done}, Reply.{Reply}}
+use Rattle.cpu_words.specs.{Hooks.{HookAnswer}, Touches.{found_by, event_of}}
 use Rattle.gate_schedules.proofs.{frames.OperationLaws.{most_events_of_all, IsSmall}, schedules.Beginnings.may_begin}
 use Rattle.gate_schedules.proofs.operations.AllOperations.{op_keeps}
-use Rattle.gate_schedules.specs.declared.steps.Progress.{Progress}
-use Rattle.gate_schedules.specs.declared.steps.Progress.TheVariants.{Done as Ended, Waiting}
-use Rattle.gate_schedules.specs.declared.steps.Step.{Step}
+use Rattle.gate_schedules.specs.declared.steps.{Progress.{Progress, TheVariants.{Done as Ended, Waiting}}, Step.{Step}}
 use Rattle.gate_schedules.specs.Answers.{progress_of, unless_refused}
 use Rattle.gate_steps.specs.Seating.{DealtNumbers, numbered, HaveHistory, entered, done_by, items_after, world_left, HasWitness}
-use Rattle.gate_steps.specs.call_events.SeatedTasks.{SeatedTask, own_number, own_view, refusal_at}
-use Rattle.gate_steps.specs.call_events.Stepped.{Stepped}
+use Rattle.gate_steps.specs.call_events.{SeatedTasks.{SeatedTask, own_number, own_view, refusal_at}, Stepped.{Stepped}}
 use Rattle.gate_steps.specs.call_events.Asking.{Ask, asks_of, asks_with, call_at, next_call, OpUnderWayWith, OpAfterStepWith}
-use Rattle.gate_steps.specs.call_events.Waited.{is_wait, waits_in}
-use Rattle.gate_steps.specs.call_events.Refused.{IsUnchanged, IsUnchangedBy, IsHonestWait}
-use Rattle.gate_steps.proofs.call_events.Refused.{is_unchanged, waits_honestly}
+use Rattle.gate_steps.specs.call_events.{Waited.{is_wait, waits_in}, Refused.{IsUnchanged, IsUnchangedBy, IsHonestWait}}
 use Rattle.gate_steps.specs.call_events.Runs.{events_onto, completed_by, ran_snapshot, ran_view, ran_items, begins_at, items_at, IsMoveOf, IsNextMove, AreMoves, IsBounded, IsRanReply, told_as, the_reply, OpUnderWay, OpAfterStep, ProgressMatches, Called, Replies}
+use Rattle.gate_steps.proofs.call_events.Refused.{is_unchanged, waits_honestly}
 
 -- the numbers of a task whose own number has begun the operation
 abbrev pub entered_items : Option Op → Option Phase → DealtNumbers → DealtNumbers

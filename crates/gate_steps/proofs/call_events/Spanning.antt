@@ -1,29 +1,21 @@
 -- Each event of a call has its moment between call and return.
-use Rattle.std.proofs.Common.{◌≡◌, ℕ, List, [], ◌∷◌, ◌++◌, refl, sym, ap, ◌∙◌, subst}
-use Rattle.std.proofs.lemmas.List.{append_assoc, append-nil}
+use Rattle.std.proofs.{Common.{◌≡◌, ℕ, List, [], ◌∷◌, ◌++◌, refl, sym, ap, ◌∙◌, subst}, lemmas.List.{append_assoc, append-nil}}
 use Rattle.std.specs.Prelude.{is_some, false, Option, Some, None}
 use mathlib.Core.Option.{some}
 use lib.ListN.{get_elem?}
 use Rattle.access_model.specs.declared.replies.Next.{Next, TheVariants.{Go, Wait, Done}}
 use Rattle.cpu_words.specs.{Hooks.HookAnswer, Touches.{event_of}, Words.Words}
 use Rattle.gate_schedules.proofs.schedules.{Beginnings.may_begin, Entries.begun_on, Runs.run_more}
-use Rattle.gate_world.specs.refusals.Causes.{since_begun, trail, trail_of}
-use Rattle.gate_world.specs.traces.TraceStates.{state_of_trace}
-use Rattle.gate_world.specs.Headline.{world_after}
-use Rattle.gate_world.specs.Views.{phase_after, with_hook, held_of}
-use Rattle.gate_world.specs.Work.{next_of}
-use Rattle.gate_world.specs.Worlds.{World, happens, run, opening, found_at}
+use Rattle.gate_world.specs.{refusals.Causes.{since_begun, trail, trail_of}, traces.TraceStates.{state_of_trace}, Headline.{world_after}}
+use Rattle.gate_world.specs.{Views.{phase_after, with_hook, held_of}, Work.{next_of}, Worlds.{World, happens, run, opening, found_at}}
 use Rattle.gate_world.specs.declared.entries.Entry.{Entry, TheVariants.{Begins, Steps}}
 use Rattle.gate_world.specs.declared.{config.Config.Config, operations.Op.Op, views.{Traced.Traced, View.View}, work.Phase.Phase}
 use Rattle.gate_steps.specs.Histories.{IsLike}
 use Rattle.gate_steps.specs.Seating.{DealtNumbers, numbered, IsPrefix, HasRested, done_by, entered, world_entered, StepWitness}
-use Rattle.gate_steps.specs.declared.seating.Numbered.{Numbered}
-use Rattle.gate_steps.specs.call_events.Grown.{AllGoOn}
+use Rattle.gate_steps.specs.{declared.seating.Numbered.{Numbered}, call_events.Grown.{AllGoOn}}
 use Rattle.gate_steps.specs.call_events.Runs.{ran_view, IsMoveOf, IsNextMove, AreMoves}
-use Rattle.gate_steps.specs.call_events.Spans.{own_entries, worlds_since, HappensAfter, IsEventDuring}
-use Rattle.gate_steps.specs.call_events.SeatedTasks.{own_number}
-use Rattle.gate_steps.proofs.Dealing.{times-at}
-use Rattle.gate_steps.proofs.call_events.Grown.{only, next_on}
+use Rattle.gate_steps.specs.call_events.{Spans.{own_entries, worlds_since, HappensAfter, IsEventDuring}, SeatedTasks.{own_number}}
+use Rattle.gate_steps.proofs.{Dealing.{times-at}, call_events.Grown.{only, next_on}}
 use Rattle.gate_steps.proofs.call_events.Moments.{own_more, own_none, own_one, run_append, run_quiet, idle_since, trail_more, one_since, one_run, more_since}
 
 -- a beginning changes no word

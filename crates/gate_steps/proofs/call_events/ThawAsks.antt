@@ -1,20 +1,11 @@
 -- The hook that a thaw has asked, by its steps.
-use Rattle.std.proofs.Common.{arith}
-use Rattle.std.proofs.Common.{◌≡◌, ℕ, List, [], ◌∷◌, refl, ap, subst, inl}
+use Rattle.std.proofs.Common.{arith, ◌≡◌, ℕ, List, [], ◌∷◌, refl, ap, subst, inl}
 use Rattle.std.specs.Prelude.{◌==◌, false, if◌then◌else◌, Ok, Err}
-use Rattle.access_model.specs.declared.actions.Action.{Action}
-use Rattle.access_model.specs.declared.actions.Holder.{Holder}
-use Rattle.access_model.specs.declared.replies.Next.{Next}
-use Rattle.access_model.specs.declared.replies.Next.TheVariants.{Go, Wait, Done}
-use Rattle.access_model.specs.declared.replies.Reply.{Reply}
-use Rattle.access_model.specs.Holders.{held_by, with_holder, is_unheld}
-use Rattle.access_model.specs.Replies.{map_next}
+use Rattle.access_model.specs.declared.{actions.{Action.{Action}, Holder.{Holder}}, replies.Next.{Next, TheVariants.{Go, Wait, Done}}}
+use Rattle.access_model.specs.{declared.replies.Reply.{Reply}, Holders.{held_by, with_holder, is_unheld}, Replies.{map_next}}
 use Rattle.cpu_words.specs.Hooks.{HookAnswer}
-use Rattle.percpu_rwsem.specs.declared.writers.UpWrite.{UpWrite}
-use Rattle.percpu_rwsem.specs.Writers.{up_write_after}
-use Rattle.freeze_levels.specs.declared.hooks.HookCall.TheVariants.{UnfreezeFs as UnfreezeCall}
-use Rattle.freeze_levels.specs.declared.thaws.Thaw.{Thaw}
-use Rattle.freeze_levels.specs.declared.thaws.ThawStep.{ThawStep}
+use Rattle.percpu_rwsem.specs.{declared.writers.UpWrite.{UpWrite}, Writers.{up_write_after}}
+use Rattle.freeze_levels.specs.declared.{hooks.HookCall.TheVariants.{UnfreezeFs as UnfreezeCall}, thaws.{Thaw.{Thaw}, ThawStep.{ThawStep}}}
 use Rattle.freeze_levels.specs.declared.thaws.ThawStep.TheVariants.{
   Locks,
   LoadsStage,
@@ -28,19 +19,11 @@ use Rattle.freeze_levels.specs.declared.thaws.ThawStep.TheVariants.{
   Reopens,
   Releases,
 }
-use Rattle.freeze_levels.specs.Holders.{holders_in}
-use Rattle.freeze_levels.specs.Thaws.{thaw_after, at_thaw, after_opening}
-use Rattle.gate_world.specs.declared.operations.Op.TheVariants.{Thaw as ThawOp}
-use Rattle.gate_world.specs.declared.work.Phase.{Phase}
-use Rattle.gate_world.specs.declared.work.Phase.TheVariants.{Thaws}
-use Rattle.gate_world.specs.traces.TraceStates.{state_of_trace}
-use Rattle.gate_world.specs.Views.{actions_after}
-use Rattle.gate_world.specs.Work.{after_of}
-use Rattle.gate_steps.specs.Seating.{DealtNumbers}
-use Rattle.gate_steps.specs.call_events.Asked.{agreed, OnceAsked, AtMostAsked}
-use Rattle.gate_steps.specs.call_events.Asking.{Ask, asks_with, asks_of, call_at}
-use Rattle.gate_steps.specs.call_events.Runs.{Called}
-use Rattle.gate_steps.specs.call_events.SeatedTasks.{SeatedTask, own_number}
+use Rattle.freeze_levels.specs.{Holders.{holders_in}, Thaws.{thaw_after, at_thaw, after_opening}}
+use Rattle.gate_world.specs.declared.{operations.Op.TheVariants.{Thaw as ThawOp}, work.Phase.{Phase, TheVariants.{Thaws}}}
+use Rattle.gate_world.specs.{traces.TraceStates.{state_of_trace}, Views.{actions_after}, Work.{after_of}}
+use Rattle.gate_steps.specs.{Seating.{DealtNumbers}, call_events.Asked.{agreed, OnceAsked, AtMostAsked}}
+use Rattle.gate_steps.specs.call_events.{Asking.{Ask, asks_with, asks_of, call_at}, Runs.{Called}, SeatedTasks.{SeatedTask, own_number}}
 use Rattle.gate_steps.proofs.call_events.Asked.{either_way, asked_after}
 
 abbrev AtStep : ThawStep → List Ask → Type 0

@@ -1,22 +1,18 @@
 -- One event apart from the task: what it leaves of the fields, and which step it was.
 use Rattle.gate_world.specs.declared.entries.Entry.{Entry}
-use Rattle.gate_steps.specs.Seating.{knows}
-use Rattle.gate_steps.specs.declared.seating.Knowledge.{Knowledge}
-use Rattle.std.proofs.Common.{List}
-use Rattle.std.proofs.Common.{◌≡◌, ℕ, ◌<◌, Bool, List, [], ◌∷◌, refl, sym, ap, ◌∙◌, subst, arith}
+use Rattle.gate_world.specs.{Accesses.{accesses_after, held_in}, Configs.IsWithin, Fits.ActionFits, Views.{phase_after, held_of}, Work.{next_of, after_of}}
+use Rattle.gate_world.specs.declared.{accesses.Accesses.Accesses, config.Config.Config, operations.Op.Op, work.Phase.Phase}
+use Rattle.gate_steps.specs.{Seating.{knows}, declared.seating.Knowledge.{Knowledge}}
+use Rattle.gate_steps.specs.Seating.{DealtNumbers, OwnNumberMayStep, items_after, HasWitness}
+use Rattle.gate_steps.specs.call_events.{Asking.{Ask, asks_with, call_at, OpUnderWayWith, OpAfterStepWith}, Runs.{OpUnderWay, OpAfterStep}, Stepped.Stepped, Waited.{OpUnderWayWaiting, OpAfterStepWaiting}, SeatedTasks.{SeatedTask, task_state}}
+use Rattle.gate_steps.specs.call_events.{GhostAgrees.GhostAgrees, Turns.{state_at, StateAgrees, step_was}}
+use Rattle.std.proofs.Common.{List, List, ◌≡◌, ℕ, ◌<◌, Bool, [], ◌∷◌, refl, sym, ap, ◌∙◌, subst, arith}
 use Rattle.std.specs.Prelude.{Option, Some, None}
 use Rattle.access_model.specs.declared.{actions.Action.Action, replies.Next.{Next, TheVariants.{Go, Wait, Done}}}
 use Rattle.cpu_words.specs.{Hooks.HookAnswer, Names.{place, words_in_all}, Touches.event_of, declared.events.{Event.Event}}
-use Rattle.gate_world.specs.{Accesses.{accesses_after, held_in}, Configs.IsWithin, Fits.ActionFits, Views.{phase_after, held_of}, Work.{next_of, after_of}}
-use Rattle.gate_world.specs.declared.{accesses.Accesses.Accesses, config.Config.Config, operations.Op.Op, work.Phase.Phase}
-use Rattle.gate_schedules.specs.Answers.{progress_of}
-use Rattle.gate_schedules.specs.declared.task_states.TaskState.{TaskState}
-use Rattle.gate_schedules.specs.declared.steps.Step.{Step}
+use Rattle.gate_schedules.specs.{Answers.{progress_of}, declared.{task_states.TaskState.{TaskState}, steps.Step.{Step}}}
 use Rattle.gate_schedules.proofs.schedules.Phases.{word_placed}
-use Rattle.gate_steps.specs.Seating.{DealtNumbers, OwnNumberMayStep, items_after, HasWitness}
 use Rattle.atomic_table.specs.Seated.{TableId}
-use Rattle.gate_steps.specs.call_events.{Asking.{Ask, asks_with, call_at, OpUnderWayWith, OpAfterStepWith}, Runs.{OpUnderWay, OpAfterStep}, Stepped.Stepped, Waited.{OpUnderWayWaiting, OpAfterStepWaiting}, SeatedTasks.{SeatedTask, task_state}}
-use Rattle.gate_steps.specs.call_events.{GhostAgrees.GhostAgrees, Turns.{state_at, StateAgrees, step_was}}
 use Rattle.gate_steps.proofs.call_events.{Going.{may_add, ghost_agrees_left, stepped_here}, Running.{went_on, went_asking}}
 
 -- before the event: the word is one of the table's, and the number may do the event

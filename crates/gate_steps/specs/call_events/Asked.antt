@@ -1,11 +1,8 @@
 -- What a call that was granted has asked of the file system.
 use Rattle.std.specs.Prelude.{◌≡◌, ◌⊎◌, ◌==◌, ◌||◌, Bool, true, false, Ok, List, [], ◌∷◌}
-use Rattle.access_model.specs.declared.actions.Action.{Action}
-use Rattle.access_model.specs.declared.actions.Action.TheVariants.{Stage as StageAction}
-use Rattle.freeze_levels.specs.declared.hooks.HookCall.{HookCall}
-use Rattle.freeze_levels.specs.declared.hooks.HookCall.TheVariants.{Sync as SyncCall, FreezeFs as FreezeCall}
-use Rattle.gate_steps.specs.Seating.{DealtNumbers}
-use Rattle.gate_steps.specs.call_events.Asking.{Ask}
+use Rattle.access_model.specs.declared.actions.Action.{Action, TheVariants.{Stage as StageAction}}
+use Rattle.freeze_levels.specs.declared.hooks.HookCall.{HookCall, TheVariants.{Sync as SyncCall, FreezeFs as FreezeCall}}
+use Rattle.gate_steps.specs.{Seating.{DealtNumbers}, call_events.Asking.{Ask}}
 
 -- a hook that was asked at this moment, and has agreed
 abbrev pub agreed : HookCall → DealtNumbers → Ask

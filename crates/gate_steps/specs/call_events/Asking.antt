@@ -1,25 +1,14 @@
 -- The hooks that an operation asks: which, at which moment, and with what answer.
 use Rattle.std.specs.Prelude.{◌≡◌, ℕ, ◌+◌, Bool, false, Option, Some, None, Result, List, [], ◌∷◌, option_map}
-use Rattle.access_model.specs.declared.errors.GateError.{GateError}
-use Rattle.access_model.specs.declared.replies.Next.{Next}
-use Rattle.access_model.specs.declared.replies.Next.TheVariants.{Go, Wait, Done}
-use Rattle.access_model.specs.declared.replies.Reply.{Reply}
+use Rattle.access_model.specs.declared.{errors.GateError.{GateError}, replies.{Next.{Next, TheVariants.{Go, Wait, Done}}, Reply.{Reply}}}
 use Rattle.cpu_words.specs.Hooks.{HookAnswer}
 use Rattle.freeze_levels.specs.declared.hooks.HookCall.{HookCall}
 use Rattle.freeze_levels.specs.declared.hooks.HookCall.TheVariants.{Sync as SyncCall, FreezeFs as FreezeCall, UnfreezeFs as UnfreezeCall, Reconfigure as ReconfigureCall}
-use Rattle.freeze_levels.specs.declared.hooks.HookKind.{HookKind}
-use Rattle.freeze_levels.specs.declared.hooks.HookKind.TheVariants.{Sync, FreezeFs, UnfreezeFs, Reconfigure}
-use Rattle.gate_world.specs.declared.config.Config.{Config}
-use Rattle.gate_world.specs.declared.operations.Op.{Op}
-use Rattle.gate_world.specs.declared.views.Traced.{Traced}
-use Rattle.gate_world.specs.declared.work.Phase.{Phase}
-use Rattle.gate_world.specs.declared.work.Phase.TheVariants.{Remounts}
-use Rattle.gate_world.specs.traces.TraceStates.{state_of_trace}
-use Rattle.gate_world.specs.Work.{hook_of}
-use Rattle.gate_steps.specs.Seating.{DealtNumbers}
-use Rattle.gate_steps.specs.call_events.Runs.{items_at, unit_of, OpUnderWay, Called, Replies}
-use Rattle.gate_steps.specs.call_events.SeatedTasks.{SeatedTask, own_number, refusal_at}
-use Rattle.gate_steps.specs.call_events.Waited.{counted, waits_in}
+use Rattle.freeze_levels.specs.declared.hooks.HookKind.{HookKind, TheVariants.{Sync, FreezeFs, UnfreezeFs, Reconfigure}}
+use Rattle.gate_world.specs.declared.{config.Config.{Config}, operations.Op.{Op}, views.Traced.{Traced}, work.Phase.{Phase}}
+use Rattle.gate_world.specs.{declared.work.Phase.TheVariants.{Remounts}, traces.TraceStates.{state_of_trace}, Work.{hook_of}}
+use Rattle.gate_steps.specs.{Seating.{DealtNumbers}, call_events.Runs.{items_at, unit_of, OpUnderWay, Called, Replies}}
+use Rattle.gate_steps.specs.call_events.{SeatedTasks.{SeatedTask, own_number, refusal_at}, Waited.{counted, waits_in}}
 
 -- the state for which a remount asks; nothing else asks for one
 abbrev pub state_at : Phase → Bool

@@ -1,19 +1,10 @@
 -- Of a call that was refused: the moment of a schedule at which its refusal has its cause.
 use Rattle.std.specs.Prelude.{◌≡◌, ℕ, ◌<◌, Some, Err, List, [], ◌∷◌}
-use Rattle.access_model.specs.declared.errors.GateError.{GateError}
-use Rattle.access_model.specs.declared.replies.Next.TheVariants.{Done}
+use Rattle.access_model.specs.declared.{errors.GateError.{GateError}, replies.Next.TheVariants.{Done}}
 use Rattle.cpu_words.specs.Touches.{event_of}
-use Rattle.gate_world.specs.refusals.Causes.{HasCause, since_begun, trail_of}
-use Rattle.gate_world.specs.Configs.{IsWithin}
-use Rattle.gate_world.specs.Headline.{world_after}
-use Rattle.gate_world.specs.Views.{with_hook}
-use Rattle.gate_world.specs.Work.{next_of, after_of}
-use Rattle.gate_world.specs.Worlds.{found_at}
-use Rattle.gate_world.specs.declared.entries.Entry.{Entry}
-use Rattle.gate_world.specs.declared.config.Config.{Config}
-use Rattle.gate_world.specs.declared.operations.Op.{Op}
-use Rattle.gate_world.specs.declared.views.Traced.{Traced}
-use Rattle.gate_world.specs.declared.work.Phase.{Phase}
+use Rattle.gate_world.specs.{refusals.Causes.{HasCause, since_begun, trail_of}, Configs.{IsWithin}, Headline.{world_after}}
+use Rattle.gate_world.specs.{Views.{with_hook}, Work.{next_of, after_of}, Worlds.{found_at}, declared.entries.Entry.{Entry}}
+use Rattle.gate_world.specs.declared.{config.Config.{Config}, operations.Op.{Op}, views.Traced.{Traced}, work.Phase.{Phase}}
 
 -- A schedule ends right before the event with which an operation of this number is refused. In its world the operation is under way, with just
 -- these earlier events; the event finds there what it says that it found, and ends the operation with this refusal; and that has its cause

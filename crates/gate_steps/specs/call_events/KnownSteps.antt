@@ -4,15 +4,10 @@ use Rattle.atomic_table.specs.Seated.{TableId}
 use Rattle.access_model.specs.declared.replies.Next.{Next}
 use Rattle.cpu_words.specs.Hooks.{HookAnswer}
 use Rattle.freeze_levels.specs.declared.hooks.HookCall.{HookCall}
-use Rattle.gate_world.specs.declared.accesses.Accesses.{Accesses}
-use Rattle.gate_world.specs.declared.config.Config.{Config}
-use Rattle.gate_world.specs.declared.operations.Op.{Op}
-use Rattle.gate_world.specs.declared.work.Phase.{Phase}
+use Rattle.gate_world.specs.declared.{accesses.Accesses.{Accesses}, config.Config.{Config}, operations.Op.{Op}, work.Phase.{Phase}}
 use Rattle.gate_world.specs.Views.{phase_after}
-use Rattle.gate_steps.specs.Seating.{DealtNumbers}
-use Rattle.gate_steps.specs.declared.seating.Knowledge.{Knowledge}
-use Rattle.gate_steps.specs.call_events.Asking.{Ask, OpAfterStepWith, OpAfterStepAsking}
-use Rattle.gate_steps.specs.call_events.SeatedTasks.{SeatedTask, task_state}
+use Rattle.gate_steps.specs.{Seating.{DealtNumbers}, declared.seating.Knowledge.{Knowledge}}
+use Rattle.gate_steps.specs.call_events.{Asking.{Ask, OpAfterStepWith, OpAfterStepAsking}, SeatedTasks.{SeatedTask, task_state}}
 use Rattle.gate_steps.specs.call_events.Turns.{AgreesAfter}
 
 -- Steps that ask no hook have led an operation from where it stood, at a table and with what its seat knew, to where it stands: it is the same

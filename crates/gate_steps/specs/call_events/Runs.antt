@@ -1,30 +1,17 @@
 -- Whole operations of a task, from the beginning to the reply.
 use Rattle.std.specs.Prelude.{◌≡◌, ℕ, Bool, false, Option, Some, None, Result, Ok, Err, List, [], ◌∷◌, ◌++◌}
-use Rattle.access_model.specs.declared.errors.GateError.{GateError}
-use Rattle.access_model.specs.declared.replies.Next.{Next}
-use Rattle.access_model.specs.declared.replies.Next.TheVariants.{Go, Wait, Done}
-use Rattle.access_model.specs.declared.replies.Reply.{Reply}
+use Rattle.access_model.specs.declared.{errors.GateError.{GateError}, replies.{Next.{Next, TheVariants.{Go, Wait, Done}}, Reply.{Reply}}}
 use Rattle.access_model.specs.declared.replies.Reply.TheVariants.{Ran, Node as NodeReply}
-use Rattle.cpu_words.specs.declared.events.Event.{Event}
-use Rattle.cpu_words.specs.Touches.{event_of}
-use Rattle.gate_world.specs.declared.config.Config.{Config}
-use Rattle.gate_world.specs.declared.entries.Entry.{Entry}
-use Rattle.gate_world.specs.declared.operations.Op.{Op}
-use Rattle.gate_world.specs.declared.work.Phase.{Phase}
-use Rattle.gate_world.specs.declared.views.Traced.{Traced}
-use Rattle.gate_world.specs.declared.views.View.{View}
-use Rattle.gated_tree.specs.declared.trees.TreeWords.{TreeWords}
-use Rattle.gate_world.specs.declared.views.Snapshot.{Snapshot}
-use Rattle.gate_world.specs.traces.Snapshots.{completes, last_snapshot}
-use Rattle.gate_world.specs.Views.{phase_after, with_hook}
-use Rattle.gate_world.specs.Work.{next_of}
+use Rattle.cpu_words.specs.{declared.events.Event.{Event}, Touches.{event_of}}
+use Rattle.gate_world.specs.declared.{config.Config.{Config}, entries.Entry.{Entry}, operations.Op.{Op}, work.Phase.{Phase}}
+use Rattle.gate_world.specs.declared.views.{Traced.{Traced}, View.{View}, Snapshot.{Snapshot}}
+use Rattle.gate_world.specs.{traces.Snapshots.{completes, last_snapshot}, Views.{phase_after, with_hook}, Work.{next_of}}
 use Rattle.gate_world.specs.traces.TraceStates.{state_of_trace, IsTrace}
 use Rattle.gate_world.specs.traces.Traces.{actions_of, IsHonestAnswer, most_events, IsShort, MayWait}
+use Rattle.gated_tree.specs.declared.trees.TreeWords.{TreeWords}
 use Rattle.gate_steps.specs.Seating.{DealtNumbers, numbered, HaveHistory, done_by, HasWitness}
-use Rattle.gate_schedules.specs.declared.steps.Progress.{Progress}
-use Rattle.gate_schedules.specs.declared.steps.Progress.TheVariants.{Idle, Going, Waiting, Done as Ended}
-use Rattle.gate_steps.specs.call_events.Refused.{IsUnchangedBy, WaitsHonestly}
-use Rattle.gate_steps.specs.call_events.SeatedTasks.{SeatedTask, own_number, own_view, refusal_at}
+use Rattle.gate_steps.specs.call_events.{Refused.{IsUnchangedBy, WaitsHonestly}, SeatedTasks.{SeatedTask, own_number, own_view, refusal_at}}
+use Rattle.gate_schedules.specs.declared.steps.Progress.{Progress, TheVariants.{Idle, Going, Waiting, Done as Ended}}
 
 -- the events of a trace before earlier ones, the newest first
 abbrev pub events_onto : List Traced → List Event → List Event

@@ -5,8 +5,7 @@ use Rattle.access_model.specs.declared.errors.GateError.{GateError}
 use Rattle.gate_world.specs.{Beginnings.{refusal, beginning}, Views.{opening_view, held_at, holds_level, has_open, held_of}}
 use Rattle.gate_world.specs.declared.{accesses.Accesses.Accesses, config.Config.Config, operations.Op.Op, views.View.View, work.Phase.Phase}
 use Rattle.gate_world.specs.declared.entries.Entry.{Entry}
-use Rattle.gate_steps.specs.Seating.{DealtNumbers}
-use Rattle.gate_steps.specs.declared.seating.Knowledge.{Knowledge}
+use Rattle.gate_steps.specs.{Seating.{DealtNumbers}, declared.seating.Knowledge.{Knowledge}}
 
 -- the table, the configuration, the operation that has begun and has had no event, the phase of the operation under way, and the
 -- numbers with their views, its own first, and the schedules that it has seen

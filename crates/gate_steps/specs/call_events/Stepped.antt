@@ -1,17 +1,10 @@
 -- What one step of a task is.
 use Rattle.std.specs.Prelude.{◌≡◌, ℕ, Option, Some, None, List, [], ◌∷◌}
-use Rattle.gate_world.specs.declared.entries.Entry.{Entry}
-use Rattle.cpu_words.specs.Hooks.{HookAnswer}
-use Rattle.cpu_words.specs.Touches.{found_by, event_of}
-use Rattle.gate_world.specs.declared.config.Config.{Config}
-use Rattle.gate_world.specs.declared.operations.Op.{Op}
-use Rattle.gate_world.specs.declared.work.Phase.{Phase}
-use Rattle.gate_world.specs.Views.{phase_after}
-use Rattle.gate_world.specs.Work.{next_of, after_of}
-use Rattle.gate_schedules.specs.declared.steps.Step.{Step}
-use Rattle.gate_schedules.specs.Answers.{progress_of, phase_step}
-use Rattle.gate_steps.specs.Seating.{DealtNumbers, items_after, HasWitness}
-use Rattle.gate_steps.specs.call_events.SeatedTasks.{SeatedTask}
+use Rattle.gate_world.specs.declared.{entries.Entry.{Entry}, config.Config.{Config}, operations.Op.{Op}, work.Phase.{Phase}}
+use Rattle.gate_world.specs.{Views.{phase_after}, Work.{next_of, after_of}}
+use Rattle.cpu_words.specs.{Hooks.{HookAnswer}, Touches.{found_by, event_of}}
+use Rattle.gate_schedules.specs.{declared.steps.Step.{Step}, Answers.{progress_of, phase_step}}
+use Rattle.gate_steps.specs.{Seating.{DealtNumbers, items_after, HasWitness}, call_events.SeatedTasks.{SeatedTask}}
 
 -- the step of the event of a phase that found this
 abbrev pub found_step : Phase → HookAnswer → ℕ → Step

@@ -1,23 +1,13 @@
 -- What one event leaves of a task's fields, apart from the task.
 use Rattle.std.specs.Prelude.{ℕ, Bool, Option, Some, None, List}
-use Rattle.access_model.specs.declared.actions.Action.{Action}
-use Rattle.access_model.specs.declared.replies.Next.{Next}
+use Rattle.access_model.specs.{declared.{actions.Action.{Action}, replies.Next.{Next}}, Replies.{map_next}}
 use Rattle.cpu_words.specs.declared.events.Event.{Event}
-use Rattle.gate_world.specs.declared.config.Config.{Config}
-use Rattle.gate_world.specs.declared.operations.Op.{Op}
-use Rattle.gate_world.specs.declared.work.Phase.{Phase}
-use Rattle.gate_world.specs.declared.work.Phase.TheVariants.{Mounts, Trees, Writes}
-use Rattle.gated_tree.specs.declared.growth.Grow.{Grow}
-use Rattle.gated_tree.specs.declared.phases.TreePhase.TheVariants.{Grow as Grows}
-use Rattle.mount_counts.specs.declared.phases.Change.{Change}
-use Rattle.mount_counts.specs.declared.phases.MountPhase.TheVariants.{Change as Changes}
-use Rattle.access_model.specs.Replies.{map_next}
-use Rattle.gate_schedules.specs.declared.task_states.TaskState.{TaskState}
+use Rattle.gate_world.specs.declared.{config.Config.{Config}, operations.Op.{Op}, work.Phase.{Phase, TheVariants.{Mounts, Trees, Writes}}}
 use Rattle.gate_world.specs.declared.accesses.Accesses.{Accesses}
-use Rattle.gate_schedules.specs.declared.steps.Step.{Step}
-use Rattle.gate_schedules.specs.Answers.{progress_of}
-use Rattle.gate_steps.specs.Seating.{DealtNumbers}
-use Rattle.gate_steps.specs.call_events.GhostAgrees.{GhostAgrees}
+use Rattle.gated_tree.specs.declared.{growth.Grow.{Grow}, phases.TreePhase.TheVariants.{Grow as Grows}}
+use Rattle.mount_counts.specs.declared.phases.{Change.{Change}, MountPhase.TheVariants.{Change as Changes}}
+use Rattle.gate_schedules.specs.{declared.{task_states.TaskState.{TaskState}, steps.Step.{Step}}, Answers.{progress_of}}
+use Rattle.gate_steps.specs.{Seating.{DealtNumbers}, call_events.GhostAgrees.{GhostAgrees}}
 use Rattle.composite_ops.specs.declared.write_access.phases.WritePhase.{WritePhase}
 
 -- what is kept of a task whose operation stands there

@@ -1,19 +1,11 @@
 -- How often an operation comes to a wait: how many of its events found what it waits for.
 use Rattle.std.specs.Prelude.{◌≡◌, ℕ, ◌+◌, Option, Some, None, Result, List, [], ◌∷◌}
-use Rattle.access_model.specs.declared.errors.GateError.{GateError}
-use Rattle.access_model.specs.declared.replies.Next.{Next}
-use Rattle.access_model.specs.declared.replies.Next.TheVariants.{Go, Wait, Done}
-use Rattle.access_model.specs.declared.replies.Reply.{Reply}
+use Rattle.access_model.specs.declared.{errors.GateError.{GateError}, replies.{Next.{Next, TheVariants.{Go, Wait, Done}}, Reply.{Reply}}}
 use Rattle.gate_steps.specs.Seating.{DealtNumbers}
-use Rattle.gate_world.specs.declared.config.Config.{Config}
-use Rattle.gate_world.specs.declared.operations.Op.{Op}
-use Rattle.gate_world.specs.declared.views.Traced.{Traced}
-use Rattle.gate_world.specs.declared.views.View.{View}
-use Rattle.gate_world.specs.declared.work.Phase.{Phase}
+use Rattle.gate_world.specs.declared.{config.Config.{Config}, operations.Op.{Op}, views.{Traced.{Traced}, View.{View}}, work.Phase.{Phase}}
 use Rattle.gate_world.specs.traces.TraceStates.{state_of_trace}
 pub use Rattle.gate_world.specs.Counted.{counted}
-use Rattle.gate_steps.specs.call_events.Runs.{Called, OpUnderWay}
-use Rattle.gate_steps.specs.call_events.SeatedTasks.{SeatedTask, own_number, own_view}
+use Rattle.gate_steps.specs.call_events.{Runs.{Called, OpUnderWay}, SeatedTasks.{SeatedTask, own_number, own_view}}
 
 -- 1 where an event came to a wait
 abbrev pub is_wait : Next Phase → ℕ

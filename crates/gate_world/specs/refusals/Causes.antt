@@ -6,8 +6,7 @@ use Rattle.access_model.specs.{Holders.held_by, States.{is_removed, IsFile, IsDi
 use Rattle.access_model.specs.declared.actions.{Holder.Holder, NodeInfo.NodeInfo}
 use Rattle.access_model.specs.declared.errors.GateError.{GateError, TheVariants.{Again, Busy, ReadOnly, Invalid, NoEntry, NotDir, IsDir}}
 use Rattle.access_model.specs.declared.replies.Next.TheVariants.{Done}
-use Rattle.cpu_words.specs.Hooks.{HookAnswer}
-use Rattle.cpu_words.specs.gate_counts.{Gates.counted as counted_of, Levels.level_as_gate}
+use Rattle.cpu_words.specs.{Hooks.{HookAnswer}, gate_counts.{Gates.{counted as counted_of}, Levels.{level_as_gate}}}
 use Rattle.gated_tree.specs.declared.changes.{Create.Create, CreateStep.{CreateStep, TheVariants.LoadsDirectory}}
 use Rattle.gated_tree.specs.declared.changes.{MoveStep.{MoveStep, TheVariants.{LoadsFile as LoadsFileToMove, LoadsDirectory as LoadsTarget}}, MoveTo.MoveTo}
 use Rattle.gated_tree.specs.declared.changes.{Remove.Remove, RemoveStep.{RemoveStep, TheVariants.LoadsFile as LoadsFileToRemove}}
@@ -18,8 +17,7 @@ use Rattle.gated_tree.specs.declared.phases.TreePhase.{TreePhase}
 use Rattle.gated_tree.specs.declared.phases.TreePhase.TheVariants.{Create as Creates, Remove as Removes, Grow as Grows, MoveTo as Moves, Mark as TreeMarks}
 use Rattle.gated_tree.specs.declared.phases.TreePhase.TheVariants.{OpenFile as OpensOne, Snapshot as Snapshots}
 use Rattle.gated_tree.specs.declared.snapshots.SnapshotStep.{SnapshotStep, TheVariants.LoadsStage as SnapshotLoadsStage}
-use Rattle.mount_counts.specs.Roles.{counted, has_hold}
-use Rattle.mount_counts.specs.declared.phases.ChangeStep.{ChangeStep, TheVariants.Sums}
+use Rattle.mount_counts.specs.{Roles.{counted, has_hold}, declared.phases.ChangeStep.{ChangeStep, TheVariants.{Sums}}}
 use Rattle.mount_counts.specs.declared.phases.MountPhase.TheVariants.{Want as Wants, Change as Changes}
 use Rattle.mount_counts.specs.declared.phases.WantStep.{WantStep, TheVariants.{LoadsHold, LoadsRemount, LoadsReadOnly, LoadsSuperblock}}
 use Rattle.mount_counts.specs.declared.remounts.RemountStep.{RemountStep, TheVariants.{LoadsStage, LoadsRemoved, LoadsRemovedAgain, Sums as RemountSums}}
@@ -32,9 +30,7 @@ use Rattle.freeze_laws.specs.levels.Roles.{closed}
 use Rattle.composite_ops.specs.declared.write_access.phases.WritePhase.{WritePhase, TheVariants.{Takes, Wants as WriteWants, GivesBack}}
 use Rattle.composite_ops.specs.declared.file_closes.phases.ClosePhase.{ClosePhase, TheVariants.{Enters, LowersCount}}
 use Rattle.gate_world.specs.{Levels.{sync_role_of, is_frozen_whole, at_level}, Rules.{at_mount, role_of, owns}, Shown.shown, Work.after_of}
-use Rattle.gate_world.specs.Worlds.{World, happens, run, opening, found_at}
-use Rattle.gate_world.specs.declared.entries.Entry.{Entry}
-use Rattle.gate_world.specs.declared.config.Config.{Config}
+use Rattle.gate_world.specs.{Worlds.{World, happens, run, opening, found_at}, declared.{entries.Entry.{Entry}, config.Config.{Config}}}
 use Rattle.gate_world.specs.declared.work.Phase.{Phase, TheVariants.{Mounts, Remounts, DownReads, Writes, Freezes, Thaws, Trees, Closes}}
 
 -- the worlds of a schedule, the newest first: the one that it leaves, and each that an entry found

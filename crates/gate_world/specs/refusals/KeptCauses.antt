@@ -15,8 +15,7 @@ use Rattle.composite_ops.specs.declared.write_access.phases.WritePhase.{WritePha
 use Rattle.composite_ops.specs.declared.file_closes.phases.ClosePhase.{ClosePhase, TheVariants.Enters}
 use Rattle.gate_world.specs.refusals.Causes.{since_begun, AreOfMount, WantRefused, ChangeRefused, SnapshotRefused, last_question, last_look, was_frozen, was_busy}
 use Rattle.gate_world.specs.refusals.Causes.{was_unheld, moments_of_sum, was_inside, was_counted, SomeWasCounted, last_asked, WasClosed, was_removed, last_removed}
-use Rattle.gate_world.specs.Worlds.{World}
-use Rattle.gate_world.specs.declared.config.Config.{Config}
+use Rattle.gate_world.specs.{Worlds.{World}, declared.config.Config.{Config}}
 use Rattle.gate_world.specs.declared.work.Phase.{Phase, TheVariants.{Mounts, Remounts, DownReads, Writes, Freezes, Thaws, Trees, Closes}}
 
 module _ (c : Config) (t : ℕ) (w : World) (earlier : List World) where

@@ -9,8 +9,7 @@ use Rattle.freeze_levels.specs.declared.freezes.{Freeze.Freeze, FreezeStep.{Free
 use Rattle.composite_ops.specs.declared.write_access.phases.WritePhase.{WritePhase, TheVariants.{Takes, Wants as WriteWants}}
 use Rattle.composite_ops.specs.declared.file_closes.phases.ClosePhase.{ClosePhase, TheVariants.Enters}
 use Rattle.gate_world.specs.{refusals.Causes.{trail_of, since_begun, HasCause, last_asked, WasClosed, moments_of_sum, was_inside}, Headline.world_after, Levels.inside}
-use Rattle.gate_world.specs.{Rules.{role_of, owns}, Work.after_of, Worlds.{World, found_at}}
-use Rattle.gate_world.specs.declared.entries.Entry.{Entry}
+use Rattle.gate_world.specs.{Rules.{role_of, owns}, Work.{after_of}, Worlds.{World, found_at}, declared.entries.Entry.{Entry}}
 use Rattle.gate_world.specs.declared.config.Config.{Config}
 use Rattle.gate_world.specs.declared.work.Phase.{Phase, TheVariants.{Mounts, Remounts, DownReads, Callbacks, Writes, Freezes, Thaws, Trees, Closes}}
 

@@ -3,8 +3,7 @@ use Rattle.std.specs.Prelude.{ℕ, if◌then◌else◌, Option, Some, None, List
 use Rattle.access_model.specs.declared.actions.Action.{Action}
 use Rattle.cpu_words.specs.declared.names.WordName.TheVariants.{Kids}
 use Rattle.node_words.specs.Nodes.{node_after}
-use Rattle.gated_tree.specs.Roles.{tree_word}
-use Rattle.gated_tree.specs.Trees.{unloaded, loaded}
+use Rattle.gated_tree.specs.{Roles.{tree_word}, Trees.{unloaded, loaded}}
 use Rattle.gated_tree.specs.declared.phases.TreePhase.{TreePhase, TheVariants.Snapshot as Snapshots}
 use Rattle.gated_tree.specs.declared.{snapshots.SnapshotStep.{SnapshotStep, TheVariants.LoadsKids}, trees.TreeWords.TreeWords}
 use Rattle.gate_world.specs.{traces.Found.is_load, declared.{views.{Snapshot.Snapshot, Traced.Traced}, work.Phase.{Phase, TheVariants.Trees}}}

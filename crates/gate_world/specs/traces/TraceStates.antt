@@ -7,8 +7,7 @@ use Rattle.gate_world.specs.{Worlds.{World, value_at}, declared.{config.Config.C
 use Rattle.gate_world.specs.declared.work.Phase.{TheVariants.{Trees, Closes}, Phase}
 use Rattle.composite_ops.specs.declared.file_closes.phases.ClosePhase.{ClosePhase, TheVariants.{LoadsFile as CloseLoadsFile, LowersCount, Enters as EntersLevel, FreesNode}}
 use Rattle.node_words.specs.Nodes.{unpacked, opens_in, word_of}
-use Rattle.gated_tree.specs.declared.opens.OpenStep.{OpenStep}
-use Rattle.gated_tree.specs.declared.opens.OpenStep.TheVariants.{LoadsFile as LoadsFileToOpen, OpensFile}
+use Rattle.gated_tree.specs.declared.opens.OpenStep.{OpenStep, TheVariants.{LoadsFile as LoadsFileToOpen, OpensFile}}
 use Rattle.gated_tree.specs.declared.phases.TreePhase.TheVariants.{OpenFile as OpensOne}
 use Rattle.percpu_rwsem.specs.{Readers.down_read_next, SyncWords.unpack}
 use Rattle.std.proofs.Common.{true}

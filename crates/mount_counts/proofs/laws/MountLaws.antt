@@ -2,11 +2,10 @@
 use Rattle.std.proofs.{Common.{◌≡◌, ℕ, zero, suc, ◌+◌, ◌<◌, ◌≤◌, refl, sym, ap, ◌∙◌, subst, inl, inr, arith}, lemmas.Bool.Decides.eqb_tells}
 use Rattle.std.specs.Prelude.{◌⊎◌, bit_or}
 use Rattle.finite_sums.{proofs.Totals.{each_updated, total_at, total_none, update_map}, specs.Sums.{update, total}}
-use Rattle.cpu_words.specs.Touches.{wrap_add, wrap_sub}
+use Rattle.cpu_words.specs.{Touches.{wrap_add, wrap_sub}, gate_counts.Gates.{Barring, Apart, bars, below, past, GateHolds}}
 use Rattle.cpu_words.proofs.gate_counts.{Events.flag_event, Flags.{nobody, none_held, none_admitted, MaySay, shuts, sum_begins, sum_goes, sum_ends}}
 use Rattle.cpu_words.proofs.gate_counts.Readers.{adds as gate_adds, is_admitted, goes_on, is_granted as gate_grants, is_refused as gate_refuses}
 use Rattle.cpu_words.proofs.gate_counts.Readers.{backs_off as gate_backs_off, returns as gate_returns}
-use Rattle.cpu_words.specs.gate_counts.Gates.{Barring, Apart, bars, below, past, GateHolds}
 use Rattle.mount_counts.specs.Roles.{Role, Out, Asking, Cleared, PastRemount, PastFlags, BackingOff, Summing, Empty, Leaving, Skipped, MountView, questions_of}
 use Rattle.mount_counts.specs.Roles.{processor_of, barring_of, skips, mount_as_gate, passed_hold, past_remount, past_flags, sought, has_hold, admitted, ro_bit}
 use Rattle.mount_counts.specs.Roles.{hold_bit, mount_shut, MountHolds}

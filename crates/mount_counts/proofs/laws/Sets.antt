@@ -1,7 +1,6 @@
 -- Sets of mounts: what a set has after a mount joins it, and after its lowest leaves it.
 use Rattle.std.proofs.Common.{◌≡◌, ◌≢◌, ℕ, ◌%◌, ◌*◌, ◌^◌, ◌<◌, ◌≤◌, true, false, refl, sym, ap, ◌∙◌, arith, inl, inr}
-use Rattle.std.proofs.lemmas.Bool.{eq-eqb, cases_Bool, ltb-true, ltb-false}
-use Rattle.std.proofs.lemmas.Nat.{or_lt, and_le_l}
+use Rattle.std.proofs.lemmas.{Bool.{eq-eqb, cases_Bool, ltb-true, ltb-false}, Nat.{or_lt, and_le_l}}
 use Rattle.std.proofs.lemmas.Nat.Bits.{bit_at-zero, bit_at_above, bit_at_set_same, bit_at_set_other, bit_at_clear_same, bit_at_clear_other}
 use Rattle.std.proofs.lemmas.Nat.Bits.{bit_at-trailing_zeros}
 use Rattle.std.specs.{Int.{bit_at, bit_not, w8}, Prelude.{◌==◌, nat_lt, bit_or, bit_and}}

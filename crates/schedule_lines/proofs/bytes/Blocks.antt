@@ -1,9 +1,7 @@
 -- Bytes that are read behind the first ones of a block.
 use Rattle.std.proofs.Common.{◌≡◌, ℕ, ◌+◌, ◌-◌, ◌≤◌, List, ◌++◌, length, take, drop, Option, arith, sym, ap, subst, ◌∙◌, length-take}
-use Rattle.std.proofs.Math.Seq.{take-append-add, take-append_seam, drop-drop}
-use Rattle.std.proofs.lemmas.List.{drop-take}
-use Rattle.std.specs.Io.KnownBytes.{Consumes}
-use Rattle.std.specs.List.{slice_range}
+use Rattle.std.proofs.{Math.Seq.{take-append-add, take-append_seam, drop-drop}, lemmas.List.{drop-take}}
+use Rattle.std.specs.{Io.KnownBytes.{Consumes}, List.{slice_range}}
 use Rattle.schedule_lines.specs.bytes.Reading.{ReadsOn}
 
 -- what is read behind the first bytes stands behind them

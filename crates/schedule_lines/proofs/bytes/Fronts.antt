@@ -1,10 +1,7 @@
 -- What bytes begin with, and that more bytes behind them change neither a whole line nor a line that is too long.
 use Rattle.std.proofs.Common.{◌≡◌, ℕ, zero, suc, ◌+◌, ◌<◌, ◌≤◌, Bool, true, false, cond, not, List, [], ◌∷◌, ◌++◌, length, take, drop, refl, sym, ap, subst, ◌∙◌, arith, Option, Some, None, length-append, length-take, take-append-drop}
-use Rattle.std.specs.Prelude.{nat_lt}
-use Rattle.std.specs.List.{position, position_or_len, count_by}
-use Rattle.std.proofs.lemmas.Bool.Decides.{nat_tests}
-use Rattle.std.proofs.lemmas.List.{take_all, take-append-le}
-use Rattle.std.proofs.lemmas.List.Sums.{sum_by-cons, prefix_len-le-length}
+use Rattle.std.proofs.lemmas.{Bool.Decides.{nat_tests}, List.{take_all, take-append-le, Sums.{sum_by-cons, prefix_len-le-length}}}
+use Rattle.std.specs.{Prelude.{nat_lt}, List.{position, position_or_len, count_by}}
 use Rattle.schedule_lines.specs.declared.lines.Front.TheVariants.{Line as WholeLine, TooLong, Part}
 use Rattle.schedule_lines.specs.Lines.{is_newline, front_by, front_of}
 

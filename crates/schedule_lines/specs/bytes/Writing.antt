@@ -1,6 +1,5 @@
 -- What a write that failed has written.
-use Rattle.std.specs.Prelude.{ℕ, ◌≤◌, List, length, take, Option}
-use Rattle.std.specs.Io.KnownBytes.{Appends}
+use Rattle.std.specs.{Prelude.{ℕ, ◌≤◌, List, length, take, Option}, Io.KnownBytes.{Appends}}
 
 -- known bytes grow by the first of these
 abbrev pub AppendsPart : Option (List ℕ) → Option (List ℕ) → List ℕ → Type 0

@@ -1,14 +1,10 @@
 -- Each task ends in the closed gates' world with the list that it brought back, which it had begun with none.
-use Rattle.std.proofs.Common.{◌≡◌, ◌+◌, ◌<◌, arith, ap, sym, subst, suc, zero, ◌∙◌}
-use Rattle.std.proofs.lemmas.Result.{err_from_is_err_and}
-use Rattle.std.specs.Prelude.{Bool, Result, Ok, Err, Option, None, IfSome, OnOk}
-use Rattle.std.specs.Result.{result_ok}
+use Rattle.std.proofs.{Common.{◌≡◌, ◌+◌, ◌<◌, arith, ap, sym, subst, suc, zero, ◌∙◌}, lemmas.Result.{err_from_is_err_and}}
+use Rattle.std.specs.{Prelude.{Bool, Result, Ok, Err, Option, None, IfSome, OnOk}, Result.{result_ok}}
 use Rattle.vfs_gates.proofs.Rounds.{Config, IsWithin, TableId, first_known, task_state}
-use Rattle.vfs_gates.specs.Parts.{SplitOf}
-use Rattle.vfs_gates.specs.Seating.{times}
-use Rattle.vfs_gates.specs.Splitting.{Gives}
 use Rattle.vfs_gates.proofs.Rounds.{◌≤◌, ℕ, rules, handed_did, granted_alone, joined_rests, own_times, times-append, GateError, Granted, Mount, SeatedTask}
 use Rattle.vfs_gates.proofs.Splitting.{gives_all, gives_on, has_begun, refused_for_memory}
+use Rattle.vfs_gates.specs.{Parts.{SplitOf}, Seating.{times}, Splitting.{Gives}}
 use Rattle.backup_beside_writer.specs.Reports.{Copies, HasAllWrites, SameNumbers}
 use Rattle.backup_beside_writer.proofs.run.run.Goals as goal
 

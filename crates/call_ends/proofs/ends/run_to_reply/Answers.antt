@@ -3,9 +3,7 @@ use Rattle.std.proofs.Common.{refl, ap, ◌∙◌}
 use Rattle.std.specs.Prelude.{None}
 use Rattle.access_model.specs.Replies.{map_next}
 use Rattle.gate_world.specs.Views.{phase_after}
-use Rattle.gate_steps.proofs.call_events.Onward.{stands_at, done_at}
-use Rattle.gate_steps.proofs.call_events.Onward.{goes_so, tries_so, falls_so, agrees_so, called_so}
-use Rattle.gate_steps.proofs.call_events.Turning.{went_so}
+use Rattle.gate_steps.proofs.call_events.{Onward.{stands_at, done_at, goes_so, tries_so, falls_so, agrees_so, called_so}, Turning.{went_so}}
 use Rattle.call_ends.proofs.ends.run_to_reply.Goals as goal
 
 pub loop-answer-init : goal.loop-answer-init

@@ -2,9 +2,7 @@
 use Rattle.std.proofs.Common.{◌≡◌, ℕ, Bool, List}
 use Rattle.std.specs.Prelude.{Some}
 use Rattle.gate_world.specs.declared.operations.Op.{Op}
-use Rattle.gate_steps.specs.call_events.SeatedTasks.{SeatedTask, task_state}
-use Rattle.gate_steps.specs.call_events.GhostAgrees.{GhostAgrees}
-use Rattle.gate_steps.specs.call_events.Turns.{state_at, StateAgrees}
+use Rattle.gate_steps.specs.call_events.{SeatedTasks.{SeatedTask, task_state}, GhostAgrees.{GhostAgrees}, Turns.{state_at, StateAgrees}}
 use Rattle.gate_steps.specs.call_events.Runs.{OpUnderWay, IsTrying}
 use Rattle.gate_steps.proofs.call_events.Running.{events_left}
 use Rattle.call_ends.proofs.ends.run_to_reply.Given as goal

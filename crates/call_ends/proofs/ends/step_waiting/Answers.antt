@@ -1,17 +1,12 @@
 -- each step goes on from what the one before it left
 use Rattle.std.proofs.Common.{◌≡◌, ℕ, ◌+◌, refl, sym, ap, ◌∙◌, subst}
 use Rattle.std.specs.Prelude.{Some, None}
-use Rattle.access_model.specs.Replies.{map_next}
-use Rattle.access_model.specs.declared.replies.Next.TheVariants.{Go, Wait}
-use Rattle.gate_world.specs.Views.{phase_after}
-use Rattle.gate_world.specs.declared.operations.Op.{Op}
-use Rattle.gate_steps.specs.call_events.Asking.{OpUnderWayAsking, OpAfterStepAsking}
-use Rattle.gate_steps.specs.call_events.SeatedTasks.{SeatedTask, task_state}
-use Rattle.gate_steps.specs.call_events.Turns.{AgreesAfter}
-use Rattle.gate_steps.specs.call_events.Waited.{counted}
+use Rattle.access_model.specs.{Replies.{map_next}, declared.replies.Next.TheVariants.{Go, Wait}}
+use Rattle.gate_world.specs.{Views.{phase_after}, declared.operations.Op.{Op}}
+use Rattle.gate_steps.specs.call_events.{Asking.{OpUnderWayAsking, OpAfterStepAsking}, SeatedTasks.{SeatedTask, task_state}}
+use Rattle.gate_steps.specs.call_events.{Turns.{AgreesAfter}, Waited.{counted}}
 use Rattle.gate_steps.proofs.call_events.Leading.{asking_agrees}
-use Rattle.call_ends.proofs.Waited.{one_more, going_on, replied, waiting_on}
-use Rattle.call_ends.proofs.ends.step_waiting.Goals.{in-Go, in-Wait}
+use Rattle.call_ends.proofs.{Waited.{one_more, going_on, replied, waiting_on}, ends.step_waiting.Goals.{in-Go, in-Wait}}
 use Rattle.call_ends.proofs.ends.step_waiting.Goals as goal
 
 pub loop-init : goal.loop-init

@@ -2,11 +2,8 @@
 use Rattle.std.proofs.Common.{◌≡◌, ℕ}
 use Rattle.std.specs.Prelude.{None}
 use Rattle.access_model.specs.Replies.{map_next}
-use Rattle.gate_world.specs.Views.{phase_after}
-use Rattle.gate_world.specs.declared.operations.Op.{Op}
-use Rattle.gate_steps.specs.call_events.SeatedTasks.{SeatedTask, task_state}
-use Rattle.gate_steps.specs.call_events.Turns.{StateAgrees, AgreesAfter}
-use Rattle.gate_steps.specs.call_events.Asking.{OpAfterStepAsking}
+use Rattle.gate_world.specs.{Views.{phase_after}, declared.operations.Op.{Op}}
+use Rattle.gate_steps.specs.call_events.{SeatedTasks.{SeatedTask, task_state}, Turns.{StateAgrees, AgreesAfter}, Asking.{OpAfterStepAsking}}
 use Rattle.gate_steps.specs.call_events.Waited.{counted}
 use Rattle.call_ends.proofs.ends.step_waiting.Given as goal
 

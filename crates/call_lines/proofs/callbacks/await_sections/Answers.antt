@@ -4,8 +4,7 @@ use Rattle.access_model.specs.declared.replies.Next.TheVariants.{Go}
 use Rattle.percpu_rwsem.specs.declared.callbacks.CallbackStep.TheVariants.{AwaitsSections}
 use Rattle.call_lines.specs.CallingBack.{calling_at}
 use Rattle.gate_steps.proofs.call_events.Leading.{led_on, led_to, led_nowhere, still_agrees}
-use Rattle.call_lines.proofs.CallingBack.{looks_on, looks_in_vain, looks_last}
-use Rattle.call_lines.proofs.Closing.{fewer_tasks}
+use Rattle.call_lines.proofs.{CallingBack.{looks_on, looks_in_vain, looks_last}, Closing.{fewer_tasks}}
 use Rattle.call_lines.proofs.callbacks.await_sections.Goals as goal
 
 pub loop-further-init : goal.loop-further-init

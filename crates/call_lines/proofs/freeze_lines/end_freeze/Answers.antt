@@ -1,7 +1,6 @@
 -- the release goes on from the store
 use Rattle.std.proofs.Common.{ap, ◌∙◌}
-use Rattle.cpu_words.specs.declared.events.Touch.TheVariants.{Store}
-use Rattle.cpu_words.specs.declared.names.WordName.TheVariants.{Holders as HoldersWord}
+use Rattle.cpu_words.specs.declared.{events.Touch.TheVariants.{Store}, names.WordName.TheVariants.{Holders as HoldersWord}}
 use Rattle.freeze_levels.specs.Holders.{word_of}
 use Rattle.gate_steps.proofs.call_events.Leading.{led_on, still_agrees}
 use Rattle.call_lines.proofs.freeze_lines.end_freeze.Goals as goal

@@ -1,8 +1,7 @@
 -- each mount goes on from what the one before it left
 use Rattle.std.proofs.Common.{refl, sym, ap, ◌∙◌}
 use Rattle.access_model.specs.declared.replies.Next.TheVariants.{Go}
-use Rattle.mount_counts.specs.Sets.{no_mounts}
-use Rattle.mount_counts.specs.declared.remounts.RemountStep.TheVariants.{LoadsFlags}
+use Rattle.mount_counts.specs.{Sets.{no_mounts}, declared.remounts.RemountStep.TheVariants.{LoadsFlags}}
 use Rattle.call_lines.specs.Remounting.{remounting_at}
 use Rattle.gate_steps.proofs.call_events.Leading.{led_on, led_to, led_nowhere, still_agrees}
 use Rattle.call_lines.proofs.Remounting.{past_on, past_last}

@@ -2,8 +2,7 @@
 use Rattle.std.proofs.Common.{◌≡◌, ◌-◌}
 use Rattle.std.specs.Prelude.{None}
 use Rattle.access_model.specs.declared.replies.Next.TheVariants.{Go}
-use Rattle.mount_counts.specs.Sets.{no_mounts}
-use Rattle.mount_counts.specs.declared.remounts.RemountStep.TheVariants.{LoadsFlags}
+use Rattle.mount_counts.specs.{Sets.{no_mounts}, declared.remounts.RemountStep.TheVariants.{LoadsFlags}}
 use Rattle.call_lines.specs.Remounting.{remounting_at}
 use Rattle.gate_steps.specs.call_events.KnownSteps.{KnownSteps}
 use Rattle.call_lines.proofs.remount_lines.hold_mounts.Given as goal

@@ -2,8 +2,7 @@
 use Rattle.std.proofs.Common.{arith, refl, sym, ap, true, false}
 use Rattle.std.specs.Prelude.{not}
 use Rattle.gate_steps.proofs.call_events.Leading.{asking_on, led_on, led_to, led_unasked, still_agrees}
-use Rattle.call_lines.proofs.Closing.{same_number, other_number}
-use Rattle.call_lines.proofs.Remounting.{stage_free, state_found}
+use Rattle.call_lines.proofs.{Closing.{same_number, other_number}, Remounting.{stage_free, state_found}}
 use Rattle.call_lines.proofs.remount_lines.remount_locked.Goals as goal
 
 pub returns-then-stage-ne0-clause-led : goal.returns-then-stage-ne0-clause-led

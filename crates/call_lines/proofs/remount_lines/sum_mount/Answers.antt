@@ -4,8 +4,7 @@ use Rattle.access_model.specs.declared.replies.Next.TheVariants.{Go}
 use Rattle.mount_counts.specs.declared.remounts.RemountStep.TheVariants.{Sums}
 use Rattle.call_lines.specs.Remounting.{first_count, remounting_at}
 use Rattle.gate_steps.proofs.call_events.Leading.{led_on, led_to, led_nowhere, still_agrees}
-use Rattle.call_lines.proofs.Closing.{fewer_words}
-use Rattle.call_lines.proofs.Remounting.{sums_on, sums_none}
+use Rattle.call_lines.proofs.{Closing.{fewer_words}, Remounting.{sums_on, sums_none}}
 use Rattle.call_lines.proofs.remount_lines.sum_mount.Goals as goal
 
 pub loop-further-init : goal.loop-further-init

@@ -1,6 +1,5 @@
 use Rattle.std.proofs.Common.{ap, ◌∙◌, sym, Option, Some}
-use Rattle.clap.specs.Lexer.{usize_max}
-use Rattle.clap.specs.declared.builder.action.ArgAction.TheVariants.{SetTrue}
+use Rattle.clap.specs.{Lexer.{usize_max}, declared.builder.action.ArgAction.TheVariants.{SetTrue}}
 use Rattle.clap.specs.declared.builder.{range.ValueRange.ValueRange, value_parser.ValueParser.ValueParser}
 use Rattle.command_line.specs.CommandLine.{argument_rule}
 use Rattle.command_line.proofs.Parsing.{acted, helped, named, parsed, range_there, ranged, required, valued}

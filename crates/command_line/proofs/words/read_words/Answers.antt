@@ -1,5 +1,4 @@
-use Rattle.std.proofs.Common.{ap, subst, ◌∙◌, map, string_bytes}
-use Rattle.std.proofs.lemmas.Result.{IfOk-weaker}
+use Rattle.std.proofs.{Common.{ap, subst, ◌∙◌, map, string_bytes}, lemmas.Result.{IfOk-weaker}}
 use Rattle.clap.specs.Words.{App, is_simple, subcommand_of, takes}
 use Rattle.command_line.specs.CommandLine.{IsBareReplay, is_plain_replay, mntgate_app}
 use Rattle.command_line.proofs.Parsing.{and_left, and_right, is_known}

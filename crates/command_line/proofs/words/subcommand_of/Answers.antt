@@ -1,9 +1,6 @@
-use Rattle.std.proofs.Common.{◌∙◌, List, ap, map, arith}
-use Rattle.std.proofs.lemmas.List.{take_all}
-use Rattle.clap.specs.Words.{Rule}
-use Rattle.clap.specs.Simple.{app_of_fields}
-use Rattle.command_line.specs.declared.words.Argument.{Argument}
-use Rattle.command_line.specs.CommandLine.{alone, argument_rule, command_of}
+use Rattle.std.proofs.{Common.{◌∙◌, List, ap, map, arith}, lemmas.List.{take_all}}
+use Rattle.clap.specs.{Words.{Rule}, Simple.{app_of_fields}}
+use Rattle.command_line.specs.{declared.words.Argument.{Argument}, CommandLine.{alone, argument_rule, command_of}}
 use Rattle.command_line.proofs.Parsing.{added, rules_more}
 use Rattle.command_line.proofs.words.subcommand_of.Goals as goal
 

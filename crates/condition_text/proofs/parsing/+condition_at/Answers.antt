@@ -1,8 +1,6 @@
-use Rattle.std.proofs.Common.{◌≡◌, ◌-◌, true, false, codes, Ok, Err, sym, ap, ◌∙◌, arith}
-use Rattle.std.proofs.lemmas.Result.{err_from_is_err_and}
+use Rattle.std.proofs.{Common.{◌≡◌, ◌-◌, true, false, codes, Ok, Err, sym, ap, ◌∙◌, arith}, lemmas.Result.{err_from_is_err_and}}
 use Rattle.race_conditions.specs.Conditions.{formula_of}
-use Rattle.condition_text.specs.Parsing.{condition_at, sign_text}
-use Rattle.condition_text.specs.Pieces.{is_next}
+use Rattle.condition_text.specs.{Parsing.{condition_at, sign_text}, Pieces.{is_next}}
 use Rattle.condition_text.proofs.Parsed.{carried, too_deep, joined_failed, joined_alone, joined_both, joined_broken, denied_read, denied_failed, enclosed_failed, enclosed_read, unclosed, stated_read, stated_failed}
 use Rattle.condition_text.proofs.parsing.+condition_at.Goals as goal
 

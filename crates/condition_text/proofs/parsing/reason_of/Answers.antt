@@ -1,6 +1,4 @@
-use Rattle.std.proofs.Common.{◌∙◌, rules, tests, bytes_eq}
-use Rattle.std.proofs.lemmas.Iterator.{YieldsList-from_slice}
-use Rattle.std.proofs.lemmas.Iterator.Search.{find_from_yields_List}
+use Rattle.std.proofs.{Common.{◌∙◌, rules, tests, bytes_eq}, lemmas.Iterator.{YieldsList-from_slice, Search.{find_from_yields_List}}}
 use Rattle.access_model.specs.Errors.{name_of}
 use Rattle.condition_text.specs.Parsing.{reason_of}
 use Rattle.condition_text.proofs.parsing.reason_of.Goals as goal

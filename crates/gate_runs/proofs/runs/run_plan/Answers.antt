@@ -1,28 +1,16 @@
 -- what the threads did is what their tasks' numbers have in the end
-use Rattle.std.proofs.Common.{◌≡◌, ◌≢◌, ℕ, inl, inr, sym, ◌*◌, ◌-◌, ◌≤◌, arith, subst, ap, ◌∙◌}
-use Rattle.std.specs.Prelude.{Err, Ok, Result, slice_index, unwrap_or}
-use Rattle.access_model.specs.declared.errors.GateError.{GateError}
-use Rattle.access_model.specs.declared.errors.GateError.TheVariants.{Invalid, NoMemory, Order, TooMany}
-use Rattle.cpu_words.specs.Names.{place, stride}
-use Rattle.cpu_words.specs.declared.names.WordName.TheVariants.{Used}
-use Rattle.gate_world.specs.declared.config.Config.{Config}
-use Rattle.vfs_gates.specs.TaskStates.{SeatedTask}
-use Rattle.std.proofs.lemmas.Nat.{mul-le}
+use Rattle.std.proofs.{Common.{◌≡◌, ◌≢◌, ℕ, inl, inr, sym, ◌*◌, ◌-◌, ◌≤◌, arith, subst, ap, ◌∙◌}, lemmas.Nat.{mul-le}}
 use Rattle.std.proofs.lemmas.Result.{err_from_is_err_and}
-use Rattle.gate_world.specs.Configs.{IsWithin}
-use Rattle.vfs_gates.specs.Ended.{EndedWith, ClosedState}
-use Rattle.gate_runs.specs.Ends.{AllJoined}
-use Rattle.gate_runs.specs.Parts.{Among, EndsAs}
-use Rattle.run_plans.specs.Plans.{MayRun, run_config}
-use Rattle.run_plans.specs.declared.counts.Details.{Details}
-use Rattle.run_plans.specs.declared.plans.Plan.{Plan}
-use Rattle.vfs_gates.specs.declared.Gates.{Gates}
-use Rattle.gate_runs.specs.Refusals.{RunRefused}
-use Rattle.vfs_gates.specs.Splitting.{Gives, HasBegun}
+use Rattle.std.specs.Prelude.{Err, Ok, Result, slice_index, unwrap_or}
+use Rattle.access_model.specs.declared.errors.GateError.{GateError, TheVariants.{Invalid, NoMemory, Order, TooMany}}
+use Rattle.cpu_words.specs.{Names.{place, stride}, declared.names.WordName.TheVariants.{Used}}
+use Rattle.gate_world.specs.{declared.config.Config.{Config}, Configs.{IsWithin}}
+use Rattle.vfs_gates.specs.{TaskStates.{SeatedTask}, Ended.{EndedWith, ClosedState}, declared.Gates.{Gates}, Splitting.{Gives, HasBegun}}
+use Rattle.gate_runs.specs.{Ends.{AllJoined}, Parts.{Among, EndsAs}, Refusals.{RunRefused}}
+use Rattle.run_plans.specs.{Plans.{MayRun, run_config}, declared.{counts.Details.{Details}, plans.Plan.{Plan}}}
 use Rattle.run_rounds.proofs.Answering.{met_in_order}
 use Rattle.vfs_gates.proofs.Splitting.{first_begins, gives_all}
-use Rattle.gate_runs.proofs.Joining.{found_nothing}
-use Rattle.gate_runs.proofs.Staying.{all_did_on, ends_as}
+use Rattle.gate_runs.proofs.{Joining.{found_nothing}, Staying.{all_did_on, ends_as}}
 use Rattle.gate_runs.proofs.runs.run_plan.Goals as goal
 
 pub in_threads-requires-clause-begins : goal.in_threads-requires-clause-begins

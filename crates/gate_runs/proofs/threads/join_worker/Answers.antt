@@ -3,8 +3,7 @@ use Rattle.std.proofs.Common.{subst}
 use Rattle.std.specs.Prelude.{IfErr}
 use Rattle.vfs_gates.specs.declared.Gates.{Gates}
 use Rattle.gate_runs.specs.Refusals.{RunRefused}
-use Rattle.gate_runs.proofs.Homes.{came_home, home_refused}
-use Rattle.gate_runs.proofs.{Resting.{joined_rests, joined_there}, Staying.stays_among}
+use Rattle.gate_runs.proofs.{Homes.{came_home, home_refused}, Resting.{joined_rests, joined_there}, Staying.{stays_among}}
 use Rattle.gate_runs.proofs.threads.join_worker.Goals as goal
 
 pub returns-clause-others : goal.returns-clause-others

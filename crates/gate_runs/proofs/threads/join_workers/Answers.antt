@@ -3,12 +3,8 @@ use Rattle.std.proofs.Common.{◌≡◌, ◌+◌, ◌-◌, arith, subst, ◌∙�
 use Rattle.std.specs.Prelude.{IfErr, IfOk, Ok, Result}
 use Rattle.access_model.specs.declared.errors.GateError.{GateError}
 use Rattle.run_plans.specs.declared.plans.Plan.{Plan}
-use Rattle.gate_runs.specs.Refusals.{RunRefused}
-use Rattle.gate_runs.specs.declared.threads.Met.{Met}
-use Rattle.gate_runs.specs.Homes.{HasBack, NeverThawed, TaskShare}
-use Rattle.gate_runs.specs.Parts.{Among}
-use Rattle.gate_runs.proofs.Homes.{all_parts, either_refused, parts_on, remounted_of, wrote_of}
-use Rattle.gate_runs.proofs.Joining.{has_back_more, has_none_back}
+use Rattle.gate_runs.specs.{Refusals.{RunRefused}, declared.threads.Met.{Met}, Homes.{HasBack, NeverThawed, TaskShare}, Parts.{Among}}
+use Rattle.gate_runs.proofs.{Homes.{all_parts, either_refused, parts_on, remounted_of, wrote_of}, Joining.{has_back_more, has_none_back}}
 use Rattle.gate_runs.proofs.Staying.{each_popped}
 use Rattle.gate_runs.proofs.threads.join_workers.Goals as goal
 

@@ -1,17 +1,12 @@
 -- the next number goes to a task that begins
-use Rattle.std.proofs.Common.{◌≡◌, ℕ, ap, refl, subst, sym, ◌∙◌, [], ◌∷◌}
-use Rattle.std.proofs.lemmas.Result.{err_from_is_err_and}
+use Rattle.std.proofs.{Common.{◌≡◌, ℕ, ap, refl, subst, sym, ◌∙◌, [], ◌∷◌}, lemmas.Result.{err_from_is_err_and}}
 use Rattle.std.specs.Prelude.{Result, Ok, Err, OnOk}
-use Rattle.access_model.specs.declared.actions.Holder.TheVariants.{User}
-use Rattle.access_model.specs.declared.errors.GateError.{GateError}
-use Rattle.vfs_gates.specs.Frozen.{NeverThaws}
-use Rattle.vfs_gates.specs.Parts.{SplitOf}
+use Rattle.access_model.specs.declared.{actions.Holder.TheVariants.{User}, errors.GateError.{GateError}}
+use Rattle.vfs_gates.specs.{Frozen.{NeverThaws}, Parts.{SplitOf}, Seating.{DealtNumbers, given_of, kept_of}, Splitting.{HasBegun}}
+use Rattle.vfs_gates.specs.TaskStates.{SeatedTask, own_view, spare_of}
 use Rattle.run_rounds.specs.Keeping.{HaveNotThawed}
 use Rattle.run_rounds.proofs.Keeping.{have_not}
 use Rattle.vfs_gates.proofs.Splitting.{gives_on, has_begun, refused_for_memory}
-use Rattle.vfs_gates.specs.Seating.{DealtNumbers, given_of, kept_of}
-use Rattle.vfs_gates.specs.Splitting.{HasBegun}
-use Rattle.vfs_gates.specs.TaskStates.{SeatedTask, own_view, spare_of}
 use Rattle.gate_runs.specs.Homes.{IsReady}
 use Rattle.gate_runs.proofs.threads.start_worker.Goals as goal
 

@@ -1,40 +1,24 @@
 -- Events of a callback: each keeps the rule, and leaves the shown model.
-use Rattle.access_model.specs.Histories.{levels_of}
-use Rattle.access_model.specs.Replies.{map_next}
-use Rattle.access_model.specs.declared.replies.Next.{Next}
-use Rattle.cpu_words.specs.Hooks.{HookAnswer}
-use Rattle.cpu_words.specs.Touches.{found_by, left}
-use Rattle.cpu_words.specs.Words.{Words, put, read}
-use Rattle.cpu_words.specs.declared.events.Touch.{Touch}
-use Rattle.cpu_words.specs.declared.names.WordName.{WordName}
+use Rattle.access_model.specs.{Histories.{levels_of}, Replies.{map_next}, declared.replies.Next.{Next}}
+use Rattle.cpu_words.specs.{Hooks.{HookAnswer}, Touches.{found_by, left}, Words.{Words, put, read}, declared.events.Touch.{Touch}}
+use Rattle.cpu_words.specs.{declared.names.WordName.{WordName}, gate_counts.Levels.{Out as CountsNot}}
 use Rattle.finite_sums.proofs.Totals.{update_same}
 use Rattle.finite_sums.specs.Sums.{update}
-use Rattle.cpu_words.specs.gate_counts.Levels.{Out as CountsNot}
 use Rattle.gate_schedules.proofs.frames.Frames.{left_alone, level_view_as}
 use Rattle.gate_schedules.proofs.levels.Parts.{IsAtLevels, SameOffLevels, SameAtMounts, level_parts, level_still, whole_same}
 use Rattle.gate_schedules.proofs.levels.Worlds.{IsEventAt, IsOfLevel, found_level, level_there, sync_elsewhere, sync_off, sync_on}
-use Rattle.gate_world.specs.Configs.{IsWithin}
-use Rattle.gate_world.specs.Fits.{Fits, GraceFits, PhaseFits}
-use Rattle.gate_world.specs.Holdings.{Holdings}
-use Rattle.gate_world.specs.LevelRuns.{level_in}
+use Rattle.gate_world.specs.{Configs.{IsWithin}, Fits.{Fits, GraceFits, PhaseFits}, Holdings.{Holdings}, LevelRuns.{level_in}}
 use Rattle.gate_world.specs.Levels.{inside, level_added_after, level_added_by, level_role_of, level_taken_after, level_taken_by, sync_role_of}
-use Rattle.gate_world.specs.Rules.{AtLevel, Fitting, Holds, IsGood, Moves, StepKeeps, SyncAt, ViewFits}
-use Rattle.gate_world.specs.Shown.{shown}
-use Rattle.gate_world.specs.Views.{actions_after, added_after, held_of, phase_after, taken_after, view_after}
-use Rattle.gate_world.specs.Worlds.{World}
-use Rattle.gate_world.specs.declared.config.Config.{Config}
-use Rattle.gate_world.specs.declared.views.View.{View}
-use Rattle.gate_world.specs.declared.work.Phase.{Phase}
+use Rattle.gate_world.specs.{Rules.{AtLevel, Fitting, Holds, IsGood, Moves, StepKeeps, SyncAt, ViewFits}, Shown.{shown}}
+use Rattle.gate_world.specs.{Views.{actions_after, added_after, held_of, phase_after, taken_after, view_after}, Worlds.{World}}
+use Rattle.gate_world.specs.declared.{config.Config.{Config}, views.View.{View}, work.Phase.{Phase}}
 use Rattle.freeze_laws.proofs.levels.Operations.{callbacks_are_there}
 use Rattle.freeze_laws.specs.levels.Events.{SyncLevel, SyncLevelHolds, SyncStep}
 use Rattle.freeze_laws.specs.levels.Operations.{CallbackIsThere, HoldsOfNext, KnowsCallback, by_next, callback_role, left_by, put_at, value_at}
 use Rattle.freeze_laws.specs.levels.Roles.{Out as IsApart}
-use Rattle.percpu_rwsem.specs.Callbacks.{at_callback, callback_after, callback_next, called_back}
-use Rattle.percpu_rwsem.specs.declared.callbacks.Callback.{Callback}
-use Rattle.percpu_rwsem.specs.declared.callbacks.CallbackStep.{CallbackStep}
-use Rattle.percpu_rwsem.specs.declared.transitions.TransitionNext.{TransitionNext}
-use Rattle.std.proofs.Common.{ap, arith, inl, inr, refl, subst, sym, ℕ, ◌<◌, ◌∙◌, ◌≡◌, ◌≤◌}
-use Rattle.std.proofs.lemmas.Bool.Decides.{eqb_tells}
+use Rattle.percpu_rwsem.specs.{Callbacks.{at_callback, callback_after, callback_next, called_back}, declared.callbacks.Callback.{Callback}}
+use Rattle.percpu_rwsem.specs.declared.{callbacks.CallbackStep.{CallbackStep}, transitions.TransitionNext.{TransitionNext}}
+use Rattle.std.proofs.{Common.{ap, arith, inl, inr, refl, subst, sym, ℕ, ◌<◌, ◌∙◌, ◌≡◌, ◌≤◌}, lemmas.Bool.Decides.{eqb_tells}}
 use Rattle.std.specs.Prelude.{None, Some, if◌then◌else◌}
 
 pub event_of_level : (b : Callback) (s : CallbackStep) → IsEventAt b.level (callback_next b s).0 (callback_next b s).1

@@ -1,6 +1,5 @@
 -- Traces of a callback.
-use Rattle.std.proofs.{Common.{◌≡◌, ℕ, refl, sym, subst}}
-use Rattle.std.proofs.Common.{arith}
+use Rattle.std.proofs.Common.{◌≡◌, ℕ, refl, sym, subst, arith}
 use Rattle.std.specs.Prelude.{List, [], ◌∷◌}
 use Rattle.access_model.specs.{Replies.map_next, declared.{actions.Action.Action, replies.Next.Next}}
 use Rattle.cpu_words.specs.Hooks.{HookAnswer}

@@ -1,7 +1,5 @@
 -- The causes of the refusals of the calls at the tree, along a schedule: a snapshot keeps one, as a thaw does, and no other call does.
-use Rattle.std.proofs.{Common.{◌≡◌, ℕ}}
-use Rattle.std.proofs.lemmas.Grind.{common_steps}
-use Rattle.std.proofs.Common.{arith}
+use Rattle.std.proofs.{Common.{◌≡◌, ℕ, arith}, lemmas.Grind.{common_steps}}
 use Rattle.std.specs.Prelude.{Option, Some, Err, List, ◌∷◌, Bool, true, false, if◌then◌else◌}
 use Rattle.access_model.specs.{Replies.map_next, declared.{errors.GateError.GateError, replies.Next.Next}}
 use Rattle.cpu_words.specs.Hooks.{HookAnswer}

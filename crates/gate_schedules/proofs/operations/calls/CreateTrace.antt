@@ -3,19 +3,15 @@ use Rattle.std.proofs.{Common.{◌≡◌, ℕ, ◌+◌, ◌<◌, ◌≤◌, Bool
 use Rattle.std.specs.Prelude.{◌==◌, Option, List, [], ◌∷◌, length, is_some}
 use Rattle.access_model.specs.declared.{actions.{Action.Action, Kind.Kind}, replies.{Next.Next}}
 use Rattle.cpu_words.specs.{Touches.found_by, declared.events.Event.Event}
-use Rattle.node_words.specs.Nodes.{as_directory, unpacked, directory_in}
-use Rattle.gated_tree.specs.Phases.{at_create, create_after, create_looked, create_next}
-use Rattle.gated_tree.specs.Refusals.{CreateHonest}
-use Rattle.node_words.specs.declared.nodes.NodeWord.{NodeWord}
-use Rattle.gated_tree.specs.declared.changes.Create.{Create}
-use Rattle.gated_tree.specs.declared.changes.CreateStep.{CreateStep}
-use Rattle.gated_tree.specs.declared.phases.TreePhase.{TreePhase}
+use Rattle.node_words.specs.{Nodes.{as_directory, unpacked, directory_in}, declared.nodes.NodeWord.{NodeWord}}
+use Rattle.gated_tree.specs.{Phases.{at_create, create_after, create_looked, create_next}, Refusals.{CreateHonest}}
+use Rattle.gated_tree.specs.declared.{changes.{Create.{Create}, CreateStep.{CreateStep}}, phases.TreePhase.{TreePhase}}
 use Rattle.gate_schedules.{proofs.trees.Ends.create_ends, specs.trees.Ends.{CreateKnows, IsNodeReply, create_adds}}
+use Rattle.gate_schedules.proofs.operations.calls.Trace.{Answers, CallAt, GoesOnOrEnds, call_says, looked, made_some, sees}
+use Rattle.gate_schedules.proofs.traces.TraceInvariant.{IsInductiveGivenReads, InvariantAfterStep, event_at, tells_well, is_short_well}
 use Rattle.gate_world.specs.{Configs.IsWithin, traces.TraceStates.{IsTrace, WordIsValid, ReadIsValid, state_of_trace}, traces.Found.SeenIn, Operations.first_create}
 use Rattle.gate_world.specs.{traces.Traces.{IsShort, Tells, most_events}, Views.with_hook, Work.next_of}
 use Rattle.gate_world.specs.declared.{config.Config.Config, operations.Op.Op, views.Traced.Traced, work.Phase.Phase}
-use Rattle.gate_schedules.proofs.operations.calls.Trace.{Answers, CallAt, GoesOnOrEnds, call_says, looked, made_some, sees}
-use Rattle.gate_schedules.proofs.traces.TraceInvariant.{IsInductiveGivenReads, InvariantAfterStep, event_at, tells_well, is_short_well}
 
 -- the node that a create loads is one of the tree's
 abbrev StepInvariant : Config → List Traced → CreateStep → Type 0

@@ -3,15 +3,14 @@ use Rattle.std.proofs.{Common.{◌≡◌, ℕ, ◌≤◌, Bool, false, refl, sym
 use Rattle.std.specs.Prelude.{Result, Ok, Err, List, [], ◌∷◌, length}
 use Rattle.access_model.specs.declared.{actions.Action.Action, errors.GateError.GateError, replies.{Next.Next, Reply.Reply}}
 use Rattle.cpu_words.specs.{Touches.found_by, declared.events.Event.Event}
-use Rattle.gated_tree.specs.Phases.{at_grow, grow_after, grow_next}
-use Rattle.gated_tree.specs.Refusals.{GrowHonest}
+use Rattle.gated_tree.specs.{Phases.{at_grow, grow_after, grow_next}, Refusals.{GrowHonest}}
 use Rattle.gated_tree.specs.declared.{growth.{Grow.Grow, GrowStep.GrowStep}, phases.TreePhase.TreePhase}
 use Rattle.gate_schedules.{proofs.trees.Ends.grow_ends, specs.trees.Ends.{GrowKnows, IsReply, action_if_done}}
+use Rattle.gate_schedules.proofs.operations.calls.Trace.{Answers, CallAt, GoesOnOrEnds, call_says, sees}
+use Rattle.gate_schedules.proofs.traces.TraceInvariant.{IsInductiveGivenReads, InvariantAfterStep, event_at, tells_well, is_short_well}
 use Rattle.gate_world.specs.{Configs.IsWithin, traces.TraceStates.{IsTrace, WordIsValid, ReadIsValid, state_of_trace}, traces.Found.SeenIn, Operations.first_grow}
 use Rattle.gate_world.specs.{traces.Traces.{actions_of, IsHonest, IsShort, Tells, most_events}, Views.with_hook, Work.next_of}
 use Rattle.gate_world.specs.declared.{config.Config.Config, operations.Op.Op, views.Traced.Traced, work.Phase.Phase}
-use Rattle.gate_schedules.proofs.operations.calls.Trace.{Answers, CallAt, GoesOnOrEnds, call_says, sees}
-use Rattle.gate_schedules.proofs.traces.TraceInvariant.{IsInductiveGivenReads, InvariantAfterStep, event_at, tells_well, is_short_well}
 
 -- how many events a grow has done before a step
 abbrev events_before : GrowStep → ℕ

@@ -4,15 +4,14 @@ use Rattle.std.specs.Prelude.{◌==◌, List, [], ◌∷◌, length}
 use Rattle.access_model.specs.declared.{actions.Action.Action, replies.{Next.Next, Reply.Reply}}
 use Rattle.cpu_words.specs.{Touches.found_by, declared.events.Event.Event}
 use Rattle.node_words.specs.Nodes.{word_of, as_file, unpacked, file_in}
-use Rattle.gated_tree.specs.Phases.{at_mark, mark_after, mark_done, mark_next}
-use Rattle.gated_tree.specs.Refusals.{FileHonest}
+use Rattle.gated_tree.specs.{Phases.{at_mark, mark_after, mark_done, mark_next}, Refusals.{FileHonest}}
 use Rattle.gated_tree.specs.declared.{marks.{Mark.Mark, MarkStep.MarkStep}, phases.TreePhase.TreePhase}
 use Rattle.gate_schedules.{proofs.trees.Ends.mark_ends, specs.trees.Ends.{IsReply, action_if_done}}
+use Rattle.gate_schedules.proofs.operations.calls.Trace.{Answers, CallAt, GoesOnOrEnds, call_says, looked, made_some, sees}
+use Rattle.gate_schedules.proofs.traces.TraceInvariant.{IsInductiveGivenReads, InvariantAfterStep, event_at, tells_well, is_short_well}
 use Rattle.gate_world.specs.{Beginnings.first_phase, Configs.IsWithin, traces.TraceStates.{IsTrace, WordIsValid, ReadIsValid, state_of_trace}, traces.Found.SeenIn, Operations.first_mark}
 use Rattle.gate_world.specs.{traces.Traces.{IsShort, Tells, most_events}, Views.with_hook, Work.next_of}
 use Rattle.gate_world.specs.declared.{config.Config.Config, operations.Op.Op, views.Traced.Traced, work.Phase.Phase}
-use Rattle.gate_schedules.proofs.operations.calls.Trace.{Answers, CallAt, GoesOnOrEnds, call_says, looked, made_some, sees}
-use Rattle.gate_schedules.proofs.traces.TraceInvariant.{IsInductiveGivenReads, InvariantAfterStep, event_at, tells_well, is_short_well}
 
 -- how many events one has done before a step
 abbrev events_before : MarkStep → ℕ

@@ -1,26 +1,18 @@
 -- A call at the tree that its next event refuses for what a node is: the event loads that node, and the shown model has it so.
-use Rattle.std.proofs.Common.{inl, inr, ◌≡◌, ℕ, refl, subst}
-use Rattle.std.proofs.Common.{arith}
+use Rattle.std.proofs.Common.{inl, inr, ◌≡◌, ℕ, refl, subst, arith}
 use Rattle.std.specs.Prelude.{Some, None, Err, List, Option, Result, ◌==◌, ◌+◌, ◌∷◌, if◌then◌else◌, Bool, true, false, nat_lt, option_map}
 use Rattle.access_model.specs.{Replies.map_next, declared.{actions.Kind.Kind, errors.GateError.GateError, replies.{Next.Next, Reply.Reply}}}
 use Rattle.cpu_words.specs.Hooks.{HookAnswer}
 use Rattle.node_words.proofs.Packing.{fields_shown}
 use Rattle.gated_tree.specs.Calls.{IsMoveAnswer, MoveStepFits}
-use Rattle.node_words.specs.Nodes.{word_of, unpacked, file_in, directory_in, node_after, node_of, node_shown, info_of, as_file, as_directory, kind_of, kind_in}
-use Rattle.node_words.specs.Nodes.{is_stray}
 use Rattle.gated_tree.specs.Phases.{create_after, create_looked, remove_after, grow_after, move_after, mark_after, open_after}
-use Rattle.node_words.specs.Phases.{clear_after, after_look, clears_at}
 use Rattle.gated_tree.specs.Phases.{at_open, at_create, at_remove, at_grow, at_move, at_mark}
 use Rattle.gated_tree.specs.declared.changes.{Create.Create, CreateStep.CreateStep, MoveStep.MoveStep, MoveTo.MoveTo, Remove.Remove, RemoveStep.RemoveStep}
-use Rattle.node_words.specs.declared.marks.ClearMarks.{ClearMarks}
-use Rattle.gated_tree.specs.declared.growth.Grow.{Grow}
-use Rattle.gated_tree.specs.declared.growth.GrowStep.{GrowStep}
-use Rattle.gated_tree.specs.declared.marks.Mark.{Mark}
-use Rattle.gated_tree.specs.declared.marks.MarkStep.{MarkStep}
+use Rattle.gated_tree.specs.declared.{growth.{Grow.{Grow}, GrowStep.{GrowStep}}, marks.{Mark.{Mark}, MarkStep.{MarkStep}}}
+use Rattle.gated_tree.specs.declared.{opens.{OpenFile.{OpenFile}, OpenStep.{OpenStep}}, phases.TreePhase.{TreePhase}}
+use Rattle.node_words.specs.Nodes.{word_of, unpacked, file_in, directory_in, node_after, node_of, node_shown, info_of, as_file, as_directory, kind_of, kind_in}
+use Rattle.node_words.specs.{Nodes.{is_stray}, Phases.{clear_after, after_look, clears_at}, declared.marks.ClearMarks.{ClearMarks}}
 use Rattle.node_words.specs.declared.nodes.NodeWord.{NodeWord}
-use Rattle.gated_tree.specs.declared.opens.OpenFile.{OpenFile}
-use Rattle.gated_tree.specs.declared.opens.OpenStep.{OpenStep}
-use Rattle.gated_tree.specs.declared.phases.TreePhase.{TreePhase}
 use Rattle.gate_world.specs.{refusals.Causes.{TellsOf, CallRefused, tree_sees}, Shown.shown, Work.after_of, Worlds.{World, found_at}}
 use Rattle.gate_world.specs.declared.{config.Config.Config, work.Phase.Phase}
 

@@ -4,20 +4,15 @@ use Rattle.std.proofs.lemmas.Grind.{common_steps}
 use Rattle.std.specs.Prelude.{◌==◌, Option, Result, List, [], ◌∷◌, length, nat_lt, is_some}
 use Rattle.access_model.specs.declared.{actions.Action.Action, errors.GateError.GateError, replies.{Next.Next, Reply.Reply}}
 use Rattle.cpu_words.specs.{Touches.found_by, declared.events.Event.Event}
-use Rattle.node_words.specs.Nodes.{word_of, opens_in, as_file, unpacked, file_in}
-use Rattle.node_words.specs.Phases.{after_look}
-use Rattle.gated_tree.specs.Phases.{at_open, opens_from, open_after, open_next}
-use Rattle.node_words.specs.declared.nodes.NodeWord.{NodeWord}
-use Rattle.gated_tree.specs.Refusals.{FileHonest}
-use Rattle.gated_tree.specs.declared.opens.OpenFile.{OpenFile}
-use Rattle.gated_tree.specs.declared.opens.OpenStep.{OpenStep}
-use Rattle.gated_tree.specs.declared.phases.TreePhase.{TreePhase}
+use Rattle.node_words.specs.{Nodes.{word_of, opens_in, as_file, unpacked, file_in}, Phases.{after_look}, declared.nodes.NodeWord.{NodeWord}}
+use Rattle.gated_tree.specs.{Phases.{at_open, opens_from, open_after, open_next}, Refusals.{FileHonest}, declared.opens.OpenFile.{OpenFile}}
+use Rattle.gated_tree.specs.declared.{opens.OpenStep.{OpenStep}, phases.TreePhase.{TreePhase}}
 use Rattle.gate_schedules.{proofs.trees.Ends.open_ends, specs.trees.Ends.{IsReply, action_if_done}}
+use Rattle.gate_schedules.proofs.operations.calls.Trace.{Answers, CallAt, GoesOnOrEnds, call_says, made_some, sees}
+use Rattle.gate_schedules.proofs.traces.TraceInvariant.{IsInductiveGivenReads, InvariantAfterStep, event_at, tells_well, is_short_well}
 use Rattle.gate_world.specs.{Configs.IsWithin, traces.TraceStates.{IsTrace, ReadIsValid, OpenReadIsValid, state_of_trace}, traces.Found.SeenIn, Operations.first_open}
 use Rattle.gate_world.specs.{traces.Traces.{IsShort, Tells, most_events}, Views.with_hook, Work.next_of}
 use Rattle.gate_world.specs.declared.{config.Config.Config, operations.Op.Op, views.Traced.Traced, work.Phase.Phase}
-use Rattle.gate_schedules.proofs.operations.calls.Trace.{Answers, CallAt, GoesOnOrEnds, call_says, made_some, sees}
-use Rattle.gate_schedules.proofs.traces.TraceInvariant.{IsInductiveGivenReads, InvariantAfterStep, event_at, tells_well, is_short_well}
 
 -- how many events an open has done before a step
 abbrev events_before : OpenStep → ℕ

@@ -1,26 +1,17 @@
 -- The calls at the tree run out, a snapshot where it finds `umount` free.
-use Rattle.std.proofs.Common.{◌≡◌, ℕ, ◌+◌, ◌<◌, Bool, true, false, sym, inl, inr, arith, true≢false}
-use Rattle.std.proofs.lemmas.Grind.{common_steps}
+use Rattle.std.proofs.{Common.{◌≡◌, ℕ, ◌+◌, ◌<◌, Bool, true, false, sym, inl, inr, arith, true≢false}, lemmas.Grind.{common_steps}}
 use Rattle.std.proofs.lemmas.Bool.{cases_Bool, ltb-true, Decides.eqb_tells}
 use Rattle.std.specs.Prelude.{◌-◌, nat_lt, is_some, option_map, Option, Some, None, Result, Ok, Err}
 use Rattle.access_model.specs.declared.{errors.GateError.GateError}
 use Rattle.cpu_words.specs.{Hooks.HookAnswer, Touches.found_by, Words.{Words, read}}
-use Rattle.node_words.specs.Nodes.{word_of, unpacked, as_file, as_directory}
-use Rattle.node_words.specs.Phases.{after_look}
+use Rattle.node_words.specs.{Nodes.{word_of, unpacked, as_file, as_directory}, Phases.{after_look, clear_after}}
+use Rattle.node_words.specs.declared.{marks.ClearMarks.{ClearMarks}, nodes.NodeWord.{NodeWord}}
 use Rattle.gated_tree.specs.Phases.{next as tree_next, after as tree_after, create_next, create_after, create_looked}
 use Rattle.gated_tree.specs.Phases.{remove_next, remove_after, grow_next, grow_after, move_next, move_after, mark_next, mark_after, open_next, open_after}
-use Rattle.node_words.specs.Phases.{clear_after}
 use Rattle.gated_tree.specs.Phases.{snapshot_next, snapshot_after, snapshot_locked_out}
 use Rattle.gated_tree.specs.declared.changes.{Create.Create, CreateStep.CreateStep, MoveStep.MoveStep, MoveTo.MoveTo, Remove.Remove, RemoveStep.RemoveStep}
-use Rattle.node_words.specs.declared.marks.ClearMarks.{ClearMarks}
-use Rattle.gated_tree.specs.declared.growth.Grow.{Grow}
-use Rattle.gated_tree.specs.declared.growth.GrowStep.{GrowStep}
-use Rattle.gated_tree.specs.declared.marks.Mark.{Mark}
-use Rattle.gated_tree.specs.declared.marks.MarkStep.{MarkStep}
-use Rattle.node_words.specs.declared.nodes.NodeWord.{NodeWord}
-use Rattle.gated_tree.specs.declared.opens.OpenFile.{OpenFile}
-use Rattle.gated_tree.specs.declared.opens.OpenStep.{OpenStep}
-use Rattle.gated_tree.specs.declared.phases.TreePhase.{TreePhase}
+use Rattle.gated_tree.specs.declared.{growth.{Grow.{Grow}, GrowStep.{GrowStep}}, marks.{Mark.{Mark}, MarkStep.{MarkStep}}}
+use Rattle.gated_tree.specs.declared.{opens.{OpenFile.{OpenFile}, OpenStep.{OpenStep}}, phases.TreePhase.{TreePhase}}
 use Rattle.gated_tree.specs.declared.snapshots.{Snapshot.Snapshot, SnapshotStep.SnapshotStep}
 use Rattle.gate_world.specs.{traces.TraceStates.{WordIsValid, ReadIsValid, OpenReadIsValid}, Worlds.{words_after, found_at}, declared.{config.Config.Config, work.Phase.Phase}}
 use Rattle.gate_schedules.proofs.{frames.ValidWords.events_may_be, operations.deadlocks.RankDecreases.falls_as}

@@ -1,24 +1,15 @@
 -- Of the calls at the tree only a snapshot waits, and only where another task has `umount`; each is refused only for its cause.
-use Rattle.std.proofs.{Common.{◌≡◌, ℕ, ◌<◌, ap, inl, inr, refl}, lemmas.Bool.Decides.eqb_tells}
-use Rattle.std.proofs.lemmas.Grind.{common_steps}
-use Rattle.std.proofs.Common.{arith}
+use Rattle.std.proofs.{Common.{◌≡◌, ℕ, ◌<◌, ap, inl, inr, refl, arith}, lemmas.{Bool.Decides.{eqb_tells}, Grind.{common_steps}}}
 use Rattle.std.specs.Prelude.{Some, None, Ok, Err, List, Option, Result, ◌==◌, if◌then◌else◌, Bool, true, false, is_some, ◌∷◌}
 use Rattle.access_model.specs.{Replies.map_next, declared.{errors.GateError.GateError, replies.Next.Next}}
 use Rattle.cpu_words.specs.Hooks.{HookAnswer}
-use Rattle.node_words.specs.Nodes.{word_of, unpacked, file_in, node_after}
+use Rattle.node_words.specs.{Nodes.{word_of, unpacked, file_in, node_after}, Phases.{clear_after, after_look, clears_at}}
+use Rattle.node_words.specs.declared.{marks.ClearMarks.{ClearMarks}, nodes.NodeWord.{NodeWord}}
 use Rattle.gated_tree.specs.Phases.{create_after, create_looked, remove_after, grow_after, move_after, mark_after, open_after}
-use Rattle.node_words.specs.Phases.{clear_after, after_look, clears_at}
 use Rattle.gated_tree.specs.Phases.{snapshot_locked_out, at_snapshot, node_step}
 use Rattle.gated_tree.specs.declared.changes.{Create.Create, CreateStep.CreateStep, MoveStep.MoveStep, MoveTo.MoveTo, Remove.Remove, RemoveStep.RemoveStep}
-use Rattle.node_words.specs.declared.marks.ClearMarks.{ClearMarks}
-use Rattle.gated_tree.specs.declared.growth.Grow.{Grow}
-use Rattle.gated_tree.specs.declared.growth.GrowStep.{GrowStep}
-use Rattle.gated_tree.specs.declared.marks.Mark.{Mark}
-use Rattle.gated_tree.specs.declared.marks.MarkStep.{MarkStep}
-use Rattle.node_words.specs.declared.nodes.NodeWord.{NodeWord}
-use Rattle.gated_tree.specs.declared.opens.OpenFile.{OpenFile}
-use Rattle.gated_tree.specs.declared.opens.OpenStep.{OpenStep}
-use Rattle.gated_tree.specs.declared.phases.TreePhase.{TreePhase}
+use Rattle.gated_tree.specs.declared.{growth.{Grow.{Grow}, GrowStep.{GrowStep}}, marks.{Mark.{Mark}, MarkStep.{MarkStep}}}
+use Rattle.gated_tree.specs.declared.{opens.{OpenFile.{OpenFile}, OpenStep.{OpenStep}}, phases.TreePhase.{TreePhase}}
 use Rattle.gated_tree.specs.declared.snapshots.{Snapshot.Snapshot, SnapshotStep.SnapshotStep}
 use Rattle.gate_world.specs.{refusals.Causes.{CallRefused, TreeRefused, IsTaken, TellsOf, tree_sees}, Fits.PhaseFits, refusals.KeptCauses.{SnapshotCause, TreeCause}}
 use Rattle.gate_world.specs.{Rules.{owns, IsGood}, Shown.shown, Views.held_of, refusals.Waits.{HasReason, HasCulprit}, Work.after_of}

@@ -5,8 +5,7 @@ use Rattle.finite_sums.proofs.Totals.{total_at}
 use Rattle.finite_sums.specs.Sums.{total, update}
 use Rattle.gate_schedules.proofs.frames.Frames.{MountHoldsAfter, holds_as, owner_same, role_none, role_off, role_on, view_as}
 use Rattle.gate_schedules.proofs.frames.Owners.{flag_law, flags_after, flags_show_same, flags_shown, locks_umount, no_hold, no_remount, no_skip}
-use Rattle.gate_schedules.proofs.frames.Owners.{releases_umount, umount_law}
-use Rattle.gate_schedules.proofs.mounts.Loads.{after_load, as_owner, load_law}
+use Rattle.gate_schedules.proofs.{frames.Owners.{releases_umount, umount_law}, mounts.Loads.{after_load, as_owner, load_law}}
 use Rattle.gate_schedules.proofs.operations.change.Loads.{FitsHere, IsAt, change, change_here, change_off, fits_here}
 use Rattle.gate_world.specs.{Configs.IsWithin, Fits.SumFits, Roles.{change_owns, change_role}, Rules.{AtMount, GateStepKeeps, GatesHold, IsGood, IsSteady}}
 use Rattle.gate_world.specs.{Rules.{MountHoldsIn, ViewFits, at_mount, owns, remounts, role_of}, Shown.{closing, shown}, Views.{added_by, held_of, taken_by}}

@@ -1,11 +1,8 @@
 -- The causes and the waits of a close: those of a down-read of level 3, where it is a last one.
-use Rattle.std.proofs.{Common.{◌≡◌, ℕ, ◌≤◌, arith}}
-use Rattle.std.proofs.lemmas.Grind.{common_steps}
+use Rattle.std.proofs.{Common.{◌≡◌, ℕ, ◌≤◌, arith}, lemmas.Grind.{common_steps}}
 use Rattle.std.specs.Prelude.{Option, Result, List, ◌∷◌}
 use Rattle.access_model.specs.{Replies.map_next, declared.{errors.GateError.GateError, replies.Next.Next}}
-use Rattle.node_words.specs.Nodes.{any_file_in, opens_in}
-use Rattle.node_words.specs.Phases.{after_look}
-use Rattle.node_words.specs.declared.nodes.NodeWord.{NodeWord}
+use Rattle.node_words.specs.{Nodes.{any_file_in, opens_in}, Phases.{after_look}, declared.nodes.NodeWord.{NodeWord}}
 use Rattle.percpu_rwsem.specs.declared.readers.DownRead.{DownRead}
 use Rattle.composite_ops.specs.{file_closes.Phases.{then_frees, closed_from}, declared.file_closes.phases.{ClosePhase.ClosePhase, Closing.Closing}}
 use Rattle.gate_world.specs.{refusals.Causes.{last_asked, WasClosed}, refusals.KeptCauses.CauseOf, Views.phase_after, refusals.Waits.HasReason, Worlds.World}

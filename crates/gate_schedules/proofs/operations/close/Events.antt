@@ -4,17 +4,15 @@ use Rattle.std.proofs.lemmas.Bool.{cases_Bool, true≢false, Decides.eqb_tells}
 use Rattle.std.specs.Prelude.{◌==◌, ◌&&◌, Option, Some, None, Result, Ok, Err, if◌then◌else◌, List}
 use Rattle.finite_sums.{proofs.Totals.{total_at, total_updated, update_off}, specs.Sums.{update, total}}
 use Rattle.access_model.specs.{States.{one_if, is_removed, most_tasks, openers}, declared.errors.GateError.GateError}
-use Rattle.gate_schedules.proofs.{frames.Openers.most_tasks_is, trees.worlds.Holders.level_thawed}
-use Rattle.gate_schedules.proofs.trees.worlds.{Trees.nobody_reads}
+use Rattle.gate_schedules.proofs.{frames.Openers.{most_tasks_is}, trees.worlds.{Holders.{level_thawed}, Trees.{nobody_reads}}}
+use Rattle.gate_schedules.proofs.trees.{Counts.{finds_last, same_le}, Each.each_event, Laws.{role_says}, Steps.{leaves_word, as_event, stays_at}}
 use Rattle.cpu_words.specs.{Words.Words, declared.names.WordName.WordName}
 use Rattle.node_words.proofs.Words.{word_opens, word_shows}
-use Rattle.node_words.specs.Nodes.{word_of, any_file_in, opens_in, node_shown, info_of}
-use Rattle.node_words.specs.Phases.{after_look}
+use Rattle.node_words.specs.{Nodes.{word_of, any_file_in, opens_in, node_shown, info_of}, Phases.{after_look}}
+use Rattle.node_words.specs.declared.nodes.NodeWord.{NodeWord}
 use Rattle.gated_tree.specs.Calls.{role_after}
 use Rattle.gated_tree.specs.Roles.{Role, Out, Freeing, Dropped, Uncounting, frees, removal, Bounds, TreeState, AreWithin, TreeHolds, RoleHolds, NobodyReads}
 use Rattle.gated_tree.specs.Roles.{NobodyElseFrees, IsLastOpen}
-use Rattle.node_words.specs.declared.nodes.NodeWord.{NodeWord}
-use Rattle.gate_schedules.proofs.trees.{Counts.{finds_last, same_le}, Each.each_event, Laws.{role_says}, Steps.{leaves_word, as_event, stays_at}}
 use Rattle.gate_schedules.specs.trees.{Events.{turned, ClosesFile, FreesFile, DropsBlocks, Uncounts}, Steps.{tree_in, EventKeeps}}
 use Rattle.composite_ops.specs.{file_closes.Phases.{next, after, enters, closed_from}, declared.file_closes.phases.{ClosePhase.ClosePhase, Closing.Closing}}
 use Rattle.gate_world.specs.{Configs.IsWithin, Fits.{MayLower, HasFile, file_of}, Roles.{close_tree_role}, Rules.{IsGood, Tree, Files, Stages}}

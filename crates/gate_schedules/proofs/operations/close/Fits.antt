@@ -1,13 +1,11 @@
 -- What fits after an event of a close.
 use Rattle.std.proofs.Common.{◌≡◌, ℕ, ◌<◌, ◌≤◌, ◌⊎◌, Bool, true, false, refl, sym, ◌∙◌, inl, inr, arith, true≢false}
-use Rattle.std.proofs.lemmas.Grind.{common_steps}
-use Rattle.std.proofs.lemmas.Bool.{Decides.{eqb_tells, nat_tests}}
+use Rattle.std.proofs.lemmas.{Grind.{common_steps}, Bool.Decides.{eqb_tells, nat_tests}}
 use Rattle.std.specs.Prelude.{◌==◌, ◌&&◌, Option, Some, Result}
 use Rattle.access_model.specs.{Replies.map_next, declared.{actions.{Kind.Kind}, errors.GateError.GateError, replies.Next.Next}}
 use Rattle.cpu_words.specs.{Hooks.HookAnswer, Names.IsWord}
 use Rattle.node_words.specs.Nodes.{any_file_in, is_stray, node_of, kind_in, kind_of, dirty_in, removed_in, opens_in, IsLawful}
-use Rattle.node_words.specs.Phases.{after_look}
-use Rattle.node_words.specs.declared.nodes.NodeWord.{NodeWord}
+use Rattle.node_words.specs.{Phases.{after_look}, declared.nodes.NodeWord.{NodeWord}}
 use Rattle.percpu_rwsem.specs.{Readers.down_read_after, declared.readers.DownRead.DownRead}
 use Rattle.composite_ops.specs.{file_closes.Phases.{next, after, closed_from, then_frees}, declared.file_closes.phases.{ClosePhase.ClosePhase, Closing.Closing}}
 use Rattle.gate_world.specs.{Holdings.{Holdings, held_after, Agree}, Configs.IsWithin, Fits.{Fits, CloseFits, ClosingFits, ActionFits}, Views.phase_after}

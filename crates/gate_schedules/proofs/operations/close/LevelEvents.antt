@@ -7,20 +7,18 @@ use Rattle.finite_sums.proofs.Totals.{each_updated, update_at}
 use Rattle.finite_sums.specs.Sums.{update}
 use Rattle.gate_schedules.proofs.frames.{Accesses.holdings_of_after, SameRolesOffTree.{roles_off_tree, made, made_keeps_off_tree, made_runs_off_tree, rephased_off_tree}}
 use Rattle.gate_schedules.proofs.{frames.Frames.{left_alone, opens_left}, operations.{close.Fits.enters_fits, readers.Laws.{end_phase, read_phase}}}
-use Rattle.gate_schedules.proofs.trees.worlds.Trees.{tree_holds}
+use Rattle.gate_schedules.proofs.trees.{worlds.Trees.{tree_holds}, Counts.{leaves}}
 use Rattle.gate_world.specs.{SameRoles.{SameRolesOffTree, at_phase, rephased}, Configs.IsWithin, Fits.{CloseFits, Fits, HasFile, file_of}, Holdings.Holdings}
 use Rattle.gate_world.specs.{Holdings.held_after, LevelRuns.level_in, Rules.{Files, Fitting, Holds, IsGood, Moves, SameWords, StepKeeps, Tree}, Shown.shown}
 use Rattle.gate_world.specs.{Trees.{tree_bounds, tree_of, tree_role_of, tree_roles}, Views.{has_open, held_of, phase_after, view_with}, Work.after_of}
 use Rattle.gate_world.specs.{Work.next_of, Worlds.{World, found_at, words_after}, declared.{config.Config.Config, views.{Traced.Traced, View.View}}}
 use Rattle.gate_world.specs.declared.work.Phase.{Phase}
-use Rattle.node_words.specs.Nodes.{opens_in}
-use Rattle.node_words.specs.declared.nodes.NodeWord.{NodeWord}
+use Rattle.node_words.specs.{Nodes.{opens_in}, declared.nodes.NodeWord.{NodeWord}}
 use Rattle.gated_tree.specs.Roles.{Freeing, Out as OffTree, TreeHolds, charge, child_charge, removal}
 use Rattle.freeze_laws.specs.levels.Events.{SyncStep}
 use Rattle.percpu_rwsem.specs.{Readers.{at_down_read, down_read_after}, declared.readers.{DownRead.DownRead, DownReadStep.DownReadStep}}
 use Rattle.std.proofs.{Common.{Bool, ap, arith, inl, inr, refl, subst, sym, true, ℕ, ◌<◌, ◌∙◌, ◌≡◌, ◌⊎◌}, lemmas.Bool.cases_Bool}
 use Rattle.std.specs.Prelude.{Err, List, Ok, Option, Some, ◌==◌}
-use Rattle.gate_schedules.proofs.trees.Counts.{leaves}
 
 -- what comes after an event at level 3 is beside what comes in its own operation
 pub beside_enters : (file p : ℕ) (node : NodeWord) (n : Next DownRead) →

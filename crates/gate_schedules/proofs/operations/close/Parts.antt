@@ -2,28 +2,25 @@
 -- task's open files.
 use Rattle.access_model.specs.{Replies.map_next, States.is_removed, declared.{actions.Action.Action, errors.GateError.GateError, replies.Next.Next}}
 use Rattle.std.proofs.lemmas.Grind.{common_steps}
+use Rattle.std.proofs.{Common.{Bool, ap, arith, false, inl, inr, refl, subst, sym, true, true≢false, ℕ, ◌<◌, ◌∙◌, ◌≡◌}, lemmas.Bool.cases_Bool}
+use Rattle.std.proofs.lemmas.Bool.Decides.{eqb_tells}
 use Rattle.cpu_words.specs.Hooks.{HookAnswer}
 use Rattle.composite_ops.specs.{file_closes.Phases.{after, closed_from, next}, declared.file_closes.phases.{ClosePhase.ClosePhase, Closing.Closing}}
 use Rattle.gate_schedules.proofs.operations.close.Events.{close_drops, close_frees, close_loads, close_lowers, close_uncounts, closer_unread, dropped_removed}
 use Rattle.gate_schedules.proofs.operations.close.Events.{freeing_removed, frees_alone}
 use Rattle.gate_schedules.proofs.{operations.close.Fits.close_goes, trees.worlds.{Events.{IsPlain, plain_parts, tree_run}, MayTree.LeaveFor}}
 use Rattle.gate_schedules.proofs.trees.worlds.Parts.{IsAtTree, IsOffGates, LeavesAccesses, files_then, fitting_then, idle_off, is_node_word}
-use Rattle.gate_schedules.proofs.trees.worlds.Parts.{node_call, shown_moves, tree_then}
-use Rattle.gate_schedules.proofs.trees.worlds.Trees.{tree_within}
+use Rattle.gate_schedules.proofs.trees.worlds.{Parts.{node_call, shown_moves, tree_then}, Trees.{tree_within}}
 use Rattle.gate_world.specs.{Configs.{IsWithin, model_limits}, Fits.{CloseFits, Fits, HasFile, MayLower, file_of}, Holdings.{Holdings, held_after}}
 use Rattle.gate_world.specs.{LevelRuns.level_in, Roles.close_tree_role, Rules.{Files, Fitting, IsGood, StepKeeps, Tree}, Shown.shown}
 use Rattle.gate_world.specs.{Trees.{is_bare_at, is_sealed, tree_bounds, tree_role_of, tree_roles}, Views.{has_open, held_of, phase_after, view_after}}
 use Rattle.gate_world.specs.{Worlds.{World, after_step, found_at, value_at}, declared.{config.Config.Config, views.{Traced.Traced, View.View}}}
 use Rattle.gate_world.specs.declared.work.Phase.{Phase}
 use Rattle.node_words.proofs.Words.{word_opens, word_shows}
-use Rattle.node_words.specs.Nodes.{any_file_in, info_of, node_shown, opens_in, word_of}
-use Rattle.node_words.specs.Phases.{after_look}
-use Rattle.gated_tree.specs.Calls.{role_after}
-use Rattle.gated_tree.specs.Roles.{Dropped, Freeing}
+use Rattle.node_words.specs.{Nodes.{any_file_in, info_of, node_shown, opens_in, word_of}, Phases.{after_look}}
 use Rattle.node_words.specs.declared.nodes.NodeWord.{NodeWord}
+use Rattle.gated_tree.specs.{Calls.{role_after}, Roles.{Dropped, Freeing}}
 use Rattle.freeze_laws.specs.levels.Events.{SyncStep}
-use Rattle.std.proofs.{Common.{Bool, ap, arith, false, inl, inr, refl, subst, sym, true, true≢false, ℕ, ◌<◌, ◌∙◌, ◌≡◌}, lemmas.Bool.cases_Bool}
-use Rattle.std.proofs.lemmas.Bool.Decides.{eqb_tells}
 use Rattle.std.specs.Prelude.{List, Option, Result, Some, ◌==◌}
 use Rattle.gate_schedules.specs.trees.{Events.HasLeave, Steps.EventKeeps}
 

@@ -3,8 +3,7 @@ use Rattle.std.proofs.{Common.{◌≡◌, ℕ, ◌+◌, true, false, refl, sym, 
 use Rattle.std.specs.Prelude.{◌==◌, ◌&&◌, Option, Some}
 use Rattle.access_model.specs.declared.{actions.Kind.Kind, replies.Next.Next}
 use Rattle.cpu_words.specs.{Touches.{left, found_by}, Words.{Words, read, put}}
-use Rattle.node_words.specs.Nodes.{word_of, is_stray, node_of, opens_in, as_any_file}
-use Rattle.node_words.specs.Phases.{after_look}
+use Rattle.node_words.specs.{Nodes.{word_of, is_stray, node_of, opens_in, as_any_file}, Phases.{after_look}}
 use Rattle.node_words.specs.declared.nodes.NodeWord.{NodeWord}
 use Rattle.percpu_rwsem.specs.{Readers.down_read_after, declared.readers.DownRead.DownRead}
 use Rattle.composite_ops.specs.file_closes.Phases.{closed_from, then_frees, next as close_next, after as close_after}

@@ -4,8 +4,7 @@ use Rattle.std.proofs.lemmas.Grind.{common_steps}
 use Rattle.std.specs.Prelude.{◌==◌, Option, Result, List, [], ◌∷◌, length, is_some}
 use Rattle.access_model.specs.{Replies.map_next, declared.{actions.{Action.Action, Gate.Gate}, errors.GateError.GateError, replies.Next.Next}}
 use Rattle.cpu_words.specs.{Hooks.HookAnswer, Touches.{event_of, found_by}}
-use Rattle.node_words.specs.Nodes.{any_file_in, as_any_file, opens_in, unpacked, word_of}
-use Rattle.node_words.specs.Phases.{after_look}
+use Rattle.node_words.specs.{Nodes.{any_file_in, as_any_file, opens_in, unpacked, word_of}, Phases.{after_look}}
 use Rattle.node_words.specs.declared.nodes.NodeWord.{NodeWord}
 use Rattle.percpu_rwsem.specs.{Readers.{down_read_next, down_read_after}, declared.readers.{DownRead.DownRead, DownReadStep.DownReadStep}}
 use Rattle.composite_ops.specs.{file_closes.Phases.{closed_from, then_frees}, declared.file_closes.phases.ClosePhase.ClosePhase}

@@ -1,10 +1,8 @@
 -- The closing of a level leaves the words that others are blocked by, and ends only by passing the level.
-use Rattle.std.{proofs.{Common.{◌≡◌, ℕ}}, specs.Prelude.{Option, Some, None}}
-use Rattle.std.proofs.Common.{arith}
+use Rattle.std.{proofs.Common.{◌≡◌, ℕ, arith}, specs.Prelude.{Option, Some, None}}
 use Rattle.access_model.specs.declared.{actions.Action.Action, replies.Next.Next}
 use Rattle.cpu_words.specs.{Words.Words}
-use Rattle.percpu_rwsem.specs.Writers.{down_write_next, down_write_after, sections_awaited}
-use Rattle.percpu_rwsem.specs.declared.{grace.GraceNext.GraceNext}
+use Rattle.percpu_rwsem.specs.{Writers.{down_write_next, down_write_after, sections_awaited}, declared.grace.GraceNext.{GraceNext}}
 use Rattle.percpu_rwsem.specs.declared.writers.{DownWrite.DownWrite, DownWriteStep.DownWriteStep}
 use Rattle.gate_schedules.proofs.operations.deadlocks.{RankDecreases.after_event, SectionExit.StaysBeside}
 

@@ -1,10 +1,16 @@
 -- Where each operation under way is blocked, no event of one of them is a reply, and all stay blocked.
 use Rattle.gate_world.specs.Roles.{freeze_owns}
+use Rattle.gate_world.specs.{Fits.{FreezeFits, PhaseFits}, Levels.{is_frozen_whole, sync_role_of}, Roles.freeze_stage_role, Rules.{IsGood, Moves as MovesModel}}
+use Rattle.gate_world.specs.{Rules.{Owner, Stages, SyncAt, SyncHoldsIn, Tree, owns, stage_role_of}, Shown.shown, Views.held_of}
+use Rattle.gate_world.specs.{Views.{holds_level, phase_after, view_after}, Work.after_of, Worlds.{World, after_step, found_at, phase_action, value_at}}
+use Rattle.gate_world.specs.{Worlds.words_after, declared.{config.Config.Config, views.View.View, work.Phase.{Phase, TheVariants.Closes as FileCloses}}}
+use Rattle.gate_world.specs.declared.work.Phase.TheVariants.{DownReads, Freezes, Mounts, Remounts, Thaws, Trees, Writes}
 use Rattle.access_model.specs.{Replies.map_next, declared.{actions.Action.{Action, TheVariants.Pass}, replies.Next.{Next, TheVariants.{Done, Go, Wait}}}}
 use Rattle.cpu_words.specs.{Hooks.HookAnswer, Touches.{found_by, left}, Words.{Words, put, read}, declared.events.Touch.TheVariants.Cas}
 use Rattle.cpu_words.specs.declared.names.WordName.TheVariants.{Node, Umount}
 use Rattle.composite_ops.specs.{file_closes.Phases.{after as close_after, enters, then_frees}, declared.file_closes.phases.ClosePhase.TheVariants.Enters as EntersLevel}
 use Rattle.composite_ops.specs.declared.file_closes.phases.{ClosePhase.TheVariants.LoadsFile as CloseLoadsFile, Closing.Closing}
+use Rattle.composite_ops.specs.{write_access.Phases.then_wants, declared.write_access.phases.WritePhase.TheVariants.Takes}
 use Rattle.finite_sums.proofs.Totals.{each_updated, update_off}
 use Rattle.freeze_levels.specs.{Freezes.{after_closing, at_freeze, freeze_closes, level_closed}, Thaws.at_thaw, declared.freezes.Freeze.Freeze}
 use Rattle.freeze_levels.specs.declared.freezes.FreezeStep.{FreezeStep, TheVariants.{Cleans, Closes, LoadsStage, LoadsSuperblock, Locks as FreezeLocks}}
@@ -15,15 +21,8 @@ use Rattle.gate_schedules.proofs.operations.deadlocks.{RankDecreases.{after_even
 use Rattle.gate_schedules.proofs.operations.deadlocks.BlockedCloses.{StaysAtLevel, down_beside, down_blocks, down_nodes, down_stays}
 use Rattle.gate_schedules.proofs.operations.deadlocks.{BlockedStarts.{StaysKept, read_nodes, start_stays}, SectionExit.{StaysBeside, read_beside}, WhoCanStep.fits_at}
 use Rattle.gate_schedules.proofs.operations.{deadlocks.BlockedOrProgress.{first_finds, first_is, or_phase}, readers.Progress.read_blocks}
-use Rattle.gate_world.specs.{Fits.{FreezeFits, PhaseFits}, Levels.{is_frozen_whole, sync_role_of}, Roles.freeze_stage_role, Rules.{IsGood, Moves as MovesModel}}
-use Rattle.gate_world.specs.{Rules.{Owner, Stages, SyncAt, SyncHoldsIn, Tree, owns, stage_role_of}, Shown.shown, Views.held_of}
-use Rattle.gate_world.specs.{Views.{holds_level, phase_after, view_after}, Work.after_of, Worlds.{World, after_step, found_at, phase_action, value_at}}
-use Rattle.gate_world.specs.{Worlds.words_after, declared.{config.Config.Config, views.View.View, work.Phase.{Phase, TheVariants.Closes as FileCloses}}}
-use Rattle.gate_world.specs.declared.work.Phase.TheVariants.{DownReads, Freezes, Mounts, Remounts, Thaws, Trees, Writes}
-use Rattle.node_words.proofs.ClearedMarks.{IsCleared, clears_mark, without_mark}
-use Rattle.node_words.proofs.Packing.{packed_unpacks}
-use Rattle.node_words.specs.Nodes.{IsPacked, kind_in, node_of, opens_in, removed_in}
-use Rattle.node_words.specs.declared.marks.ClearMarks.{ClearMarks}
+use Rattle.node_words.proofs.{ClearedMarks.{IsCleared, clears_mark, without_mark}, Packing.{packed_unpacks}}
+use Rattle.node_words.specs.{Nodes.{IsPacked, kind_in, node_of, opens_in, removed_in}, declared.marks.ClearMarks.{ClearMarks}}
 use Rattle.gated_tree.specs.declared.{phases.TreePhase.TheVariants.Snapshot as Snapshots, snapshots.{Snapshot.Snapshot, SnapshotStep.SnapshotStep}}
 use Rattle.gated_tree.specs.declared.snapshots.SnapshotStep.TheVariants.{Locks as SnapshotLocks}
 use Rattle.mount_counts.specs.{Remounts.at_remount, declared.phases.{Change.Change, ChangeStep.{ChangeStep, TheVariants.Locks as ChangeLocks}}}
@@ -38,7 +37,6 @@ use Rattle.freeze_laws.specs.stages.Roles.{KnowsStage, bit}
 use Rattle.std.proofs.{Common.{Bool, ap, arith, false, inl, inr, refl, subst, sym, true, true≢false, ℕ, ◌<◌, ◌∙◌, ◌≡◌, ◌≤◌}, lemmas.Bool.and_parts}
 use Rattle.std.proofs.lemmas.Bool.{cases_Bool, eqb-true, ne_eqb, Decides.eqb_tells}
 use Rattle.std.specs.Prelude.{Err, Ok, Option, Some, if◌then◌else◌, nat_lt, ◌&&◌, ◌+◌, ◌==◌}
-use Rattle.composite_ops.specs.{write_access.Phases.then_wants, declared.write_access.phases.WritePhase.TheVariants.Takes}
 
 far_same : (w next : Words) (s : FreezeStep) → 2 ≤ next_level w s → next_level w s ≤ 3 → next_level next s ≡ next_level w s
 far_same w next s two three = grind arith

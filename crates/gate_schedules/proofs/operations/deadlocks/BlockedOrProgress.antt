@@ -1,13 +1,13 @@
 -- Each operation under way is blocked, or a reply is near.
 use Rattle.gate_world.specs.Roles.{freeze_owns, snapshot_owns, thaw_owns}
-use Rattle.cpu_words.specs.{Hooks.HookAnswer, Words.Words}
-use Rattle.composite_ops.specs.declared.file_closes.phases.ClosePhase.{ClosePhase}
-use Rattle.finite_sums.proofs.Totals.{update_off}
-use Rattle.freeze_levels.specs.{Freezes.at_freeze, declared.{freezes.{Freeze.Freeze, FreezeStep.FreezeStep}, thaws.ThawStep.ThawStep}}
 use Rattle.gate_world.specs.{Configs.IsWithin, Fits.PhaseFits, Remounts.remount_owns, Roles.{change_owns}}
 use Rattle.gate_world.specs.{Rules.{AtLevel, IsGood, Stages, owns, stage_role_of}, Views.{held_of, phase_after, view_after}}
 use Rattle.gate_world.specs.{Work.after_of, Worlds.{World, after_step, found_at, value_at}, declared.{config.Config.Config, views.View.View}}
 use Rattle.gate_world.specs.declared.work.Phase.{Phase}
+use Rattle.cpu_words.specs.{Hooks.HookAnswer, Words.Words}
+use Rattle.composite_ops.specs.declared.{file_closes.phases.ClosePhase.{ClosePhase}, write_access.phases.WritePhase.{WritePhase}}
+use Rattle.finite_sums.proofs.Totals.{update_off}
+use Rattle.freeze_levels.specs.{Freezes.at_freeze, declared.{freezes.{Freeze.Freeze, FreezeStep.FreezeStep}, thaws.ThawStep.ThawStep}}
 use Rattle.gated_tree.specs.declared.{phases.TreePhase.TreePhase, snapshots.SnapshotStep.SnapshotStep}
 use Rattle.mount_counts.specs.declared.{phases.{ChangeStep.ChangeStep, MountPhase.MountPhase}, remounts.RemountStep.RemountStep}
 use Rattle.percpu_rwsem.specs.declared.readers.DownReadStep.{DownReadStep}
@@ -21,7 +21,6 @@ use Rattle.freeze_laws.specs.stages.Roles.{KnowsStage, bit}
 use Rattle.std.proofs.{Common.{Bool, ap, arith, false, inl, inr, refl, subst, sym, true, true≢false, ℕ, ◌+◌, ◌<◌, ◌∙◌, ◌≡◌, ◌≤◌}, lemmas.Bool.cases_Bool}
 use Rattle.std.proofs.lemmas.Bool.{cases_lt, le-ltb, Decides.eqb_tells}
 use Rattle.std.specs.Prelude.{None, Option, Some, nat_lt, ◌==◌, ◌⊎◌}
-use Rattle.composite_ops.specs.declared.write_access.phases.WritePhase.{WritePhase}
 
 -- a lock is free, or not, and then the task stands before it
 change_either : (w : Words) (s : ChangeStep) (wait : Bool) →

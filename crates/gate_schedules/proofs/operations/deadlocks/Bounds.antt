@@ -10,8 +10,7 @@ use Rattle.freeze_levels.specs.declared.{freezes.{Freeze.Freeze}}
 use Rattle.gate_world.specs.{Holdings.Holdings, Configs.IsWithin, Fits.{PhaseFits}, Remounts.RemountFits}
 use Rattle.gate_world.specs.declared.{config.Config.Config, work.Phase.Phase}
 use Rattle.gate_schedules.proofs.operations.remount.Progress.{loop_step, size_small}
-use Rattle.gate_schedules.specs.operations.Ranks.{rank, loop_rank, remount_rank, read_rank}
-use Rattle.gate_schedules.specs.operations.Ranks.{closing_rank, closed_rank}
+use Rattle.gate_schedules.specs.operations.Ranks.{rank, loop_rank, remount_rank, read_rank, closing_rank, closed_rank}
 use Rattle.gate_schedules.specs.operations.Ranks.{snapshot_rank, most_in_loop, most_beside, most_alone, most_settled}
 
 loop_mono : (p a b : ℕ) → a ≤ b → loop_rank p a ≤ loop_rank p b

@@ -4,8 +4,7 @@ use Rattle.finite_sums.proofs.Totals.{update_at}
 use Rattle.access_model.specs.{Replies.map_next, declared.replies.Next.Next}
 use Rattle.cpu_words.specs.{Hooks.HookAnswer, Touches.left, Words.{Words, read, put}, declared.{events.Touch.Touch, names.WordName.WordName}}
 use Rattle.gate_world.specs.{Configs.IsWithin, Rules.IsGood, Views.{phase_after, view_after_with_others}, Work.after_of}
-use Rattle.gate_world.specs.Worlds.{World, step_of, after_step, value_at, found_at, happens}
-use Rattle.gate_world.specs.declared.entries.Entry.{TheVariants.{Steps}}
+use Rattle.gate_world.specs.{Worlds.{World, step_of, after_step, value_at, found_at, happens}, declared.entries.Entry.TheVariants.{Steps}}
 use Rattle.gate_world.specs.declared.{config.Config.Config, views.View.View, work.Phase.Phase}
 use Rattle.gate_schedules.specs.operations.{Progress.{EventsKeepRule, HasReply, ReplyWithin}, Ranks.rank, Unblocked.{IsUnblocked, RankDecreases, PhaseEnds}}
 

@@ -1,5 +1,5 @@
 -- With an operation under way, a reply is near, or the file system is frozen as a whole, or a freeze is blocked by an idle task.
-use Rattle.composite_ops.specs.declared.file_closes.phases.ClosePhase.{ClosePhase}
+use Rattle.composite_ops.specs.declared.{file_closes.phases.ClosePhase.{ClosePhase}, write_access.phases.WritePhase.{WritePhase}}
 use Rattle.finite_sums.proofs.Totals.{HasPlace, total_place}
 use Rattle.freeze_levels.specs.declared.{freezes.{Freeze.Freeze, FreezeStep.FreezeStep}, thaws.ThawStep.ThawStep}
 use Rattle.gate_world.specs.{Configs.IsWithin, Fits.PhaseFits, Levels.is_frozen_whole, Roles.{freeze_stage_role, remount_stage_role, snapshot_stage_role}}
@@ -13,7 +13,6 @@ use Rattle.gate_schedules.specs.operations.{Progress.{RemountIsBlocked, ReplyOrF
 use Rattle.freeze_laws.specs.stages.Roles.{bit, closed_by, closes, up_to}
 use Rattle.std.proofs.{Common.{Bool, ap, arith, false, inl, inr, refl, true, ℕ, ◌<◌, ◌∙◌, ◌≡◌, ◌≤◌}, lemmas.Bool.lt-leb}
 use Rattle.std.specs.Prelude.{None, Option, Some, ◌&&◌, ◌==◌, ◌⊎◌}
-use Rattle.composite_ops.specs.declared.write_access.phases.WritePhase.{WritePhase}
 
 up_to_none : (i : ℕ) → 1 ≤ i → up_to i 0 ≡ 0
 up_to_none i one = rw (lt-leb i 0 one)

@@ -4,8 +4,7 @@ use Rattle.finite_sums.specs.Sums.{total}
 use Rattle.finite_sums.proofs.Totals.{total_at, total_bound, total_updated, update_at}
 use Rattle.cpu_words.specs.Hooks.{HookAnswer}
 use Rattle.gate_world.specs.{Configs.IsWithin, Rules.IsGood, Views.view_after_with_others, Worlds.{World, after_step, value_at, happens}}
-use Rattle.gate_world.specs.declared.entries.Entry.{TheVariants.{Steps}}
-use Rattle.gate_world.specs.declared.{config.Config.Config, views.View.View, work.Phase.Phase}
+use Rattle.gate_world.specs.declared.{entries.Entry.TheVariants.{Steps}, config.Config.{Config}, views.View.{View}, work.Phase.{Phase}}
 use Rattle.gate_schedules.proofs.operations.{AllOperations.phase_ends, deadlocks.{RankDecreases.happens_is, BlockedOrProgress.world_goes}}
 use Rattle.gate_schedules.specs.operations.Progress.{AllAreBlocked, EventsKeepRule, Progresses, ReplyWithin, SettlesWithin}
 use Rattle.gate_schedules.specs.operations.Ranks.{most_events_to_reply, most_events_to_settle}

@@ -6,8 +6,7 @@ use Rattle.finite_sums.specs.Sums.{total}
 use Rattle.access_model.specs.{Holders.held_by, Replies.map_next, declared.{errors.GateError.GateError, replies.Next.Next}}
 use Rattle.cpu_words.specs.{Hooks.HookAnswer, Sums.{lead, ahead}, Touches.wrap_add, Words.Words, declared.{names.WordName.WordName, sums.Sum.Sum}}
 use Rattle.cpu_words.proofs.gate_counts.{Events.words_sum, Numbers.{ahead_none, ahead_step, ahead_past}}
-use Rattle.node_words.specs.Phases.{clear_after}
-use Rattle.node_words.specs.declared.marks.ClearMarks.{ClearMarks}
+use Rattle.node_words.specs.{Phases.{clear_after}, declared.marks.ClearMarks.{ClearMarks}}
 use Rattle.percpu_rwsem.specs.{Graces.looked, SyncWords.{unpack, is_passed, on_enter, on_callback}, Transitions.transition_after}
 use Rattle.percpu_rwsem.specs.Writers.{down_write_after, at_down_write, enter_step, callback_step, sections_awaited, passed_awaited, up_write_after}
 use Rattle.percpu_rwsem.specs.declared.{grace.GraceNext.GraceNext, sync_word.{SyncWord.SyncWord}, transitions.TransitionNext.TransitionNext}

@@ -12,6 +12,7 @@ use Rattle.cpu_words.specs.{Hooks.HookAnswer, Sums.sum_taking, Touches.{found_by
 use Rattle.finite_sums.proofs.Totals.{total_at}
 use Rattle.finite_sums.specs.Sums.{total, update}
 use Rattle.freeze_levels.specs.{Freezes.{after_closing, at_freeze, level_closed}, declared.freezes.{Freeze.Freeze, FreezeStep.FreezeStep}}
+use Rattle.freeze_levels.specs.holder_laws.Roles.{Apart}
 use Rattle.gate_world.specs.{Configs.{IsWithin, model_limits}, Fits.Fits, Holdings.{Holdings, holdings_of}, Levels.{level_added_by, level_taken_by}}
 use Rattle.gate_world.specs.{Roles.{closed_to, freeze_holder_role, freeze_stage_role, place_of}, Rules.{Holds, IsGood, Tree, ViewFits}}
 use Rattle.gate_world.specs.{Rules.{holder_role_of, marks_of, owns, stage_role_of}, Shown.shown, Trees.{tree_role_of, tree_roles}, Views.actions_after}
@@ -20,7 +21,6 @@ use Rattle.gate_world.specs.declared.{views.View.View, work.Phase.Phase}
 use Rattle.node_words.proofs.ClearedMarks.{directory_clean}
 use Rattle.node_words.specs.Nodes.{IsNode}
 use Rattle.gated_tree.specs.Roles.{Clearing, Out as OffTree}
-use Rattle.freeze_levels.specs.holder_laws.Roles.{Apart}
 use Rattle.percpu_rwsem.specs.{Graces.looked, SyncWords.{on_callback, on_enter, unpack}, Transitions.transition_after, Writers.at_down_write}
 use Rattle.percpu_rwsem.specs.Writers.{callback_step, down_write_after, down_write_next, down_write_summed, enter_step, passed_awaited, sections_awaited}
 use Rattle.percpu_rwsem.specs.{Writers.sum_begun, declared.{grace.GraceNext.GraceNext, sync_word.{SyncWord.SyncWord}}}

@@ -14,15 +14,14 @@ use Rattle.finite_sums.proofs.Totals.{each_updated, update_map, update_same}
 use Rattle.finite_sums.specs.Sums.{update}
 use Rattle.freeze_levels.specs.{Freezes.{after_reopening, at_freeze}, Thaws.{after_opening}}
 use Rattle.freeze_levels.specs.declared.{freezes.{Freeze.Freeze, FreezeStep.FreezeStep}, thaws.{Thaw.Thaw, ThawStep.ThawStep}}
+use Rattle.freeze_levels.specs.holder_laws.Roles.{Apart}
 use Rattle.gate_world.specs.{SameRoles.{SameRoles, rephased}, Configs.{IsWithin, model_limits}, Fits.FreezeFits, Holdings.Holdings, Roles.closed_to}
 use Rattle.gate_world.specs.{Roles.{freeze_holder_role, freeze_stage_role, freeze_position, freeze_tree_role}, Rules.{Holds, IsGood, StepKeeps, Tree, ViewFits}}
 use Rattle.gate_world.specs.{Rules.{holder_role_of, marks_of, owns, stage_role_of, stage_roles}, Shown.shown, Trees.{tree_bounds, tree_of}, Views.held_of}
 use Rattle.gate_world.specs.{Views.phase_after, Worlds.World, declared.{config.Config.Config, views.View.View, work.Phase.Phase}}
 use Rattle.node_words.proofs.ClearedMarks.{clean_stays, cleared_shown, clears_mark, without_mark}
-use Rattle.node_words.specs.Nodes.{IsNode, dirty_in, node_shown, opens_in}
-use Rattle.node_words.specs.declared.marks.ClearMarks.{ClearMarks}
+use Rattle.node_words.specs.{Nodes.{IsNode, dirty_in, node_shown, opens_in}, declared.marks.ClearMarks.{ClearMarks}}
 use Rattle.gated_tree.specs.Roles.{Clearing, TreeState}
-use Rattle.freeze_levels.specs.holder_laws.Roles.{Apart}
 use Rattle.percpu_rwsem.specs.{Writers.{up_write_after, up_write_next}, declared.writers.UpWrite.UpWrite}
 use Rattle.freeze_laws.specs.stages.{Events.{ClearsMark as ClearsMarkStage, cleaned}, Roles.{Freezing, HasPassed, owns as stage_owns}, Shown.state_after}
 use Rattle.std.proofs.{Common.{ap, arith, false, inl, inr, nat_lt, refl, subst, suc, sym, true, ℕ, ◌+◌, ◌<◌, ◌∙◌, ◌≡◌}, lemmas.Bool.cases_Bool}

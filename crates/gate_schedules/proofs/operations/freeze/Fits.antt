@@ -1,14 +1,11 @@
 -- What fits after an event of a freeze, of the closing of a level and of its reopening.
-use Rattle.std.proofs.Common.{◌≡◌, ℕ, ◌<◌, ◌≤◌, true, false, sym, subst, inl, inr, arith}
-use Rattle.std.proofs.lemmas.Bool.{cases_Bool, Decides.eqb_tells}
+use Rattle.std.proofs.{Common.{◌≡◌, ℕ, ◌<◌, ◌≤◌, true, false, sym, subst, inl, inr, arith}, lemmas.Bool.{cases_Bool, Decides.{eqb_tells}}}
 use Rattle.std.specs.Prelude.{◌==◌, if◌then◌else◌, Option, Ok, Err}
 use Rattle.access_model.specs.{Holders.{nobody, held_by}, Replies.map_next}
 use Rattle.access_model.specs.declared.{actions.{Action.Action, Holder.Holder, Holders.Holders}, errors.GateError.GateError, replies.{Next.Next, Reply.Reply}}
 use Rattle.cpu_words.specs.{Hooks.HookAnswer, Names.IsWord, Sums.sum_taking, declared.sums.Sum.Sum}
-use Rattle.node_words.specs.Phases.{clear_after}
-use Rattle.node_words.specs.declared.marks.ClearMarks.{ClearMarks}
-use Rattle.percpu_rwsem.specs.{Graces.{passed_on, looked}, SyncWords.{unpack, on_enter, on_callback}}
-use Rattle.percpu_rwsem.specs.Transitions.{transition_after}
+use Rattle.node_words.specs.{Phases.{clear_after}, declared.marks.ClearMarks.{ClearMarks}}
+use Rattle.percpu_rwsem.specs.{Graces.{passed_on, looked}, SyncWords.{unpack, on_enter, on_callback}, Transitions.{transition_after}}
 use Rattle.percpu_rwsem.specs.Writers.{down_write_next, down_write_after, at_down_write, enter_step, callback_step, sections_awaited, passed_awaited, sum_begun}
 use Rattle.percpu_rwsem.specs.Writers.{down_write_summed, up_write_next, up_write_after}
 use Rattle.percpu_rwsem.specs.declared.{grace.Grace.Grace, sync_word.{GpState.GpState, SyncWord.SyncWord}}

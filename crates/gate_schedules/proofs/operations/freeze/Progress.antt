@@ -8,8 +8,7 @@ use Rattle.gate_schedules.proofs.{operations.{calls.Progress.clear_falls, deadlo
 use Rattle.gate_schedules.proofs.writers.Progress.{DownFalls, down_falls, up_falls}
 use Rattle.gate_world.specs.{Fits.{Fits, FreezeFits, PhaseFits}, Levels.sync_role_of, Roles.{freeze_position, position_sync, sync_beside}, Rules.{Fitting, IsGood}}
 use Rattle.gate_world.specs.{Views.held_of, Worlds.{World, found_at, words_after}, declared.{config.Config.Config, work.Phase.Phase}}
-use Rattle.node_words.specs.Phases.{clear_after, clear_next}
-use Rattle.node_words.specs.declared.marks.ClearMarks.{ClearMarks}
+use Rattle.node_words.specs.{Phases.{clear_after, clear_next}, declared.marks.ClearMarks.{ClearMarks}}
 use Rattle.freeze_laws.specs.levels.Operations.{down_write_role, up_write_role}
 use Rattle.percpu_rwsem.specs.{Writers.{down_write_after, down_write_next, up_write_after, up_write_next}}
 use Rattle.percpu_rwsem.specs.declared.writers.{DownWrite.DownWrite, DownWriteStep.DownWriteStep, UpWrite.UpWrite, UpWriteStep.UpWriteStep}

@@ -2,9 +2,7 @@
 use Rattle.std.{proofs.Common.{◌≡◌, ℕ, ◌<◌, refl, ap, arith}, specs.Prelude.{◌==◌, if◌then◌else◌, Option, Some, None, Ok, Err}}
 use Rattle.access_model.specs.{Holders.nobody, Replies.map_next, declared.{errors.GateError.GateError, replies.{Next.Next, Reply.Reply}}}
 use Rattle.cpu_words.specs.{Hooks.HookAnswer, Words.Words}
-use Rattle.node_words.specs.Nodes.{node_after}
-use Rattle.node_words.specs.Phases.{clears_at}
-use Rattle.node_words.specs.declared.marks.ClearMarks.{ClearMarks}
+use Rattle.node_words.specs.{Nodes.{node_after}, Phases.{clears_at}, declared.marks.ClearMarks.{ClearMarks}}
 use Rattle.freeze_levels.specs.{Freezes.{at_freeze, freeze_closes, freeze_fails, freeze_after, freeze_locked, after_clearing}, Holders.holders_in}
 use Rattle.freeze_levels.specs.declared.freezes.{Freeze.Freeze, FreezeStep.FreezeStep}
 use Rattle.freeze_laws.specs.stages.Roles.{has_position}

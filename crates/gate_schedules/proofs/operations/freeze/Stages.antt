@@ -1,24 +1,24 @@
 -- The events of a freeze on `umount`, the stage and the superblock's flag, and its clearing of marks.
 use Rattle.gate_world.specs.Roles.{freeze_owns}
+use Rattle.gate_world.specs.{Configs.{IsWithin, model_limits}, Fits.{Fits, FreezeFits, PhaseFits}, Roles.{LevelPosition, closed_to, freeze_holder_role}}
+use Rattle.gate_world.specs.{Roles.{freeze_stage_role, freeze_position, freeze_tree_role}, Rules.{Fitting, Holding, Holds, IsGood, OwnerHolds, Stages, Tree}}
+use Rattle.gate_world.specs.{Rules.{holder_role_of, holder_roles, owns, stage_role_of}, Shown.shown, Trees.{tree_bounds, tree_of, tree_role_of, tree_roles}}
+use Rattle.gate_world.specs.{Views.{held_of, view_with}, Worlds.World, declared.{config.Config.Config, views.View.View, work.Phase.Phase}}
 use Rattle.access_model.specs.{Holders.{held_by, is_unheld, nobody, with_holder}, declared.actions.{Action.Action, Holders.Holders}}
 use Rattle.access_model.specs.declared.{errors.GateError.GateError, replies.{Next.Next, Reply.Reply}}
 use Rattle.cpu_words.specs.{Hooks.HookAnswer, Words.Words, declared.{events.{Event.Event, Touch.Touch}, names.WordName.WordName}}
 use Rattle.finite_sums.specs.Sums.{total, update}
 use Rattle.freeze_levels.specs.{Freezes.{at_freeze, freeze_closes, freeze_fails}, Holders.{holders_in, word_of}, declared.freezes.Freeze.Freeze}
 use Rattle.freeze_levels.specs.declared.freezes.FreezeStep.{FreezeStep}
+use Rattle.freeze_levels.specs.holder_laws.{Events.{Finds, Freezes as FreezesHolders, HoldsFirst, Joins}, Roles.{Apart, Fills, Found, HolderRole, between, minds}}
 use Rattle.gate_schedules.proofs.frames.{Cases.both, Frames.SameLevelCounts, Holders.{holders_after, holders_at, holders_move, holders_stay, nobody_minds}}
 use Rattle.gate_schedules.proofs.{frames.Stages.{IsStageEvent, nobody_owns, owners_alike, stages_in}, levels.PositionRoles.{closing_first, closing_next}}
 use Rattle.gate_schedules.proofs.{levels.{LevelPositions.{LevelsHold, HasPosition, left_world}, FreezeCompletes.freezes_all}, operations.freeze.Fits.found_cases}
 use Rattle.gate_schedules.proofs.{trees.worlds.Trees.{sealed_frozen, tree_after, tree_then}, writers.Owner.{lock_given, lock_taken, owner_stays}}
 use Rattle.gate_schedules.proofs.writers.Parts.{AsksWhere, IsWriter, SameAtMounts, WriterKeeps, WriterLaw, freezes_write, idle_writes}
 use Rattle.gate_schedules.proofs.writers.Stages.{opened_tree, stays_there, stored_levels, stored_tree, writer_beside, writer_holds, writer_stores}
-use Rattle.gate_world.specs.{Configs.{IsWithin, model_limits}, Fits.{Fits, FreezeFits, PhaseFits}, Roles.{LevelPosition, closed_to, freeze_holder_role}}
-use Rattle.gate_world.specs.{Roles.{freeze_stage_role, freeze_position, freeze_tree_role}, Rules.{Fitting, Holding, Holds, IsGood, OwnerHolds, Stages, Tree}}
-use Rattle.gate_world.specs.{Rules.{holder_role_of, holder_roles, owns, stage_role_of}, Shown.shown, Trees.{tree_bounds, tree_of, tree_role_of, tree_roles}}
-use Rattle.gate_world.specs.{Views.{held_of, view_with}, Worlds.World, declared.{config.Config.Config, views.View.View, work.Phase.Phase}}
 use Rattle.gated_tree.specs.Roles.{HasNoCharge, Out as OffTree, TreeState, sealed_by}
 use Rattle.freeze_levels.proofs.holder_laws.{HolderLaws.{finds_some, roles_tell}, Words.{is_nobody, none_held, unpack_pack}}
-use Rattle.freeze_levels.specs.holder_laws.{Events.{Finds, Freezes as FreezesHolders, HoldsFirst, Joins}, Roles.{Apart, Fills, Found, HolderRole, between, minds}}
 use Rattle.freeze_laws.specs.stages.Events.{Advances, Begins, Completes, Fails, FreezesAtOnce, Happens, HoldsOne, LetsGo, LoadsSb, LoadsStage as FindsStage}
 use Rattle.freeze_laws.specs.stages.Events.{Locks as LocksStage, LocksAgain as LocksStageAgain, Recalls, Releases as ReleasesStage, StageEvent, Stays, Syncs}
 use Rattle.freeze_laws.specs.stages.{Events.{action_of as stage_action_of, playing}, Roles.{Before, HasPassed, KnowsStage, Owning, StageRole, is_full}}

@@ -6,8 +6,7 @@ use Rattle.access_model.specs.declared.{actions.Action.Action, replies.Next.Next
 use Rattle.cpu_words.specs.{Hooks.HookAnswer, Touches.{wrap_add, event_of, found_by}, declared.sums.Sum.Sum}
 use Rattle.percpu_rwsem.specs.{Graces.{is_first, passed_on}, SyncWords.{unpack, on_enter, on_callback}, Transitions.transition_after}
 use Rattle.percpu_rwsem.specs.Writers.{down_write_next, down_write_after, enter_step, callback_step, sections_awaited, passed_awaited, sum_begun}
-use Rattle.percpu_rwsem.specs.declared.{grace.Grace.Grace, sync_word.{SyncWord.SyncWord}}
-use Rattle.percpu_rwsem.specs.declared.transitions.{TransitionNext.TransitionNext}
+use Rattle.percpu_rwsem.specs.declared.{grace.Grace.{Grace}, sync_word.SyncWord.{SyncWord}, transitions.TransitionNext.{TransitionNext}}
 use Rattle.percpu_rwsem.specs.declared.writers.{DownWrite.DownWrite, DownWriteStep.DownWriteStep}
 use Rattle.gate_world.specs.Configs.{IsWithin}
 use Rattle.gate_world.specs.traces.Found.{found_sealed, found_complete, stored_stage, cleans, newest, finds_readers, IsLevelSum, sum_of_newest, FoundInside}

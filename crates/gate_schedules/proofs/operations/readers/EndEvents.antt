@@ -1,6 +1,5 @@
 -- The event of an end.
-use Rattle.std.{proofs.Common.{◌≡◌, ℕ, ◌<◌, false, refl, sym, ap, subst}, specs.Prelude.{Option, Some, Ok}}
-use Rattle.std.proofs.Common.{arith}
+use Rattle.std.{proofs.Common.{◌≡◌, ℕ, ◌<◌, false, refl, sym, ap, subst, arith}, specs.Prelude.{Option, Some, Ok}}
 use Rattle.finite_sums.{proofs.Totals.{update_at}, specs.Sums.update}
 use Rattle.access_model.specs.declared.{actions.{Action.Action, Gate.Gate}, replies.{Next.Next, Reply.Reply}}
 use Rattle.cpu_words.specs.{Hooks.HookAnswer, Words.Words}

@@ -3,10 +3,10 @@ use Rattle.access_model.specs.{Actions.IsAllowed, Replies.map_next, declared.act
 use Rattle.access_model.specs.declared.replies.{Next.{Next, TheVariants.{Done, Go}}, Reply.TheVariants.Unit as UnitReply}
 use Rattle.cpu_words.specs.{Hooks.HookAnswer, Touches.wrap_add, Words.{Words, put, read}, declared.events.Touch.{Touch, TheVariants.{Add, Load, Sub}}}
 use Rattle.cpu_words.specs.declared.names.WordName.{WordName, TheVariants.{Block, LevelCount, Section, Sync}}
+use Rattle.cpu_words.specs.gate_counts.Levels.{Out as CountsNot}
 use Rattle.finite_sums.proofs.Totals.{update_at, update_same}
 use Rattle.finite_sums.specs.Sums.{update}
 use Rattle.cpu_words.proofs.gate_counts.LevelLaws.{is_granted, is_refused}
-use Rattle.cpu_words.specs.gate_counts.Levels.{Out as CountsNot}
 use Rattle.gate_schedules.proofs.frames.Frames.{count_none, level_view_as}
 use Rattle.gate_schedules.proofs.levels.Counts.{LevelHoldsAfter, SameElsewhere, backs_off, bit_room, count_on, down_beside, enters_fast, held_bit}
 use Rattle.gate_schedules.proofs.levels.Counts.{level_follows, seeks, up_beside, words_down, words_up}

@@ -1,29 +1,19 @@
 -- What fits after an event of a down-read, an up-read and a callback.
 use Rattle.std.proofs.Common.{◌≡◌, ℕ, ◌<◌, ◌≤◌, Bool, true, false, refl, sym, subst, ◌∙◌, inl, inr, arith}
-use Rattle.std.specs.Prelude.{◌==◌, ◌&&◌, nat_lt, Some, None, Ok, Err}
 use Rattle.std.proofs.lemmas.Bool.{cases_Bool, ltb-true}
+use Rattle.std.specs.Prelude.{◌==◌, ◌&&◌, nat_lt, Some, None, Ok, Err}
 use Rattle.finite_sums.proofs.Totals.{update_at}
-use Rattle.access_model.specs.declared.actions.Action.TheVariants.{Grant}
-use Rattle.access_model.specs.declared.actions.Gate.TheVariants.{Level}
-use Rattle.access_model.specs.declared.replies.Next.{Next}
-use Rattle.access_model.specs.declared.replies.Next.TheVariants.{Go, Wait, Done}
-use Rattle.access_model.specs.Replies.{map_next}
+use Rattle.access_model.specs.declared.{actions.{Action.TheVariants.{Grant}, Gate.TheVariants.{Level}}, replies.Next.{Next}}
+use Rattle.access_model.specs.{declared.replies.Next.TheVariants.{Go, Wait, Done}, Replies.{map_next}}
 use Rattle.cpu_words.specs.Names.{IsWord}
-use Rattle.percpu_rwsem.specs.declared.readers.DownRead.{DownRead}
-use Rattle.percpu_rwsem.specs.declared.readers.DownReadStep.{DownReadStep}
+use Rattle.percpu_rwsem.specs.declared.readers.{DownRead.{DownRead}, DownReadStep.{DownReadStep}}
 use Rattle.percpu_rwsem.specs.declared.readers.DownReadStep.TheVariants.{EntersSection, LoadsSync, CountsUpFast, CountsUpSlow, LoadsBlock, CountsDown, LeavesAdmitted, LeavesBlocked}
-use Rattle.percpu_rwsem.specs.declared.callbacks.Callback.{Callback}
-use Rattle.percpu_rwsem.specs.declared.callbacks.CallbackStep.{CallbackStep}
-use Rattle.percpu_rwsem.specs.declared.callbacks.CallbackStep.TheVariants.{Claims}
-use Rattle.percpu_rwsem.specs.SyncWords.{unpack}
-use Rattle.percpu_rwsem.specs.Readers.{down_read_next, down_read_after, at_down_read, left_blocked}
+use Rattle.percpu_rwsem.specs.declared.callbacks.{Callback.{Callback}, CallbackStep.{CallbackStep, TheVariants.{Claims}}}
+use Rattle.percpu_rwsem.specs.{SyncWords.{unpack}, Readers.{down_read_next, down_read_after, at_down_read, left_blocked}}
 use Rattle.percpu_rwsem.specs.Callbacks.{callback_next, callback_after, at_callback}
 use Rattle.freeze_laws.specs.levels.Operations.{KnowsCallback, HoldsOfNext}
-use Rattle.gate_world.specs.declared.config.Config.{Config}
-use Rattle.gate_world.specs.declared.work.Phase.TheVariants.{DownReads, Callbacks}
-use Rattle.gate_world.specs.Configs.{IsWithin, extents_of}
-use Rattle.gate_world.specs.Views.{phase_after}
-use Rattle.gate_world.specs.Operations.{holds_none_from, is_level_number}
+use Rattle.gate_world.specs.declared.{config.Config.{Config}, work.Phase.TheVariants.{DownReads, Callbacks}}
+use Rattle.gate_world.specs.{Configs.{IsWithin, extents_of}, Views.{phase_after}, Operations.{holds_none_from, is_level_number}}
 use Rattle.gate_world.specs.{Fits.{ReadStepFits, ReadFits, GraceFits, PhaseFits, Fits, ActionFits}, Holdings.{Holdings, held_after}}
 use Rattle.gate_schedules.proofs.{frames.OperationLaws.by_bool, operations.readers.Trace.by_word}
 

@@ -2,8 +2,7 @@
 use Rattle.gate_schedules.proofs.frames.{Frames.{count_none, sync_none}, OperationLaws.{IsSmall, OpLaws, PhaseLaws, by_bool}, Snapshots.completes_none}
 use Rattle.gate_schedules.proofs.operations.readers.{Causes.{asks_next, next_cause, read_not_closed, read_own, read_stays}, EndEvents.end_keeps}
 use Rattle.gate_schedules.proofs.operations.readers.Events.{read_keeps}
-use Rattle.gate_schedules.proofs.operations.readers.Fits.{none_from_agree, read_acts, read_fits, read_goes, read_step_agrees}
-use Rattle.gate_schedules.proofs.operations.readers.Fits.{read_there}
+use Rattle.gate_schedules.proofs.operations.readers.Fits.{none_from_agree, read_acts, read_fits, read_goes, read_step_agrees, read_there}
 use Rattle.gate_schedules.proofs.operations.readers.{Runs.{end_runs, read_runs}, Trace.{EndAt, StartAt, end_inductive, start_inductive}, Waits.{read_waits, start_waits}}
 use Rattle.gate_schedules.proofs.traces.TraceInvariant.{is_short, is_short_well, tells, tells_well}
 use Rattle.gate_world.specs.{SameRoles.no_roles, refusals.Causes.asks_level, Fits.Fits, Holdings.held_after, Levels.sync_role_of, Operations.is_level_number}

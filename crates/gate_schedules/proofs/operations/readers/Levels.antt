@@ -1,6 +1,5 @@
 -- Events of a down-read leave the rcu_sync of each level, and the sections.
-use Rattle.std.proofs.{Common.{◌≡◌, ℕ, ◌-◌, ◌<◌, ◌≤◌, refl, sym, ap, ◌∙◌, subst, inl, inr}, lemmas.Bool.Decides.eqb_tells}
-use Rattle.std.proofs.Common.{arith}
+use Rattle.std.proofs.{Common.{◌≡◌, ℕ, ◌-◌, ◌<◌, ◌≤◌, refl, sym, ap, ◌∙◌, subst, inl, inr, arith}, lemmas.Bool.Decides.{eqb_tells}}
 use Rattle.std.specs.Prelude.{Some, Bool, true, false, ◌==◌}
 use Rattle.finite_sums.specs.Sums.{update}
 use Rattle.access_model.specs.{Replies.map_next, declared.replies.Next.{Next, TheVariants.{Go}}}

@@ -2,8 +2,7 @@
 use Rattle.std.proofs.{Common.{◌≡◌, true, false, ap, ◌∙◌, arith}}
 use Rattle.cpu_words.specs.{Touches.{left, found_by}, Words.{Words, read, put}}
 use Rattle.percpu_rwsem.specs.{Readers.{down_read_next, down_read_after}}
-use Rattle.percpu_rwsem.specs.declared.readers.{DownRead.DownRead, DownReadStep.{DownReadStep}}
-use Rattle.percpu_rwsem.specs.declared.readers.{UpRead.UpRead}
+use Rattle.percpu_rwsem.specs.declared.readers.{DownRead.{DownRead}, DownReadStep.{DownReadStep}, UpRead.{UpRead}}
 use Rattle.composite_ops.specs.{write_access.Phases.{next as write_next, after as write_after}, declared.write_access.phases.WritePhase.WritePhase}
 use Rattle.gate_world.specs.{traces.TraceStates.WordIsValid, Worlds.{words_after, found_at}, declared.{config.Config.Config, work.Phase.TheVariants.{DownReads, UpReads}}}
 use Rattle.gate_world.specs.declared.work.Phase.TheVariants.{Writes}

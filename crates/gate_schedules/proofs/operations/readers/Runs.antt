@@ -1,6 +1,6 @@
 -- Each event of a down-read, of an up-read and of a callback is one of each level's kinds of event.
 use Rattle.access_model.specs.{Replies.map_next, declared.replies.Next.TheVariants.Go}
-use Rattle.std.proofs.Common.{arith}
+use Rattle.std.proofs.{Common.{arith, ap, inl, inr, refl, subst, sym, ℕ, ◌-◌, ◌<◌, ◌∙◌, ◌≡◌, ◌≤◌}, lemmas.Bool.Decides.{eqb_tells}}
 use Rattle.cpu_words.specs.{Hooks.HookAnswer, Touches.{found_by, left, wrap_add}, Words.{put, read}, declared.events.Touch.{Touch, TheVariants.Load}}
 use Rattle.cpu_words.specs.declared.names.WordName.{WordName, TheVariants.{Block, LevelCount, Section, Sync}}
 use Rattle.finite_sums.proofs.Totals.{update_off, update_same}
@@ -18,7 +18,6 @@ use Rattle.percpu_rwsem.specs.{Callbacks.callback_next, Readers.{at_down_read, d
 use Rattle.percpu_rwsem.specs.declared.{callbacks.Callback.Callback, readers.{DownRead.DownRead, DownReadStep.{DownReadStep, TheVariants.CountsDown}}}
 use Rattle.percpu_rwsem.specs.declared.readers.DownReadStep.TheVariants.{CountsUpFast, CountsUpSlow, EntersSection, LeavesAdmitted, LeavesBlocked, LoadsBlock}
 use Rattle.percpu_rwsem.specs.declared.readers.{DownReadStep.TheVariants.LoadsSync, UpRead.UpRead}
-use Rattle.std.proofs.{Common.{ap, inl, inr, refl, subst, sym, ℕ, ◌-◌, ◌<◌, ◌∙◌, ◌≡◌, ◌≤◌}, lemmas.Bool.Decides.eqb_tells}
 use Rattle.std.specs.Prelude.{Bool, Some, false, if◌then◌else◌, true, ◌==◌}
 
 module _ (w : World) (t : ℕ) (v : View) where

@@ -1,6 +1,5 @@
 -- A down-read waits only where it found the level closed; a callback only where another task is inside a read-side section.
-use Rattle.access_model.specs.{Replies.map_next, declared.{replies.Next.{Next, TheVariants.{Go, Wait}}}}
-use Rattle.access_model.specs.declared.replies.Next.TheVariants.{Done}
+use Rattle.access_model.specs.{Replies.{map_next}, declared.replies.Next.{Next, TheVariants.{Go, Wait, Done}}}
 use Rattle.std.proofs.{Common.{◌≡◌, ℕ, ◌+◌, ◌%◌, ◌<◌, sym, ap, ◌∙◌, inl, inr, arith}, lemmas.Bool.{cases_Bool, Decides.eqb_tells}}
 use Rattle.std.specs.Prelude.{nat_lt, Some, List, ◌∷◌, Ok, Err}
 use Rattle.cpu_words.specs.Hooks.{HookAnswer}

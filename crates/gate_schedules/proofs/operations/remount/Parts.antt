@@ -3,13 +3,13 @@ use Rattle.access_model.specs.{States.openers, declared.{actions.Action.Action, 
 use Rattle.cpu_words.specs.{Hooks.HookAnswer, Words.{Words, read}, declared.{events.Touch.Touch, names.WordName.WordName}}
 use Rattle.finite_sums.proofs.Totals.{each_updated, update_at, update_map, update_off, update_same}
 use Rattle.finite_sums.specs.Sums.{update}
-use Rattle.freeze_levels.specs.Holders.{holders_in}
+use Rattle.freeze_levels.specs.{Holders.{holders_in}, holder_laws.Roles.{Apart}}
 use Rattle.gate_schedules.proofs.frames.Frames.{IsOffLevels, SameLevelCounts, SameLevelWords, added_load, holds_as, left_alone, level_left, opens_left}
 use Rattle.gate_schedules.proofs.frames.Frames.{owner_same, sections_left, shown_held, shown_still, sync_left, taken_load, view_as}
 use Rattle.gate_schedules.proofs.frames.{Holders.holders_stay, Known.{IsOwnersWork, known_after}, Owners.remount_stored}
 use Rattle.gate_schedules.proofs.{frames.{Stages.{IsStageEvent, stages_after, stages_in}, Words.load_same}, mounts.Loads.{after_load}}
 use Rattle.gate_schedules.proofs.mounts.Parts.{is_known_part, known_is, level_added_load, level_taken_load}
-use Rattle.gate_schedules.proofs.trees.worlds.Trees.{marks_right, tree_after, tree_holds, tree_then, tree_within}
+use Rattle.gate_schedules.proofs.trees.{worlds.Trees.{marks_right, tree_after, tree_holds, tree_then, tree_within}, Each.{each_event}}
 use Rattle.gate_world.specs.{Configs.IsWithin, Fits.{Fits, HasFile, PhaseFits, file_of}, Holdings.Holdings, Levels.is_frozen_whole}
 use Rattle.gate_world.specs.{Levels.{level_added_by, level_taken_by}, Remounts.{RemountFits, remount_owns, remount_role}}
 use Rattle.gate_world.specs.{Remounts.remount_sets, Roles.{remount_stage_role, remount_tree_role}, Rules.{AtLevel, AtMount, Files, Fitting, Holding, Holds}}
@@ -19,14 +19,12 @@ use Rattle.gate_world.specs.{Trees.{tree_bounds, tree_of, tree_role_of, tree_rol
 use Rattle.gate_world.specs.{Worlds.{World, after_step, phase_action}, declared.{config.Config.Config, views.View.View, work.Phase.Phase}}
 use Rattle.node_words.specs.Nodes.{node_shown, opens_in}
 use Rattle.gated_tree.specs.Roles.{Role as TreeRole, TreeState}
-use Rattle.freeze_levels.specs.holder_laws.Roles.{Apart}
 use Rattle.mount_counts.specs.{Remounts.{at_remount}, Roles.{MountHolds, Role, ro_bit}, declared.remounts.Remount.Remount}
 use Rattle.mount_counts.specs.declared.remounts.RemountStep.{RemountStep}
 use Rattle.freeze_laws.specs.stages.Events.{SameDuties, Recalls, StageEvent, playing}
 use Rattle.freeze_laws.specs.stages.Roles.{CleanBelow, IsKnown, KnowsStage, Owning, StageRole, clean_by}
 use Rattle.std.proofs.Common.{Bool, None, Option, Some, ap, arith, false, inl, inr, refl, subst, sym, true≢false, ℕ, ◌<◌, ◌==◌, ◌||◌, ◌∙◌, ◌≡◌}
 use Rattle.std.proofs.lemmas.Bool.{cases_Bool, Decides.eqb_tells}
-use Rattle.gate_schedules.proofs.trees.Each.{each_event}
 use Rattle.gate_schedules.specs.trees.Events.{Event as TreeEvent}
 
 remount_work : (w : World) (x : Remount) (hook : HookAnswer) → IsOwnersWork w (Phase.Remounts x) hook

@@ -1,11 +1,9 @@
 -- What the events of a remount make of each freeze level: they leave it.
-use Rattle.std.{proofs.Common.{◌≡◌, ℕ, ◌<◌, refl}, specs.Prelude.{Some}}
-use Rattle.std.proofs.Common.{arith}
+use Rattle.std.{proofs.Common.{◌≡◌, ℕ, ◌<◌, refl, arith}, specs.Prelude.{Some}}
 use Rattle.access_model.specs.{Replies.map_next, declared.replies.Next.Next}
 use Rattle.cpu_words.specs.{Hooks.HookAnswer, Words.Words}
 use Rattle.mount_counts.specs.{Remounts.{at_remount, remount_after}, declared.remounts.{Remount.Remount, RemountStep.RemountStep}}
-use Rattle.freeze_laws.specs.levels.{Events.SyncStep, Roles.Out as IsApart}
-use Rattle.freeze_laws.specs.stages.Roles.{KnowsStage}
+use Rattle.freeze_laws.specs.{levels.{Events.{SyncStep}, Roles.{Out as IsApart}}, stages.Roles.{KnowsStage}}
 use Rattle.gate_world.specs.{LevelRuns.level_in, Levels.{inside, sync_role_of}, Roles.remount_stage_role, Rules.{IsGood, SameWords, SyncAt}}
 use Rattle.gate_world.specs.{Views.phase_after, Worlds.{World, after_step, found_at, words_after}, declared.{config.Config.Config, work.Phase.Phase}}
 use Rattle.gate_schedules.proofs.{mounts.Runs.apart_run, operations.remount.{Parts.here_knows}}

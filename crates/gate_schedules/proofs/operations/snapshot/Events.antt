@@ -13,8 +13,7 @@ use Rattle.gate_world.specs.{Rules.{StepKeeps, SyncAt, Tree, marks_of, owns, rem
 use Rattle.gate_world.specs.{Trees.{tree_bounds, tree_role_of}, Views.{held_of, phase_after, view_with}, Worlds.{World, after_step}}
 use Rattle.gate_world.specs.declared.{config.Config.Config, views.{Traced.Traced, View.View}, work.Phase.Phase}
 use Rattle.node_words.specs.Nodes.{dirty_in, node_after, unpacked}
-use Rattle.gated_tree.specs.Calls.{phase_role, role_after}
-use Rattle.gated_tree.specs.Phases.{at_snapshot, kids_step, node_step}
+use Rattle.gated_tree.specs.{Calls.{phase_role, role_after}, Phases.{at_snapshot, kids_step, node_step}}
 use Rattle.gated_tree.specs.{Phases.{snapshot_after, snapshot_locked_out, snapshot_next}, declared.{phases.TreePhase.TreePhase, snapshots.Snapshot.Snapshot}}
 use Rattle.gated_tree.specs.declared.snapshots.SnapshotStep.{SnapshotStep}
 use Rattle.freeze_laws.specs.stages.Events.{SameDuties, Locks as LocksStage, Recalls, Releases as ReleasesStage, Stages as StageMoment, playing}

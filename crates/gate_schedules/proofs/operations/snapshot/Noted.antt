@@ -1,15 +1,11 @@
 -- What the loads of a trace have noted of the tree, and what a snapshot's next load adds.
 use Rattle.std.proofs.Common.{◌≡◌, ℕ, zero, suc, ◌+◌, ◌-◌, ◌<◌, ◌≤◌, List, [], ◌∷◌, length, refl, sym, ap, ◌∙◌, subst, inl, inr, arith, get_or-set_same}
-use Rattle.std.proofs.lemmas.Grind.{common_steps}
-use Rattle.std.proofs.Common.{get_or-set_other}
+use Rattle.std.proofs.{lemmas.Grind.{common_steps}, Common.{get_or-set_other}}
 use Rattle.std.proofs.{lemmas.{Bool.{cases_Bool, lt-ltb, le-ltb, cases_lt, Decides.eqb_tells}, List.length-replicate}}
 use Rattle.std.specs.Prelude.{slice_index}
 use Rattle.cpu_words.specs.{Hooks.HookAnswer, Touches.{event_of, found_by}, declared.names.WordName.WordName}
 use Rattle.node_words.specs.Nodes.{node_shown}
-use Rattle.gated_tree.specs.Calls.{SnapshotStepFits}
-use Rattle.gated_tree.specs.Phases.{snapshot_next}
-use Rattle.gated_tree.specs.Roles.{Bounds, tree_word, seen_as}
-use Rattle.gated_tree.specs.Trees.{loaded, node_at}
+use Rattle.gated_tree.specs.{Calls.{SnapshotStepFits}, Phases.{snapshot_next}, Roles.{Bounds, tree_word, seen_as}, Trees.{loaded, node_at}}
 use Rattle.gated_tree.specs.declared.{snapshots.{Snapshot.Snapshot, SnapshotStep.SnapshotStep}, trees.TreeWords.TreeWords}
 use Rattle.gate_schedules.specs.trees.Steps.{NotesOne, NotesLoad}
 use Rattle.gate_world.specs.{traces.Found.is_load, traces.Snapshots.{loads_noted, values_noted}, Views.with_hook, declared.views.Traced.Traced}

@@ -6,11 +6,11 @@ use Rattle.cpu_words.specs.{Hooks.HookAnswer, Touches.found_by, declared.events.
 use Rattle.gated_tree.specs.Phases.{at_snapshot, snapshot_after, snapshot_locked_out, snapshot_next}
 use Rattle.gated_tree.specs.{Refusals.SnapshotHonest, declared.{phases.TreePhase.TreePhase, snapshots.{Snapshot.Snapshot, SnapshotStep.SnapshotStep}}}
 use Rattle.gate_schedules.{proofs.trees.Ends.snapshot_ends, specs.trees.Ends.{IsReply, SnapshotKnows}}
+use Rattle.gate_schedules.proofs.operations.calls.Trace.{Answers, CallAt, GoesOnOrEnds, call_says, sees}
+use Rattle.gate_schedules.proofs.traces.TraceInvariant.{IsInductiveGivenReads, InvariantAfterStep, event_at, tells_well, is_short_well}
 use Rattle.gate_world.specs.{Configs.IsWithin, traces.TraceStates.{IsTrace, WordIsValid, ReadIsValid, state_of_trace}, traces.Found.{SeenIn, each_event, finds_taken}}
 use Rattle.gate_world.specs.{Operations.first_snapshot, traces.Traces.{IsShort, Tells, most_events}, Views.with_hook, Work.next_of}
 use Rattle.gate_world.specs.declared.{config.Config.Config, operations.Op.Op, views.Traced.Traced, work.Phase.Phase}
-use Rattle.gate_schedules.proofs.operations.calls.Trace.{Answers, CallAt, GoesOnOrEnds, call_says, sees}
-use Rattle.gate_schedules.proofs.traces.TraceInvariant.{IsInductiveGivenReads, InvariantAfterStep, event_at, tells_well, is_short_well}
 
 -- before `umount` is taken, each event has found it taken; after that, the node whose words a snapshot loads is one of the tree's
 abbrev StepInvariant : Config → List Traced → SnapshotStep → Type 0

@@ -1,6 +1,5 @@
 -- The causes of a thaw's refusals, along a schedule, and the counts, which a thaw leaves.
-use Rattle.std.proofs.{Common.{◌≡◌, ℕ, refl, inl, inr}, lemmas.Bool.{Decides.eqb_tells}}
-use Rattle.std.proofs.Common.{arith}
+use Rattle.std.proofs.{Common.{◌≡◌, ℕ, refl, inl, inr, arith}, lemmas.Bool.Decides.{eqb_tells}}
 use Rattle.std.specs.Prelude.{Option, Some, Ok, Err, List, ◌∷◌, ◌||◌, Bool, true, false}
 use Rattle.access_model.specs.{Holders.held_by, Replies.map_next, declared.{errors.GateError.GateError, replies.Reply.Reply}}
 use Rattle.cpu_words.specs.Hooks.{HookAnswer}

@@ -1,5 +1,12 @@
 -- The law of each event of a thaw.
 use Rattle.gate_world.specs.Roles.{thaw_owns}
+use Rattle.gate_world.specs.{Configs.{IsWithin, model_limits}, Fits.{Fits, PhaseFits, ThawFits}, Holdings.{Holdings, holdings_of}, Levels.is_frozen_whole}
+use Rattle.gate_world.specs.{Levels.{level_added_after, level_added_by, level_taken_after, level_taken_by}, Roles.{thaw_holder_role}}
+use Rattle.gate_world.specs.{Roles.{thaw_stage_role, thaw_position}, Rules.{Fitting, Holding, Holds, IsGood, OwnerHolds, Stages, StepKeeps, ViewFits}}
+use Rattle.gate_world.specs.{Rules.{holder_role_of, holder_roles, marks_of, owns, stage_role_of, stage_roles}, Shown.shown, Trees.tree_role_of}
+use Rattle.gate_world.specs.Views.{actions_after}
+use Rattle.gate_world.specs.{Views.{added_after, added_by, held_of, phase_after, taken_after, taken_by, view_with}, Worlds.World}
+use Rattle.gate_world.specs.declared.{config.Config.Config, views.{Traced.Traced, View.View}, work.Phase.Phase}
 use Rattle.gate_schedules.proofs.frames.{Accesses.holdings_of_after, ByPhase.thaw_owner, Frames.{added_load, taken_load}}
 use Rattle.gate_schedules.proofs.frames.{Holders.{holders_after, holders_at, holders_stay, nobody_minds}}
 use Rattle.gate_schedules.proofs.frames.Stages.{IsStageEvent, nobody_owns, owners_alike, stages_in}
@@ -18,18 +25,11 @@ use Rattle.cpu_words.specs.declared.names.WordName.{WordName}
 use Rattle.finite_sums.specs.Sums.{total, update}
 use Rattle.freeze_levels.specs.{Holders.{holders_in, word_of}, Levels.reopening, Thaws.{after_opening, at_thaw, thaw_opens}, declared.thaws.Thaw.Thaw}
 use Rattle.freeze_levels.specs.declared.thaws.ThawStep.{ThawStep}
-use Rattle.gate_world.specs.{Configs.{IsWithin, model_limits}, Fits.{Fits, PhaseFits, ThawFits}, Holdings.{Holdings, holdings_of}, Levels.is_frozen_whole}
-use Rattle.gate_world.specs.{Levels.{level_added_after, level_added_by, level_taken_after, level_taken_by}, Roles.{thaw_holder_role}}
-use Rattle.gate_world.specs.{Roles.{thaw_stage_role, thaw_position}, Rules.{Fitting, Holding, Holds, IsGood, OwnerHolds, Stages, StepKeeps, ViewFits}}
-use Rattle.gate_world.specs.{Rules.{holder_role_of, holder_roles, marks_of, owns, stage_role_of, stage_roles}, Shown.shown, Trees.tree_role_of}
-use Rattle.gate_world.specs.Views.{actions_after}
-use Rattle.gate_world.specs.{Views.{added_after, added_by, held_of, phase_after, taken_after, taken_by, view_with}, Worlds.World}
-use Rattle.gate_world.specs.declared.{config.Config.Config, views.{Traced.Traced, View.View}, work.Phase.Phase}
+use Rattle.freeze_levels.specs.holder_laws.Events.{Finds, Leaves as LeavesOthers, LeavesLast as LeavesNobody, LetsGo as LetsHoldersGo, Thaws as ThawsHolders}
+use Rattle.freeze_levels.specs.holder_laws.Roles.{Apart, Empties, Found, between, minds}
 use Rattle.node_words.specs.Nodes.{dirty_in}
 use Rattle.gated_tree.specs.Roles.{Out as OffTree}
 use Rattle.freeze_levels.proofs.holder_laws.{HolderLaws.roles_tell, Words.{holds_alone, holds_own, leaves_none, unpack_pack}}
-use Rattle.freeze_levels.specs.holder_laws.Events.{Finds, Leaves as LeavesOthers, LeavesLast as LeavesNobody, LetsGo as LetsHoldersGo, Thaws as ThawsHolders}
-use Rattle.freeze_levels.specs.holder_laws.Roles.{Apart, Empties, Found, between, minds}
 use Rattle.percpu_rwsem.specs.{SyncWords.on_exit, Transitions.transition_after, Writers.{exit_made, up_write_after, up_write_next}}
 use Rattle.percpu_rwsem.specs.declared.{transitions.{Transition.Transition, TransitionNext.TransitionNext}, writers.UpWrite.UpWrite}
 use Rattle.percpu_rwsem.specs.declared.writers.UpWriteStep.{UpWriteStep}

@@ -4,8 +4,7 @@ use Rattle.std.specs.Prelude.{if◌then◌else◌, Err}
 use Rattle.access_model.specs.{Holders.{held_by, with_holder, is_unheld}, Replies.map_next}
 use Rattle.access_model.specs.declared.{actions.{Holders.Holders}, errors.GateError.GateError, replies.Next.Next}
 use Rattle.cpu_words.specs.{Hooks.HookAnswer, Names.IsWord}
-use Rattle.freeze_levels.specs.{Thaws.{thaw_next, thaw_after, at_thaw, thaw_finds}}
-use Rattle.freeze_levels.specs.declared.thaws.{Thaw.Thaw, ThawStep.ThawStep}
+use Rattle.freeze_levels.specs.{Thaws.{thaw_next, thaw_after, at_thaw, thaw_finds}, declared.thaws.{Thaw.{Thaw}, ThawStep.{ThawStep}}}
 use Rattle.gate_world.specs.{Configs.extents_of, Fits.{ThawFits, PhaseFits, Fits, ActionFits}}
 use Rattle.gate_world.specs.{Holdings.{Holdings, held_after}, Operations.holds_none}
 use Rattle.gate_world.specs.{Views.phase_after, declared.{config.Config.Config, work.Phase.Phase}}

@@ -1,6 +1,5 @@
 -- What fits after an event of a want.
-use Rattle.std.{proofs.Common.{ℕ, ◌<◌}}
-use Rattle.std.proofs.Common.{arith}
+use Rattle.std.proofs.Common.{ℕ, ◌<◌, arith}
 use Rattle.access_model.specs.{Replies.map_next, declared.{replies.{Next.Next}}}
 use Rattle.cpu_words.specs.Names.{IsWord}
 use Rattle.mount_counts.specs.Phases.{want_next, want_after, next}

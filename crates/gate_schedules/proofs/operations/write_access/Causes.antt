@@ -1,6 +1,5 @@
 -- The causes and the waits of a write access: those of its gate, whichever it is at.
-use Rattle.std.{proofs.Common.{◌≡◌, ℕ, ◌<◌}, specs.Prelude.{List, ◌∷◌}}
-use Rattle.std.proofs.Common.{arith}
+use Rattle.std.{proofs.Common.{◌≡◌, ℕ, ◌<◌, arith}, specs.Prelude.{List, ◌∷◌}}
 use Rattle.access_model.specs.{Replies.map_next, declared.replies.Next.Next}
 use Rattle.mount_counts.specs.declared.phases.Want.{Want}
 use Rattle.percpu_rwsem.specs.declared.readers.DownRead.{DownRead}

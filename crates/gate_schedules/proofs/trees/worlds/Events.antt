@@ -2,12 +2,9 @@
 use Rattle.std.{proofs.Common.{◌≡◌, ℕ, ◌<◌, ◌∙◌, refl, sym, arith, true, false, true≢false, ap}, specs.Prelude.{Option, Some, List}}
 use Rattle.access_model.specs.{Replies.map_next, declared.replies.Next.Next}
 use Rattle.cpu_words.specs.{Hooks.HookAnswer, Touches.left, Words.{Words, read, put}, declared.names.WordName.WordName}
-use Rattle.gated_tree.specs.Calls.{phase_role, role_after}
-use Rattle.gated_tree.specs.Phases.{after}
-use Rattle.gated_tree.specs.declared.phases.TreePhase.{TreePhase}
+use Rattle.gated_tree.specs.{Calls.{phase_role, role_after}, Phases.{after}, declared.phases.TreePhase.{TreePhase}}
 use Rattle.gate_schedules.specs.trees.Steps.{Notes}
-use Rattle.freeze_laws.specs.levels.Events.{SyncStep}
-use Rattle.freeze_laws.specs.stages.Roles.{Aside}
+use Rattle.freeze_laws.specs.{levels.Events.{SyncStep}, stages.Roles.{Aside}}
 use Rattle.gate_world.specs.{Configs.IsWithin, LevelRuns.level_in, Owners.is_owned, Roles.nodes_noted, Rules.{Files, Fitting, Holds, IsGood, Known, Owner}}
 use Rattle.gate_world.specs.{Rules.{Part, Stages, StepKeeps, SyncAt, Tree, owns, stage_role_of}, traces.Snapshots.values_noted, Trees.tree_role_of}
 use Rattle.gate_world.specs.{Views.phase_after, Work.{next_of, after_of}, Worlds.{World, after_step, found_at, words_after}, declared.config.Config.Config}

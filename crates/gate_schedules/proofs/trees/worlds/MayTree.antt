@@ -1,9 +1,8 @@
 -- What a call at the tree may do: nobody else is in its way, and the model gives it leave.
 use Rattle.access_model.specs.{Actions.IsWriter, declared.actions.Action.Action}
-use Rattle.cpu_words.specs.Hooks.{HookAnswer}
+use Rattle.cpu_words.specs.{Hooks.{HookAnswer}, gate_counts.Gates.{BarringHolds, admitted, unread}}
 use Rattle.finite_sums.proofs.Totals.{total_at, total_none}
 use Rattle.finite_sums.specs.Sums.{total}
-use Rattle.cpu_words.specs.gate_counts.Gates.{BarringHolds, admitted, unread}
 use Rattle.gate_schedules.proofs.trees.worlds.Holders.{IsOpen, both_true, mount_there, none_past, writer_apart}
 use Rattle.gate_schedules.proofs.trees.worlds.{Roles.{close_apart, freeze_apart}, Trees.{nobody_reads, sealed_frozen}}
 use Rattle.gate_world.specs.{Configs.model_limits, Fits.{Fits, HasFile, PhaseFits, TreeAccess, file_of}, Holdings.Holdings, Operations.is_faulter}
@@ -13,8 +12,7 @@ use Rattle.gate_world.specs.{Rules.{role_of, stage_role_of}, Shown.shown, traces
 use Rattle.gate_world.specs.{Trees.tree_roles, Views.{has_open, held_at, held_of, holds_level}, Worlds.World, declared.config.Config.Config}
 use Rattle.gate_world.specs.declared.{views.Traced.Traced, work.Phase.Phase}
 use Rattle.node_words.specs.Nodes.{word_of}
-use Rattle.gated_tree.specs.Calls.{phase_role}
-use Rattle.gated_tree.specs.Phases.{after, create_after, grow_after, mark_after, mark_done, move_after, open_after}
+use Rattle.gated_tree.specs.{Calls.{phase_role}, Phases.{after, create_after, grow_after, mark_after, mark_done, move_after, open_after}}
 use Rattle.gated_tree.specs.{Phases.{remove_after, snapshot_after}, Roles.{MayDirty, MayRemove, NobodyReads, bare_by, cleared, is_bare, sealed_by}}
 use Rattle.gated_tree.specs.declared.changes.{Create.Create, CreateStep.CreateStep, MoveStep.MoveStep, MoveTo.MoveTo, Remove.Remove, RemoveStep.RemoveStep}
 use Rattle.gated_tree.specs.declared.{growth.{Grow.Grow, GrowStep.GrowStep}, marks.{Mark.Mark, MarkStep.MarkStep}, opens.OpenFile.OpenFile}

@@ -5,15 +5,9 @@ use Rattle.finite_sums.{proofs.Totals.{update_at, update_off, update_same, total
 use Rattle.access_model.specs.{Actions.{tree_after, after_remove, after_close}, Replies.map_next, States.{Limits, State, one_if, most_tasks, openers}}
 use Rattle.access_model.specs.declared.{actions.{Action.Action, NodeInfo.NodeInfo}, errors.GateError.GateError, replies.Next.Next}
 use Rattle.cpu_words.specs.Hooks.{HookAnswer}
-use Rattle.node_words.specs.Nodes.{opens_in, word_of, file_in}
-use Rattle.node_words.specs.Phases.{after_look}
+use Rattle.node_words.specs.{Nodes.{opens_in, word_of, file_in}, Phases.{after_look, clear_after}, declared.nodes.NodeWord.{NodeWord}}
 use Rattle.gated_tree.specs.Phases.{after, at_open, opens_from, open_after, create_after, remove_after, grow_after, move_after, mark_after}
-use Rattle.node_words.specs.Phases.{clear_after}
-use Rattle.gated_tree.specs.Phases.{snapshot_after}
-use Rattle.node_words.specs.declared.nodes.NodeWord.{NodeWord}
-use Rattle.gated_tree.specs.Roles.{Bounds}
-use Rattle.gated_tree.specs.declared.opens.OpenFile.{OpenFile}
-use Rattle.gated_tree.specs.declared.opens.OpenStep.{OpenStep}
+use Rattle.gated_tree.specs.{Phases.{snapshot_after}, Roles.{Bounds}, declared.opens.{OpenFile.{OpenFile}, OpenStep.{OpenStep}}}
 use Rattle.gated_tree.specs.declared.phases.TreePhase.{TreePhase}
 use Rattle.gate_schedules.specs.trees.Events.{TreeAllows, MovesBy, HasLeave, opens_shown, bounds_of}
 use Rattle.gate_world.specs.{Fits.{HasFile, file_of}, Holdings.{Holdings, held_after}, Views.phase_after, declared.work.Phase.Phase}

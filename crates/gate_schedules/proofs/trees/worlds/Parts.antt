@@ -1,11 +1,13 @@
 -- An event of a call at the tree: it leaves the mounts, the levels and the sections alone, and all of the shown model but the tree. A
 -- snapshot is such a call, too.
 use Rattle.gate_schedules.proofs.frames.{Accesses.holdings_of_after, Agreeing.access_agrees}
-use Rattle.std.proofs.lemmas.Grind.{common_steps}
 use Rattle.gate_schedules.proofs.frames.{Frames.{added_load, left_alone, level_view_as, shown_as, taken_load, view_as}}
 use Rattle.gate_schedules.proofs.{frames.Openers.most_tasks_is, mounts.Parts.{level_added_load, level_taken_load, load_left}}
 use Rattle.gate_schedules.proofs.trees.worlds.{MayTree.{LeaveFor, call_fits, leave, may_step}, OpenFiles.{file_then, files_counted, same_counts}}
 use Rattle.gate_schedules.proofs.trees.worlds.Trees.{tree_holds, tree_within}
+use Rattle.gate_schedules.proofs.trees.{Allowed.{may_do, tree_alone}, Fitting.fits_after, Phases.each_phase}
+use Rattle.std.proofs.lemmas.Grind.{common_steps}
+use Rattle.std.proofs.Common.{Bool, ap, arith, false, inl, inr, refl, subst, sym, true, true≢false, ℕ, ◌<◌, ◌∙◌, ◌≡◌, ◌⊎◌}
 use Rattle.access_model.specs.{Replies.map_next, States.openers, declared.{actions.Action.Action, replies.Next.Next}}
 use Rattle.cpu_words.specs.{Hooks.HookAnswer, Touches.left, Words.{Words, put, read}, declared.{events.Touch.Touch, names.WordName.WordName}}
 use Rattle.finite_sums.proofs.Totals.{each_updated, update_map, update_same}
@@ -19,22 +21,16 @@ use Rattle.gate_world.specs.{traces.Snapshots.values_noted, Trees.{is_bare_at, i
 use Rattle.gate_world.specs.{Views.{has_open, held_at, held_of, holds_level, phase_after, taken_after, taken_by, view_after}, Work.{after_of, next_of}}
 use Rattle.gate_world.specs.{Worlds.{World, after_step, found_at, value_at, words_after}, declared.{config.Config.Config, views.View.View, work.Phase.Phase}}
 use Rattle.node_words.specs.Nodes.{node_shown}
-use Rattle.gated_tree.specs.Calls.{NextFits, TreePhaseFits, phase_role, role_after}
-use Rattle.gated_tree.specs.Phases.{after}
+use Rattle.gated_tree.specs.{Calls.{NextFits, TreePhaseFits, phase_role, role_after}, Phases.{after}}
 use Rattle.gated_tree.specs.Phases.{create_after, create_next, grow_after, grow_next, mark_after, mark_next}
 use Rattle.gated_tree.specs.Phases.{move_after, move_next, next, open_after, open_next, remove_after, remove_next, snapshot_after, snapshot_next}
 use Rattle.gated_tree.specs.{Roles.{Role, TreeHolds}, declared.changes.{Create.Create, CreateStep.CreateStep, MoveStep.MoveStep, MoveTo.MoveTo}}
-use Rattle.gated_tree.specs.declared.changes.Remove.{Remove}
-use Rattle.gated_tree.specs.declared.changes.RemoveStep.{RemoveStep}
-use Rattle.gated_tree.specs.declared.growth.Grow.{Grow}
-use Rattle.gated_tree.specs.declared.growth.GrowStep.{GrowStep}
+use Rattle.gated_tree.specs.declared.{changes.{Remove.{Remove}, RemoveStep.{RemoveStep}}, growth.{Grow.{Grow}, GrowStep.{GrowStep}}}
 use Rattle.gated_tree.specs.declared.{marks.{Mark.Mark, MarkStep.MarkStep}, opens.{OpenFile.OpenFile, OpenStep.OpenStep}, phases.TreePhase.TreePhase}
 use Rattle.gated_tree.specs.declared.snapshots.{Snapshot.Snapshot, SnapshotStep.SnapshotStep}
 use Rattle.mount_counts.specs.Roles.{ro_bit}
 use Rattle.freeze_laws.specs.stages.Roles.{Aside}
-use Rattle.std.proofs.Common.{Bool, ap, arith, false, inl, inr, refl, subst, sym, true, true≢false, ℕ, ◌<◌, ◌∙◌, ◌≡◌, ◌⊎◌}
 use Rattle.std.specs.Prelude.{None, Option, Some, if◌then◌else◌, ◌==◌, ◌||◌}
-use Rattle.gate_schedules.proofs.trees.{Allowed.{may_do, tree_alone}, Fitting.fits_after, Phases.each_phase}
 use Rattle.gate_schedules.specs.trees.{Events.{MovesBy, opens_shown}, Steps.{Notes, StepKeeps, tree_in}}
 
 -- the words of the tree

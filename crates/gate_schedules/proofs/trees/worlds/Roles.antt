@@ -1,8 +1,6 @@
 -- What the phases of each operation are not at the tree.
-use Rattle.std.{proofs.Common.{◌≡◌, ℕ, refl, Bool, true, false}}
-use Rattle.std.proofs.Common.{arith}
-use Rattle.gated_tree.specs.Calls.{snapshot_role}
-use Rattle.gated_tree.specs.Roles.{cleared, is_bare, words_read, frees}
+use Rattle.std.proofs.Common.{◌≡◌, ℕ, refl, Bool, true, false, arith}
+use Rattle.gated_tree.specs.{Calls.{snapshot_role}, Roles.{cleared, is_bare, words_read, frees}}
 use Rattle.gated_tree.specs.declared.{phases.TreePhase.TreePhase, snapshots.SnapshotStep.SnapshotStep}
 use Rattle.mount_counts.specs.declared.remounts.RemountStep.{RemountStep}
 use Rattle.freeze_levels.specs.declared.freezes.FreezeStep.{FreezeStep}

@@ -1,6 +1,5 @@
 -- Every task comes from the gates.
-use Rattle.std.proofs.Common.{◌∙◌}
-use Rattle.std.proofs.lemmas.List.Elements.{All-push}
+use Rattle.std.proofs.{Common.{◌∙◌}, lemmas.List.Elements.{All-push}}
 use Rattle.vfs_gates.specs.TaskStates.{IsFrom}
 use Rattle.gate_workbench.proofs.at_gates.split_off.Goals as goal
 

@@ -1,7 +1,6 @@
 use Rattle.std.proofs.Common.{ap, ◌∙◌}
 use Rattle.access_model.specs.declared.errors.GateError.TheVariants.{NoMemory}
-use Rattle.schedule_lines.specs.Faults.{text_of, cause_of}
-use Rattle.schedule_lines.specs.declared.faults.Fault.TheVariants.{Refused}
+use Rattle.schedule_lines.specs.{Faults.{text_of, cause_of}, declared.faults.Fault.TheVariants.{Refused}}
 use Rattle.line_players.specs.Replayed.{Reports}
 use Rattle.line_players.proofs.Replaying.{never_begun}
 use Rattle.line_replays.proofs.replay.replay_to_end.Goals as goal

@@ -1,10 +1,8 @@
 use Rattle.std.proofs.Common.{◌≡◌, ◌∙◌, List, ap, length}
 use Rattle.std.specs.List.{flat_map}
 use Rattle.schedule_lines.proofs.Printed.{prints_same}
-use Rattle.outcome_texts.specs.Briefly.{line_of}
-use Rattle.outcome_texts.specs.declared.listing.Outcome.{Outcome}
-use Rattle.outcome_texts.proofs.OutcomeLines.{told_briefly}
-use Rattle.outcome_texts.proofs.Ordered.{written}
+use Rattle.outcome_texts.specs.{Briefly.{line_of}, declared.listing.Outcome.{Outcome}}
+use Rattle.outcome_texts.proofs.{OutcomeLines.{told_briefly}, Ordered.{written}}
 use Rattle.outcome_texts.proofs.briefly.print_briefly.Goals as goal
 
 pub returns-in-Ok : goal.returns-in-Ok

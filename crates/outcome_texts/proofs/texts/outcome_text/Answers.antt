@@ -1,6 +1,5 @@
 use Rattle.std.proofs.Common.{◌∙◌, sym, ap, subst}
-use Rattle.schedule_lines.specs.declared.output.Output.{Output}
-use Rattle.schedule_lines.specs.Printed.{Prints}
+use Rattle.schedule_lines.specs.{declared.output.Output.{Output}, Printed.{Prints}}
 use Rattle.schedule_lines.proofs.Printed.{prints_nothing, prints_same}
 use Rattle.outcome_texts.specs.Texts.{course_part, task_part}
 use Rattle.transcripts.proofs.Texts.{one_more}

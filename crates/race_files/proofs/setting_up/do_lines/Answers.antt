@@ -1,12 +1,10 @@
 use Rattle.std.proofs.Common.{◌≡◌, ◌∙◌, sym, ap, subst, ◌∷◌, Some, Ok, IfSome, false}
-use Rattle.race_files.specs.Left.{behind, left_in}
+use Rattle.race_files.specs.{Left.{behind, left_in}, Calls.{is_race}, SettingUp.{SetsUp, made_by}}
 use Rattle.race_files.proofs.{Reading.{all_left, one_less}, SettingUp.{no_request, none_yet, one_more}}
-use Rattle.race_files.specs.Calls.{is_race}
-use Rattle.race_files.specs.SettingUp.{SetsUp, made_by}
+use Rattle.race_files.proofs.setting_up.do_lines.Goals.{in-Request+in_ok-do_request, in_default-2}
 use Rattle.schedule_text.specs.Parsing.{parsed}
 use Rattle.transcripts.specs.Transcript.{ReplayState, request_outcome}
 use Rattle.race_files.proofs.setting_up.do_lines.Goals as goal
-use Rattle.race_files.proofs.setting_up.do_lines.Goals.{in-Request+in_ok-do_request, in_default-2}
 
 pub loop-line-init : goal.loop-line-init
 loop-line-init g c = record { left = all_left _; made = λ p shows. (p, none_yet _ _, shows) }

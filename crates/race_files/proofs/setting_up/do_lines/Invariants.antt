@@ -1,9 +1,7 @@
 use Rattle.std.proofs.Common.{length, Some}
 use Rattle.gate_core.specs.Drivers.{CoreShows}
-use Rattle.race_files.specs.Left.{AreLeftOf, left_in}
-use Rattle.race_files.specs.SettingUp.{SetsUp}
-use Rattle.transcripts.specs.Sessions.{ShowsPlay}
-use Rattle.transcripts.specs.Transcript.{ReplayState}
+use Rattle.race_files.specs.{Left.{AreLeftOf, left_in}, SettingUp.{SetsUp}}
+use Rattle.transcripts.specs.{Sessions.{ShowsPlay}, Transcript.{ReplayState}}
 use Rattle.race_files.proofs.setting_up.do_lines.Given as goal
 
 -- some lines were taken, and the session shows what they make

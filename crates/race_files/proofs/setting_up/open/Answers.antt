@@ -1,7 +1,6 @@
 -- lines that are no configuration make no play, and none of them is `race`
 use Rattle.std.proofs.Common.{◌≡◌, ◌∙◌, sym, ap, subst, refl, ◌∷◌, None, Ok, IfSome}
-use Rattle.race_files.specs.Left.{behind, left_in}
-use Rattle.race_files.specs.SettingUp.{SetsUp, made_by}
+use Rattle.race_files.specs.{Left.{behind, left_in}, SettingUp.{SetsUp, made_by}}
 use Rattle.race_files.proofs.{Reading.{all_left, one_less}, SettingUp.{before_config, config_opens, no_config, none_yet, one_more}}
 use Rattle.schedule_text.specs.Parsing.{parsed}
 use Rattle.transcripts.specs.Transcript.{opening_play}

@@ -1,6 +1,5 @@
 use Rattle.std.proofs.Common.{length, None}
-use Rattle.race_files.specs.Left.{AreLeftOf, left_in}
-use Rattle.race_files.specs.SettingUp.{SetsUp}
+use Rattle.race_files.specs.{Left.{AreLeftOf, left_in}, SettingUp.{SetsUp}}
 use Rattle.race_files.proofs.setting_up.open.Given as goal
 
 -- some lines were taken, which make no play

@@ -1,26 +1,16 @@
 -- one freeze more
-use Rattle.std.proofs.Common.{◌≡◌, ℕ, ◌+◌, List, ap, arith, inl, inr, refl, subst, sym, ◌∙◌}
-use Rattle.std.proofs.lemmas.Result.{err_from_is_err_and}
+use Rattle.std.proofs.{Common.{◌≡◌, ℕ, ◌+◌, List, ap, arith, inl, inr, refl, subst, sym, ◌∙◌}, lemmas.Result.{err_from_is_err_and}}
 use Rattle.std.specs.Prelude.{◌⊎◌, true, Err, Result}
-use Rattle.access_model.specs.Holders.{held_by}
-use Rattle.access_model.specs.declared.actions.Action.{Action}
-use Rattle.access_model.specs.declared.errors.GateError.{GateError}
-use Rattle.access_model.specs.declared.errors.GateError.TheVariants.{Invalid}
+use Rattle.access_model.specs.{Holders.{held_by}, declared.{actions.Action.{Action}, errors.GateError.{GateError, TheVariants.{Invalid}}}}
 use Rattle.access_model.specs.declared.actions.Holder.TheVariants.{User}
-use Rattle.gate_world.specs.declared.config.Config.{Config}
-use Rattle.gate_world.specs.declared.operations.Op.TheVariants.{Freeze, Snapshot, Thaw}
+use Rattle.gate_world.specs.declared.{config.Config.{Config}, operations.Op.TheVariants.{Freeze, Snapshot, Thaw}}
 use Rattle.run_plans.specs.declared.counts.Copies.{Copies}
-use Rattle.vfs_gates.specs.Frozen.{holders_of}
-use Rattle.vfs_gates.specs.Held.{Rests, own_actions}
-use Rattle.vfs_gates.specs.Runs.{Called, Performs}
-use Rattle.vfs_gates.specs.TaskStates.{SeatedTask}
+use Rattle.vfs_gates.specs.{Frozen.{holders_of}, Held.{Rests, own_actions}, Runs.{Called, Performs}, TaskStates.{SeatedTask}}
 use Rattle.vfs_gates.proofs.Grown.{same_stays_seen}
-use Rattle.run_rounds.specs.Refusals.{FoundThawed, MetBy, WasRefused}
-use Rattle.run_rounds.proofs.Answering.{done_stays_seen, freeze_begins, freeze_refused, freezes_list, met, rests_by, thaw_begins, thaw_refused, was_refused, was_whole}
-use Rattle.run_rounds.proofs.Keeping.{backs_stay, called_stays, stays, stays_on}
-use Rattle.run_rounds.proofs.Repeating.{one_more}
-use Rattle.run_rounds.specs.Counts.{blocks_of, no_copies, with_copy, with_waits}
+use Rattle.run_rounds.specs.{Refusals.{FoundThawed, MetBy, WasRefused}, Counts.{blocks_of, no_copies, with_copy, with_waits}}
 use Rattle.run_rounds.specs.Rounds.{BackupRound, CallsBack, Does, IsRefused, Repeats}
+use Rattle.run_rounds.proofs.Answering.{done_stays_seen, freeze_begins, freeze_refused, freezes_list, met, rests_by, thaw_begins, thaw_refused, was_refused, was_whole}
+use Rattle.run_rounds.proofs.{Keeping.{backs_stay, called_stays, stays, stays_on}, Repeating.{one_more}}
 use Rattle.run_rounds.proofs.workers.back_up.Goals as goal
 
 -- a freeze and a thaw leave the task at rest

@@ -1,9 +1,7 @@
 -- The task comes from the gates, at rest, and all freezes so far were done and counted, with their snapshots and their callbacks.
 use Rattle.std.proofs.Common.{◌≡◌, ◌*◌, ◌≤◌}
-use Rattle.vfs_gates.specs.Held.{Rests}
-use Rattle.vfs_gates.specs.TaskStates.{IsFrom}
-use Rattle.run_rounds.specs.Counts.{no_copies}
-use Rattle.run_rounds.specs.Rounds.{BackupRound, Repeats}
+use Rattle.vfs_gates.specs.{Held.{Rests}, TaskStates.{IsFrom}}
+use Rattle.run_rounds.specs.{Counts.{no_copies}, Rounds.{BackupRound, Repeats}}
 use Rattle.run_rounds.proofs.workers.back_up.Given as goal
 
 abbrev pub invariant-loop-freeze : goal.invariant-loop-freeze

@@ -2,11 +2,9 @@
 use Rattle.std.proofs.Common.{rules, ◌≡◌, ℕ, ◌+◌, ◌-◌, ◌≤◌, Bool, true, false, arith, refl, subst, ◌∙◌}
 use Rattle.gate_world.specs.declared.operations.Op.TheVariants.{Callback}
 use Rattle.vfs_gates.specs.TaskStates.{SeatedTask}
-use Rattle.run_rounds.specs.Counts.{with_ran}
+use Rattle.run_rounds.specs.{Counts.{with_ran}, Rounds.{CallsBack, Repeats}}
 use Rattle.vfs_gates.proofs.CallingBack.{never_refused}
-use Rattle.run_rounds.proofs.Answering.{rests_by}
-use Rattle.run_rounds.proofs.Repeating.{one_more}
-use Rattle.run_rounds.specs.Rounds.{CallsBack, Repeats}
+use Rattle.run_rounds.proofs.{Answering.{rests_by}, Repeating.{one_more}}
 use Rattle.run_rounds.proofs.workers.call_back.Goals as goal
 
 ran_once : (ran : Bool) (so_far : ℕ) → with_ran ran so_far ≤ so_far + 1

@@ -1,7 +1,6 @@
 -- The task comes from the gates, at rest, and has called back the levels so far, at each of which one callback ran at most.
 use Rattle.std.proofs.Common.{◌+◌, ◌-◌, ◌≤◌}
-use Rattle.vfs_gates.specs.Held.{Rests}
-use Rattle.vfs_gates.specs.TaskStates.{IsFrom}
+use Rattle.vfs_gates.specs.{Held.{Rests}, TaskStates.{IsFrom}}
 use Rattle.run_rounds.specs.Rounds.{CallsBack, Repeats}
 use Rattle.run_rounds.proofs.workers.call_back.Given as goal
 

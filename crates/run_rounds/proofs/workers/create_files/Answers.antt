@@ -1,19 +1,13 @@
 -- one file more
 use Rattle.std.proofs.Common.{rules, ◌≡◌, ◌-◌, ◌<◌, ap, refl, arith, subst, ◌∙◌}
 use Rattle.std.specs.Prelude.{Result, Ok}
-use Rattle.access_model.specs.declared.errors.GateError.{GateError}
-use Rattle.access_model.specs.declared.actions.Kind.TheVariants.{File}
-use Rattle.gate_world.specs.declared.config.Config.{Config}
-use Rattle.gate_world.specs.declared.operations.Op.TheVariants.{Create, DropWrite, WantWrite}
-use Rattle.vfs_gates.specs.Held.{Rests}
-use Rattle.vfs_gates.specs.Runs.{Performs}
-use Rattle.vfs_gates.specs.TaskStates.{IsFrom, SeatedTask}
-use Rattle.vfs_gates.specs.declared.Gates.{Gates}
+use Rattle.access_model.specs.declared.{errors.GateError.{GateError}, actions.Kind.TheVariants.{File}}
+use Rattle.gate_world.specs.declared.{config.Config.{Config}, operations.Op.TheVariants.{Create, DropWrite, WantWrite}}
+use Rattle.vfs_gates.specs.{Held.{Rests}, Runs.{Performs}, TaskStates.{IsFrom, SeatedTask}, declared.Gates.{Gates}}
 use Rattle.vfs_gates.proofs.Resting.{some_mount, some_processor}
 use Rattle.run_rounds.proofs.Answering.{create_begins, create_refused, gives_back, inside_by, is_inside, met, want_begins, want_read_only, was_refused}
 use Rattle.run_rounds.proofs.Repeating.{created, one_more}
-use Rattle.run_rounds.specs.Refusals.{HasWriteAccess, MetBy, WasRefused}
-use Rattle.run_rounds.specs.Rounds.{CreatesFile, Repeats}
+use Rattle.run_rounds.specs.{Refusals.{HasWriteAccess, MetBy, WasRefused}, Rounds.{CreatesFile, Repeats}}
 use Rattle.run_rounds.proofs.workers.create_files.Goals as goal
 
 -- the access is given back without a refusal

@@ -1,7 +1,6 @@
 -- The task comes from the gates, is inside its write access, and has created all files so far.
 use Rattle.vfs_gates.specs.TaskStates.{IsFrom}
-use Rattle.run_rounds.specs.Refusals.{HasWriteAccess}
-use Rattle.run_rounds.specs.Rounds.{CreatesFile, Repeats}
+use Rattle.run_rounds.specs.{Refusals.{HasWriteAccess}, Rounds.{CreatesFile, Repeats}}
 use Rattle.run_rounds.proofs.workers.create_files.Given as goal
 
 abbrev pub invariant-loop-writer : goal.invariant-loop-writer

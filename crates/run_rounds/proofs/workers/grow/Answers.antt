@@ -1,14 +1,11 @@
 -- one refusal more, or done
 use Rattle.std.proofs.Common.{rules, arith, ◌≡◌, ◌+◌, ◌-◌, ◌^◌, min, ap, refl, subst, ◌∙◌}
 use Rattle.access_model.specs.declared.errors.GateError.TheVariants.{Again}
-use Rattle.gate_world.specs.declared.config.Config.{Config}
-use Rattle.gate_world.specs.declared.operations.Op.TheVariants.{Grow}
+use Rattle.gate_world.specs.declared.{config.Config.{Config}, operations.Op.TheVariants.{Grow}}
 use Rattle.vfs_gates.proofs.Resting.{some_mount}
-use Rattle.run_rounds.specs.Refusals.{WasRefused}
+use Rattle.run_rounds.specs.{Refusals.{WasRefused}, Rounds.{IsRefused}}
 use Rattle.run_rounds.proofs.Answering.{grow_begins, grow_refused, inside_by, was_refused}
-use Rattle.run_rounds.proofs.Keeping.{refusals_thaw_none, thaws_none_on, thaws_nothing}
-use Rattle.run_rounds.proofs.Repeating.{answered, counted_more, one_more}
-use Rattle.run_rounds.specs.Rounds.{IsRefused}
+use Rattle.run_rounds.proofs.{Keeping.{refusals_thaw_none, thaws_none_on, thaws_nothing}, Repeating.{answered, counted_more, one_more}}
 use Rattle.run_rounds.proofs.workers.grow.Goals as goal
 
 pub loop-preserved : goal.loop-preserved

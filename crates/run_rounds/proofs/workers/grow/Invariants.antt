@@ -3,9 +3,7 @@ use Rattle.std.proofs.Common.{◌≡◌, ℕ}
 use Rattle.access_model.specs.declared.errors.GateError.TheVariants.{Again}
 use Rattle.gate_world.specs.declared.operations.Op.TheVariants.{Grow}
 use Rattle.vfs_gates.specs.TaskStates.{IsFrom}
-use Rattle.run_rounds.specs.Counts.{counted}
-use Rattle.run_rounds.specs.Refusals.{HasWriteAccess}
-use Rattle.run_rounds.specs.Rounds.{IsRefused, Repeats}
+use Rattle.run_rounds.specs.{Counts.{counted}, Refusals.{HasWriteAccess}, Rounds.{IsRefused, Repeats}}
 use Rattle.run_rounds.proofs.workers.grow.Given as goal
 
 abbrev pub invariant-loop : goal.invariant-loop

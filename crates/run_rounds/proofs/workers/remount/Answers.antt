@@ -1,13 +1,9 @@
 -- one round more
 use Rattle.std.proofs.Common.{◌≤◌, ◌+◌, ap, arith, false, refl, true, ◌∙◌}
 use Rattle.gate_world.specs.declared.operations.Op.TheVariants.{ChangeMount}
-use Rattle.vfs_gates.proofs.CallingBack.{none_err}
-use Rattle.vfs_gates.proofs.Resting.{some_mount}
-use Rattle.vfs_gates.proofs.Rounds.{made_writable}
-use Rattle.run_rounds.proofs.Answering.{rests_by}
-use Rattle.run_rounds.proofs.Repeating.{busy_once, one_more}
-use Rattle.run_rounds.specs.Counts.{with_waits}
-use Rattle.run_rounds.specs.Rounds.{RemountRound}
+use Rattle.vfs_gates.proofs.{CallingBack.{none_err}, Resting.{some_mount}, Rounds.{made_writable}}
+use Rattle.run_rounds.proofs.{Answering.{rests_by}, Repeating.{busy_once, one_more}}
+use Rattle.run_rounds.specs.{Counts.{with_waits}, Rounds.{RemountRound}}
 use Rattle.run_rounds.proofs.workers.remount.Goals as goal
 
 pub loop-round-preserved : goal.loop-round-preserved

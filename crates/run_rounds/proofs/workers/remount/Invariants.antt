@@ -1,9 +1,7 @@
 -- The task comes from the gates, at rest, and has done all rounds so far, in each of which the mount was busy once at most.
 use Rattle.std.proofs.Common.{◌≤◌}
-use Rattle.vfs_gates.specs.Held.{Rests}
-use Rattle.vfs_gates.specs.TaskStates.{IsFrom}
-use Rattle.run_rounds.specs.Counts.{no_remounts}
-use Rattle.run_rounds.specs.Rounds.{RemountRound, Repeats}
+use Rattle.vfs_gates.specs.{Held.{Rests}, TaskStates.{IsFrom}}
+use Rattle.run_rounds.specs.{Counts.{no_remounts}, Rounds.{RemountRound, Repeats}}
 use Rattle.run_rounds.proofs.workers.remount.Given as goal
 
 abbrev pub invariant-loop-round : goal.invariant-loop-round

@@ -4,8 +4,7 @@ use Rattle.std.specs.Prelude.{Ok, Err}
 use Rattle.access_model.specs.declared.errors.GateError.TheVariants.{ReadOnly}
 use Rattle.gate_world.specs.declared.operations.Op.TheVariants.{WantWrite}
 use Rattle.vfs_gates.specs.Runs.{Performs}
-use Rattle.run_rounds.proofs.Answering.{is_inside, rests_refused}
-use Rattle.run_rounds.proofs.Repeating.{counted_more, one_more, taken}
+use Rattle.run_rounds.proofs.{Answering.{is_inside, rests_refused}, Repeating.{counted_more, one_more, taken}}
 use Rattle.run_rounds.specs.Rounds.{IsRefused, Waits}
 use Rattle.run_rounds.proofs.workers.want_write.Goals as goal
 

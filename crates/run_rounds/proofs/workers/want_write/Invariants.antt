@@ -2,10 +2,8 @@
 use Rattle.std.proofs.Common.{◌≡◌, ℕ}
 use Rattle.access_model.specs.declared.errors.GateError.TheVariants.{ReadOnly}
 use Rattle.gate_world.specs.declared.operations.Op.TheVariants.{WantWrite}
-use Rattle.vfs_gates.specs.Held.{Rests}
-use Rattle.vfs_gates.specs.TaskStates.{IsFrom}
-use Rattle.run_rounds.specs.Counts.{counted}
-use Rattle.run_rounds.specs.Rounds.{IsRefused, Repeats, Waits}
+use Rattle.vfs_gates.specs.{Held.{Rests}, TaskStates.{IsFrom}}
+use Rattle.run_rounds.specs.{Counts.{counted}, Rounds.{IsRefused, Repeats, Waits}}
 use Rattle.run_rounds.proofs.workers.want_write.Given as goal
 
 abbrev pub invariant-loop : goal.invariant-loop

@@ -1,21 +1,14 @@
 -- one round more
-use Rattle.std.proofs.Common.{◌≡◌, ℕ, ◌+◌, ◌-◌, ◌%◌, ◌<◌, ◌≤◌, ap, arith, refl, subst, sym, ◌∙◌}
+use Rattle.std.proofs.{Common.{◌≡◌, ℕ, ◌+◌, ◌-◌, ◌%◌, ◌<◌, ◌≤◌, ap, arith, refl, subst, sym, ◌∙◌}, lemmas.Nat.{mod_below}}
+use Rattle.std.proofs.lemmas.Result.{err_from_is_err_and}
 use Rattle.std.specs.Prelude.{Result, Ok, Err}
 use Rattle.access_model.specs.declared.errors.GateError.{GateError}
-use Rattle.gate_world.specs.declared.config.Config.{Config}
-use Rattle.std.proofs.lemmas.Nat.{mod_below}
-use Rattle.std.proofs.lemmas.Result.{err_from_is_err_and}
-use Rattle.gate_world.specs.declared.operations.Op.TheVariants.{DropWrite, Grow}
-use Rattle.vfs_gates.specs.Held.{Rests}
-use Rattle.vfs_gates.specs.Runs.{Performs}
-use Rattle.vfs_gates.specs.TaskStates.{SeatedTask}
+use Rattle.gate_world.specs.declared.{config.Config.{Config}, operations.Op.TheVariants.{DropWrite, Grow}}
+use Rattle.vfs_gates.specs.{Held.{Rests}, Runs.{Performs}, TaskStates.{SeatedTask}}
 use Rattle.vfs_gates.proofs.CallingBack.{none_err}
-use Rattle.run_rounds.specs.Refusals.{HasWriteAccess}
-use Rattle.run_rounds.proofs.Answering.{gives_back, met}
-use Rattle.run_rounds.proofs.Keeping.{takes_thaw_none, thaws_none_on, thaws_nothing, writes_thaw_none}
+use Rattle.run_rounds.specs.{Refusals.{HasWriteAccess}, Counts.{counted, no_writes}, Rounds.{Does, Takes, WriterRound}}
+use Rattle.run_rounds.proofs.{Answering.{gives_back, met}, Keeping.{takes_thaw_none, thaws_none_on, thaws_nothing, writes_thaw_none}}
 use Rattle.run_rounds.proofs.Repeating.{one_more}
-use Rattle.run_rounds.specs.Counts.{counted, no_writes}
-use Rattle.run_rounds.specs.Rounds.{Does, Takes, WriterRound}
 use Rattle.run_rounds.proofs.workers.write.Goals as goal
 
 -- write access is given back without a refusal, on a processor that there is

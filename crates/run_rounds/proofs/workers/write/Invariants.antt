@@ -1,8 +1,6 @@
 -- The task comes from the gates, at rest, and has done all rounds so far, with what they met.
-use Rattle.vfs_gates.specs.Held.{Rests}
-use Rattle.vfs_gates.specs.TaskStates.{IsFrom}
-use Rattle.run_rounds.specs.Counts.{no_writes}
-use Rattle.run_rounds.specs.Rounds.{Repeats, WriterRound}
+use Rattle.vfs_gates.specs.{Held.{Rests}, TaskStates.{IsFrom}}
+use Rattle.run_rounds.specs.{Counts.{no_writes}, Rounds.{Repeats, WriterRound}}
 use Rattle.run_rounds.proofs.workers.write.Given as goal
 
 abbrev pub invariant-loop-round : goal.invariant-loop-round

@@ -1,5 +1,4 @@
-use Rattle.std.proofs.Common.{sym, arith}
-use Rattle.std.proofs.lemmas.List.{take_all}
+use Rattle.std.proofs.{Common.{sym, arith}, lemmas.List.{take_all}}
 use Rattle.schedule_lines.proofs.lines.line_window.Goals as goal
 
 pub returns-else-bytes-gt-LINE_BYTES : goal.returns-else-bytes-gt-LINE_BYTES

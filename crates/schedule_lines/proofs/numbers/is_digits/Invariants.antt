@@ -1,6 +1,5 @@
 use Rattle.std.proofs.Common.{◌≡◌, true, take}
-use Rattle.std.specs.Char.{is_ascii_digit}
-use Rattle.std.specs.List.{list_all}
+use Rattle.std.specs.{Char.{is_ascii_digit}, List.{list_all}}
 use Rattle.schedule_lines.proofs.numbers.is_digits.Given as goal
 
 -- the bytes so far are digits

@@ -1,7 +1,6 @@
-use Rattle.std.proofs.Common.{subst, Bool}
+use Rattle.std.proofs.Common.{subst, Bool, length}
 use Rattle.shown_outcomes.specs.Told.{AsksNone, TellsListed, head_text, margin_of, mark_of}
 use Rattle.shown_outcomes.proofs.Parts.{is_all, is_part, tells_all, tells_some}
-use Rattle.std.proofs.Common.{length}
 use Rattle.shown_outcomes.proofs.telling.tell.Goals as goal
 
 pub returns-in-Ok-clause-all : goal.returns-in-Ok-clause-all

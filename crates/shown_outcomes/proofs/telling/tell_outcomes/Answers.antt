@@ -1,5 +1,4 @@
-use Rattle.std.proofs.Common.{◌<◌, ap, arith, length}
-use Rattle.std.proofs.lemmas.Result.{on_ok_weaker}
+use Rattle.std.proofs.{Common.{◌<◌, ap, arith, length}, lemmas.Result.{on_ok_weaker}}
 use Rattle.schedule_lines.proofs.Printed.{prints_both, prints_same}
 use Rattle.outcome_texts.specs.Briefly.{line_of}
 use Rattle.shown_outcomes.specs.Told.{AsksNone, margin_of, mark_of}

@@ -2,8 +2,7 @@
 use Rattle.std.proofs.Common.{◌≡◌}
 use Rattle.std.specs.Prelude.{Some}
 use Rattle.gate_schedules.specs.declared.steps.Progress.TheVariants.{Idle}
-use Rattle.gate_world.specs.declared.operations.Op.{Op}
-use Rattle.gate_world.specs.declared.work.Phase.{Phase}
+use Rattle.gate_world.specs.declared.{operations.Op.{Op}, work.Phase.{Phase}}
 use Rattle.gate_steps.specs.call_events.Runs.{OpUnderWay, ProgressMatches}
 use Rattle.vfs_gates.specs.TaskStates.{SeatedTask, IsIdle}
 use Rattle.task_handles.proofs.Running.{Ran}

@@ -1,8 +1,7 @@
 -- a taking that begins has these parts
 use Rattle.std.proofs.Common.{◌≡◌, ℕ, arith, true}
 use Rattle.composite_ops.specs.declared.write_access.phases.WritePhase.TheVariants.{Takes}
-use Rattle.percpu_rwsem.specs.declared.readers.DownRead.{DownRead}
-use Rattle.percpu_rwsem.specs.declared.readers.DownReadStep.TheVariants.{EntersSection}
+use Rattle.percpu_rwsem.specs.declared.readers.{DownRead.{DownRead}, DownReadStep.TheVariants.{EntersSection}}
 use Rattle.vfs_gates.specs.Lines.{taking_at}
 use Rattle.vfs_gates.proofs.fast_paths.first_writer.Goals as goal
 

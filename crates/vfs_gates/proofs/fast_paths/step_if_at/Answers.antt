@@ -3,9 +3,7 @@ use Rattle.std.proofs.Common.{subst}
 use Rattle.std.specs.Prelude.{None}
 use Rattle.access_model.specs.Replies.{map_next}
 use Rattle.gate_world.specs.Views.{phase_after}
-use Rattle.gate_steps.specs.call_events.SeatedTasks.{task_state}
-use Rattle.gate_steps.specs.call_events.GhostAgrees.{GhostAgrees}
-use Rattle.gate_steps.specs.call_events.Turns.{state_at, StateAgrees}
+use Rattle.gate_steps.specs.call_events.{SeatedTasks.{task_state}, GhostAgrees.{GhostAgrees}, Turns.{state_at, StateAgrees}}
 use Rattle.gate_steps.specs.call_events.Waited.{OpAfterStepWaiting}
 use Rattle.vfs_gates.proofs.fast_paths.step_if_at.Goals as goal
 

@@ -2,9 +2,7 @@
 use Rattle.std.proofs.Common.{sym, subst, arith}
 use Rattle.std.specs.Prelude.{None}
 use Rattle.gate_world.specs.Views.{phase_after}
-use Rattle.gate_steps.specs.call_events.SeatedTasks.{task_state}
-use Rattle.gate_steps.specs.call_events.GhostAgrees.{GhostAgrees}
-use Rattle.gate_steps.specs.call_events.Turns.{state_at, of_write}
+use Rattle.gate_steps.specs.call_events.{SeatedTasks.{task_state}, GhostAgrees.{GhostAgrees}, Turns.{state_at, of_write}}
 use Rattle.gate_steps.specs.call_events.Waited.{OpAfterStepWaiting}
 use Rattle.vfs_gates.proofs.Entering.{led_waiting, led_sync, led_idle}
 use Rattle.vfs_gates.proofs.fast_paths.take_write.Goals as goal

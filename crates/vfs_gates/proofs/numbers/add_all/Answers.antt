@@ -1,7 +1,7 @@
 use Rattle.std.proofs.Common.{◌≡◌, ℕ, ◌+◌, List, Bool, true, length, length-set, ap, arith, sym, subst}
 use Rattle.vfs_gates.proofs.FlagSteps.{SetBelow, start_below, skip_below, more_below, end_below}
-use Rattle.vfs_gates.proofs.numbers.add_all.Goals as goal
 use Rattle.vfs_gates.proofs.numbers.add_all.Goals.{then-others-i, else-others-i}
+use Rattle.vfs_gates.proofs.numbers.add_all.Goals as goal
 
 pub loop-i-init : goal.loop-i-init
 loop-i-init c = start_below c.args.numbers.now c.args.others.now

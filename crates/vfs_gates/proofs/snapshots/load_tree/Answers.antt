@@ -2,9 +2,7 @@
 use Rattle.std.proofs.Common.{◌≡◌, refl, sym, ap, ◌∙◌}
 use Rattle.std.specs.Prelude.{Ok}
 use Rattle.access_model.specs.declared.replies.Reply.TheVariants.{Tree as TreeReply}
-use Rattle.gated_tree.specs.declared.snapshots.SnapshotStep.TheVariants.{Releases}
-use Rattle.gated_tree.specs.Phases.{at_snapshot}
-use Rattle.gated_tree.specs.Trees.{words_of}
+use Rattle.gated_tree.specs.{declared.snapshots.SnapshotStep.TheVariants.{Releases}, Phases.{at_snapshot}, Trees.{words_of}}
 use Rattle.gate_steps.proofs.call_events.Leading.{still_agrees}
 use Rattle.vfs_gates.specs.Buffers.{BufferWords, completed, with_words, words_in}
 use Rattle.vfs_gates.proofs.Loading.{noted_as, noted_on, noted_to, unnoted}

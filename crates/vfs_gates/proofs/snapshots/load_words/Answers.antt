@@ -1,12 +1,8 @@
 -- each part goes on from what the one before it left, and what was lent has the words that were loaded
 use Rattle.std.proofs.Common.{◌≡◌, arith, sym, ap, ◌∙◌}
 use Rattle.std.specs.Prelude.{length}
-use Rattle.gated_tree.specs.declared.snapshots.SnapshotStep.TheVariants.{LoadsUsed}
-use Rattle.gated_tree.specs.declared.trees.Tree.{Tree}
-use Rattle.gated_tree.specs.declared.trees.TreeWords.{TreeWords}
-use Rattle.gated_tree.specs.Lending.{with_kids as kids_lent, with_nodes as nodes_lent}
-use Rattle.gated_tree.specs.Phases.{at_snapshot}
-use Rattle.gated_tree.specs.Trees.{words_of}
+use Rattle.gated_tree.specs.declared.{snapshots.SnapshotStep.TheVariants.{LoadsUsed}, trees.{Tree.{Tree}, TreeWords.{TreeWords}}}
+use Rattle.gated_tree.specs.{Lending.{with_kids as kids_lent, with_nodes as nodes_lent}, Phases.{at_snapshot}, Trees.{words_of}}
 use Rattle.gated_tree.proofs.Lent.{words_with_kids, words_with_nodes}
 use Rattle.gate_steps.proofs.call_events.Leading.{still_agrees}
 use Rattle.vfs_gates.specs.Buffers.{BufferWords, completed, with_words}

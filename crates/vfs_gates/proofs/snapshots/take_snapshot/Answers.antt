@@ -1,7 +1,6 @@
 -- each step goes on from what the one before it left
 use Rattle.std.proofs.Common.{◌≡◌, arith, refl, sym}
-use Rattle.gated_tree.specs.declared.snapshots.SnapshotStep.TheVariants.{Locks, LoadsStage}
-use Rattle.gated_tree.specs.Phases.{at_snapshot}
+use Rattle.gated_tree.specs.{declared.snapshots.SnapshotStep.TheVariants.{Locks, LoadsStage}, Phases.{at_snapshot}}
 use Rattle.gate_steps.proofs.call_events.Leading.{still_agrees, led_to}
 use Rattle.vfs_gates.specs.Buffers.{BufferWords, words_in}
 use Rattle.vfs_gates.proofs.Loading.{is_frozen, lock_free, noted_as, noted_on, noted_to, unnoted}

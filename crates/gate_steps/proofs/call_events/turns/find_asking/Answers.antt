@@ -2,9 +2,7 @@
 use Rattle.std.proofs.Common.{refl}
 use Rattle.std.specs.Prelude.{None}
 use Rattle.gate_steps.specs.call_events.Asking.{call_at}
-use Rattle.gate_steps.proofs.call_events.Turning.{inside_so, acts_so}
-use Rattle.gate_steps.proofs.call_events.Asking.{was_asked}
-use Rattle.gate_steps.proofs.call_events.Leading.{led_asking_by}
+use Rattle.gate_steps.proofs.call_events.{Turning.{inside_so, acts_so}, Asking.{was_asked}, Leading.{led_asking_by}}
 use Rattle.gate_steps.proofs.call_events.turns.find_asking.Goals as goal
 
 pub touch-found-requires-clause-inside : goal.touch-found-requires-clause-inside

@@ -1,9 +1,6 @@
 -- A snapshot takes nothing, so it leaves the task as it was.
 use Rattle.std.proofs.Common.{rules, of_calls, true, refl, sym, subst}
-use Rattle.vfs_gates.specs.Op.TheVariants.{Snapshot}
-use Rattle.vfs_gates.specs.Runs.{Replies, unit_of}
-use Rattle.vfs_gates.specs.TaskStates.{IsIdle}
-use Rattle.vfs_gates.specs.Held.{IsAsBefore}
+use Rattle.vfs_gates.specs.{Op.TheVariants.{Snapshot}, Runs.{Replies, unit_of}, TaskStates.{IsIdle}, Held.{IsAsBefore}}
 use Rattle.vfs_gates.proofs.Holding.{keeps}
 use Rattle.gate_tests.proofs.tests.pairs.copies_inside.Goals as goal
 

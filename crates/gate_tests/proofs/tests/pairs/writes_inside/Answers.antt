@@ -1,10 +1,7 @@
 -- A create takes nothing, so it leaves the task as it was.
 use Rattle.std.proofs.Common.{rules, of_calls, refl, sym, subst}
 use Rattle.access_model.specs.declared.actions.Kind.TheVariants.{File}
-use Rattle.vfs_gates.specs.Op.TheVariants.{Create}
-use Rattle.vfs_gates.specs.Runs.{Replies, node_of}
-use Rattle.vfs_gates.specs.TaskStates.{IsIdle}
-use Rattle.vfs_gates.specs.Held.{IsAsBefore}
+use Rattle.vfs_gates.specs.{Op.TheVariants.{Create}, Runs.{Replies, node_of}, TaskStates.{IsIdle}, Held.{IsAsBefore}}
 use Rattle.vfs_gates.proofs.Holding.{keeps}
 use Rattle.gate_tests.proofs.tests.pairs.writes_inside.Goals as goal
 

@@ -1,9 +1,6 @@
-use Rattle.std.proofs.Common.{◌≡◌, ◌∙◌, ℕ, sym, ap, List, Option, Result, take}
-use Rattle.std.proofs.lemmas.Result.{err_from_is_err_and}
-use Rattle.schedule_text.specs.declared.commands.Line.{Line}
-use Rattle.schedule_text.specs.Parsing.{parsed}
-use Rattle.schedule_lines.specs.declared.faults.Fault.{Fault}
-use Rattle.schedule_lines.specs.bytes.Pending.{pending}
+use Rattle.std.proofs.{Common.{◌≡◌, ◌∙◌, ℕ, sym, ap, List, Option, Result, take}, lemmas.Result.{err_from_is_err_and}}
+use Rattle.schedule_text.specs.{declared.commands.Line.{Line}, Parsing.{parsed}}
+use Rattle.schedule_lines.specs.{declared.faults.Fault.{Fault}, bytes.Pending.{pending}}
 use Rattle.transcripts.specs.Transcript.{ReplayState, tasks_of, line_effect}
 use Rattle.line_players.proofs.Replaying.{bad_line, failed_line, line_done}
 use Rattle.line_players.proofs.line_replay.LineReplay.do_front.Goals as goal

@@ -1,7 +1,5 @@
-use Rattle.std.proofs.Common.{◌≡◌, ℕ, refl, ap, subst, sym, arith, Option, None, Result, Ok}
-use Rattle.std.proofs.lemmas.Result.{err_from_is_err_and}
-use Rattle.schedule_lines.specs.declared.faults.Fault.{Fault}
-use Rattle.schedule_lines.specs.bytes.Pending.{pending}
+use Rattle.std.proofs.{Common.{◌≡◌, ℕ, refl, ap, subst, sym, arith, Option, None, Result, Ok}, lemmas.Result.{err_from_is_err_and}}
+use Rattle.schedule_lines.specs.{declared.faults.Fault.{Fault}, bytes.Pending.{pending}}
 use Rattle.line_players.proofs.Replaying.{same, writes_out, write_filled, no_config, all_done}
 use Rattle.line_players.proofs.line_replay.LineReplay.do_line.Goals as goal
 

@@ -1,7 +1,6 @@
 use Rattle.std.proofs.Common.{◌∙◌, sym, ap, subst, List, ℕ}
 use Rattle.std.specs.Result.{result_and}
-use Rattle.line_players.specs.Replayed.{Reports}
-use Rattle.line_players.specs.Replaying.{LinesEnd}
+use Rattle.line_players.specs.{Replayed.{Reports}, Replaying.{LinesEnd}}
 use Rattle.line_players.proofs.Replaying.{ended_well, ended_by}
 use Rattle.line_players.proofs.line_replay.LineReplay.ended.Goals as goal
 

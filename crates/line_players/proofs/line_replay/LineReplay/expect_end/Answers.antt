@@ -1,5 +1,4 @@
-use Rattle.std.proofs.Common.{◌≡◌, ap, ◌∙◌, refl, arith, inr}
-use Rattle.std.proofs.lemmas.Result.{err_from_is_err_and}
+use Rattle.std.proofs.{Common.{◌≡◌, ap, ◌∙◌, refl, arith, inr}, lemmas.Result.{err_from_is_err_and}}
 use Rattle.schedule_lines.specs.Lines.{front_of}
 use Rattle.schedule_lines.proofs.bytes.Fronts.{none_part}
 use Rattle.line_players.proofs.Replaying.{too_many, lines_end}

@@ -1,8 +1,5 @@
-use Rattle.std.proofs.Common.{◌≡◌, ap, ◌∙◌, sym, inl, arith}
-use Rattle.std.proofs.lemmas.Result.{err_from_is_err_and}
-use Rattle.schedule_lines.specs.declared.lines.Front.TheVariants.{Part}
-use Rattle.schedule_lines.specs.Lines.{front_of}
-use Rattle.schedule_lines.specs.bytes.Pending.{pending}
+use Rattle.std.proofs.{Common.{◌≡◌, ap, ◌∙◌, sym, inl, arith}, lemmas.Result.{err_from_is_err_and}}
+use Rattle.schedule_lines.specs.{declared.lines.Front.TheVariants.{Part}, Lines.{front_of}, bytes.Pending.{pending}}
 use Rattle.schedule_lines.proofs.bytes.Fronts.{part_short}
 use Rattle.line_players.proofs.Replaying.{too_long, cut_off}
 use Rattle.line_players.proofs.line_replay.LineReplay.read_line.Goals as goal

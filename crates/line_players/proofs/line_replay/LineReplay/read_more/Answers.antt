@@ -1,7 +1,5 @@
-use Rattle.std.proofs.Common.{ℕ, refl, ap, subst, sym}
-use Rattle.std.proofs.lemmas.Result.{err_from_is_err_and, IfOk-weaker}
-use Rattle.schedule_lines.specs.declared.faults.Fault.TheVariants.{ReadFailed}
-use Rattle.schedule_lines.specs.bytes.Pending.{pending}
+use Rattle.std.proofs.{Common.{ℕ, refl, ap, subst, sym}, lemmas.Result.{err_from_is_err_and, IfOk-weaker}}
+use Rattle.schedule_lines.specs.{declared.faults.Fault.TheVariants.{ReadFailed}, bytes.Pending.{pending}}
 use Rattle.line_players.proofs.Replaying.{same, reads_on, writes_out, read_failed, write_failed, nothing_read, fails_by}
 use Rattle.line_players.proofs.line_replay.LineReplay.read_more.Goals as goal
 

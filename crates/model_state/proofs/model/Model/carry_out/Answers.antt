@@ -1,6 +1,5 @@
 -- An action leaves what it says.
-use Rattle.std.proofs.Common.{◌≡◌, ◌<◌, ◌≤◌, ap, ◌∙◌, sym, subst, arith, length}
-use Rattle.std.proofs.lemmas.List.{get_or_default}
+use Rattle.std.proofs.{Common.{◌≡◌, ◌<◌, ◌≤◌, ap, ◌∙◌, sym, subst, arith, length}, lemmas.List.{get_or_default}}
 use Rattle.std.specs.Prelude.{None}
 use Rattle.access_model.specs.declared.actions.Action.TheVariants.{Grant, Return, Remove, Grow, Open, Close}
 use Rattle.access_model.specs.States.{size_of, openers, used_blocks}

@@ -1,7 +1,5 @@
 -- a new model is the opening state
-use Rattle.std.proofs.Common.{◌≡◌, ◌<◌, ap, ◌∙◌, arith, replicate}
-use Rattle.std.proofs.lemmas.Grind.{common_steps}
-use Rattle.std.proofs.Math.ListN.{set}
+use Rattle.std.proofs.{Common.{◌≡◌, ◌<◌, ap, ◌∙◌, arith, replicate}, lemmas.Grind.{common_steps}, Math.ListN.{set}}
 use Rattle.std.specs.Prelude.{false, None, Some}
 use Rattle.access_model.specs.States.{root}
 use Rattle.model_state.specs.Shown.{held_of, inside_of, opens_of, tree_of, bounded_state_of}

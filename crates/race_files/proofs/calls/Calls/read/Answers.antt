@@ -1,8 +1,6 @@
 use Rattle.std.proofs.Common.{◌≡◌, ◌∙◌, sym, ap, subst, ◌∷◌, Ok, IfSome, inr}
 use Rattle.exploration.proofs.Lists.{err_from}
-use Rattle.race_files.specs.Calls.{calls_of}
-use Rattle.race_files.specs.Faults.{IsToldOrMemory}
-use Rattle.race_files.specs.Left.{Left, behind, left_in}
+use Rattle.race_files.specs.{Calls.{calls_of}, Faults.{IsToldOrMemory}, Left.{Left, behind, left_in}}
 use Rattle.race_files.specs.declared.faults.RaceFault.TheVariants.{Schedule}
 use Rattle.race_files.proofs.Reading.{at_end, at_line, line_told}
 use Rattle.race_files.proofs.calls.Calls.read.Goals as goal

@@ -1,6 +1,5 @@
 use Rattle.std.proofs.Common.{◌≡◌, length}
-use Rattle.race_files.specs.Calls.{calls_of}
-use Rattle.race_files.specs.Left.{calls_left, left_in}
+use Rattle.race_files.specs.{Calls.{calls_of}, Left.{calls_left, left_in}}
 use Rattle.race_files.proofs.calls.Calls.read.Given as goal
 
 -- there are as many tasks as before, and what all lines call is what those that are left do after the calls so far

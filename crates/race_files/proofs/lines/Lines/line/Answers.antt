@@ -1,5 +1,4 @@
-use Rattle.std.proofs.Common.{◌∙◌, sym, ap, ℕ, ◌-◌, ◌∷◌, List}
-use Rattle.std.proofs.lemmas.Bool.{eqb-true}
+use Rattle.std.proofs.{Common.{◌∙◌, sym, ap, ℕ, ◌-◌, ◌∷◌, List}, lemmas.Bool.{eqb-true}}
 use Rattle.race_files.proofs.Left.{of_front, first_of, some_part, some_bytes, too_many, no_bytes}
 use Rattle.race_files.specs.Left.{left_in, behind}
 use Rattle.race_files.proofs.lines.Lines.line.Goals as goal

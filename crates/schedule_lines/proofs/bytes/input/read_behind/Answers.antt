@@ -1,5 +1,4 @@
-use Rattle.std.proofs.Common.{◌++◌, ◌∙◌, ap, take}
-use Rattle.std.proofs.lemmas.List.{length-take-le, take-append-le}
+use Rattle.std.proofs.{Common.{◌++◌, ◌∙◌, ap, take}, lemmas.List.{length-take-le, take-append-le}}
 use Rattle.schedule_lines.proofs.bytes.Blocks.{read_behind}
 use Rattle.schedule_lines.proofs.bytes.input.read_behind.Goals as goal
 

@@ -1,6 +1,4 @@
-use Rattle.std.proofs.Common.{◌∙◌, rules, tests, bytes_eq}
-use Rattle.std.proofs.lemmas.Iterator.{YieldsList-from_slice}
-use Rattle.std.proofs.lemmas.Iterator.Search.{find_from_yields_List}
+use Rattle.std.proofs.{Common.{◌∙◌, rules, tests, bytes_eq}, lemmas.Iterator.{YieldsList-from_slice, Search.{find_from_yields_List}}}
 use Rattle.schedule_text.specs.Verbs.{verb_name, verb_of}
 use Rattle.schedule_text.proofs.verbs.Verb.of.Goals as goal
 

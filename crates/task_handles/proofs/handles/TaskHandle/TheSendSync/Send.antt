@@ -2,18 +2,14 @@
 use mathlib.Core.Bool.{Bool, true, false}
 use base.Shift.{Keyless}
 use mir.Raw.{raw}
-use denote.Memory.{lone}
-use denote.RawPtr.{Ptr}
-use denote.Struct.Struct.{exits_of}
-use denote.Struct.Owning.{shape, fields, to}
+use denote.{Memory.{lone}, RawPtr.{Ptr}, Struct.{Struct.{exits_of}, Owning.{shape, fields, to}}}
 use denote.Param.Send.{IsSend, AllSend, owning_send, struct_send, sendable}
 use Rattle.std.proofs.Crossing as crossing
 use Rattle.std_alloc.proofs.SendSync.{quiet, lies}
 use Rattle.vfs_gates.specs.TaskStates.{SeatedTask}
-use Rattle.task_handles.specs.Handles.{heap, holds}
+use Rattle.task_handles.specs.{Handles.{heap, holds}, contracts.handles.TaskHandle.{the_row, the_type}}
 use Rattle.task_handles.specs.contracts.members.Member as member
 use Rattle.task_handles.proofs.members.Member.TheSendSync.{the_send as member_send}
-use Rattle.task_handles.specs.contracts.handles.TaskHandle.{the_row, the_type}
 
 all : AllSend (fields the_type)
 all = search sendable

@@ -1,30 +1,16 @@
 -- An empty handle owns nothing.
-use Rattle.std.proofs.Common.{◌≡◌, [], ◌∷◌, refl}
+use Rattle.std.proofs.{Common.{◌≡◌, [], ◌∷◌, refl}, raw_atomic.Walks.{proved, leaves}}
 use mathlib.Core.Bool.{false}
-use mir.Syntax.{named}
-use mir.Val.{Val, vptr}
+use mir.{Syntax.{named}, Val.{Val, vptr}}
 use base.Logic.{SProp, emp}
-use types.Kit.{‵, raw, ◌⊛◌, ◌$◌, ◌∵◌, !, qed, by, keep, split, fjoin, use0}
-use types.Run.{no_more, and_then, lit, returns, enter}
-use types.ByLocal.{alloc_all, pass_all, free_all, look_at, sets}
-use types.Part.{agg}
-use contract.Monad.{fact, fact_i}
-use contract.Running.{tables}
-use denote.Exit.{yes}
-use denote.RattleType.{owns}
-use denote.Ref.{shr_vals, shr_Tells}
-use denote.Builtin.{RefOf}
-use denote.RawPtr.{null_ptr}
-use denote.Signature.{types_at, plain}
-use denote.Steps.{nothing}
-use denote.Triple.Entry.{alive}
-use denote.Triple.Walked.{Stays, stay_dropped, walk_of, Goes-dropped}
+use types.{Kit.{‵, raw, ◌⊛◌, ◌$◌, ◌∵◌, !, qed, by, keep, split, fjoin, use0}, Run.{no_more, and_then, lit, returns, enter}}
+use types.{ByLocal.{alloc_all, pass_all, free_all, look_at, sets}, Part.{agg}}
+use contract.{Monad.{fact, fact_i}, Running.{tables}}
+use denote.{Exit.{yes}, RattleType.{owns}, Ref.{shr_vals, shr_Tells}, Builtin.{RefOf}, RawPtr.{null_ptr}, Signature.{types_at, plain}}
+use denote.{Steps.{nothing}, Triple.{Entry.{alive}, Walked.{Stays, stay_dropped, walk_of, Goes-dropped}}}
 use Rattle.core.proofs.atomic.Steps.{Ptr-Good}
-use Rattle.std.proofs.raw_atomic.Walks.{proved, leaves}
-use Rattle.task_handles.proofs.HandleSteps.{H', word, handle_in}
-use Rattle.task_handles.specs.contracts.handles.TaskHandle.empty.{ended, clauses}
-use Rattle.task_handles.specs.contracts.handles.TaskHandle.empty.Key.{name as #self}
-use Rattle.task_handles.proofs.handles.TaskHandle.empty.Statement.{statement}
+use Rattle.task_handles.proofs.{HandleSteps.{H', word, handle_in}, handles.TaskHandle.empty.Statement.{statement}}
+use Rattle.task_handles.specs.contracts.handles.TaskHandle.empty.{ended, clauses, Key.{name as #self}}
 use Rattle.task_handles.proofs.handles.TaskHandle.empty.Code as code
 
 pub empty_spec : {M : Type 1} → statement M

@@ -1,37 +1,23 @@
 -- `into_unboxed` makes a unboxed box box of the pointer again.
-use Rattle.std.proofs.Common.{◌≡◌, List, [], ◌∷◌, ◌++◌, refl, sym, subst}
+use Rattle.std.proofs.{Common.{◌≡◌, List, [], ◌∷◌, ◌++◌, refl, sym, subst}, raw_atomic.Walks.{proved_at, leaves}}
 use mathlib.Core.Bool.{Bool, true}
-use mir.Raw.{raw as bare}
-use mir.Val.{Val, vptr}
+use mir.{Raw.{raw as bare}, Val.{Val, vptr}}
 use base.Logic.{SProp, ent, emp, never, id⊢, fst∗}
 use prog.Wp.{WpFn}
-use types.Logic.{sem}
-use types.Kit.{‵, raw, ◌⊛◌, ◌$◌, ◌∵◌, !, qed, by, move, keep, split, fsplit, fjoin, use0, rewrite, suffices}
-use types.Run.{stop, fld, of_opd, no_more, and_then, returns, enter}
-use types.ByLocal.{alloc_all, pass_all, free_all, look_at, get, get_in, sets}
+use types.{Logic.{sem}, Kit.{‵, raw, ◌⊛◌, ◌$◌, ◌∵◌, !, qed, by, move, keep, split, fsplit, fjoin, use0, rewrite, suffices}}
+use types.{Run.{stop, fld, of_opd, no_more, and_then, returns, enter}, ByLocal.{alloc_all, pass_all, free_all, look_at, get, get_in, sets}}
 use types.Part.{agg, sub, whole}
-use contract.Monad.{fact, fact_i}
-use contract.Running.{tables}
-use denote.Exit.{yes}
-use denote.Memory.{lone}
-use denote.RattleType.{owns}
-use denote.RawPtr.{Ptr, block_ptr, null_ptr, in_a_block}
-use denote.Signature.{types_at, plain}
-use denote.Steps.{nothing, heard}
-use denote.Triple.Entry.{alive}
-use denote.Triple.Walked.{Stays, stay_dropped, walk_of, Goes-dropped}
+use contract.{Monad.{fact, fact_i}, Running.{tables}}
+use denote.{Exit.{yes}, Memory.{lone}, RattleType.{owns}, RawPtr.{Ptr, block_ptr, null_ptr, in_a_block}, Signature.{types_at, plain}}
+use denote.{Steps.{nothing, heard}, Triple.{Entry.{alive}, Walked.{Stays, stay_dropped, walk_of, Goes-dropped}}}
 use Rattle.core.proofs.alloc.Calls.{handle_tells}
 use Rattle.std_alloc.specs.Box.Ownership.{box_owns}
 use Rattle.std_heap.specs.contracts.Global as global
 use Rattle.std_heap.proofs.Global.TheLaws as heap_laws
 use Rattle.std_heap.specs.contracts.GlobalAllocator.TheImpl.{ghosts}
-use Rattle.std.proofs.raw_atomic.Walks.{proved_at, leaves}
-use Rattle.task_handles.specs.Handles.{holds, heap}
+use Rattle.task_handles.specs.{Handles.{holds, heap}, contracts.handles.TaskHandle.into_unboxed.{ended, clauses, Key.{name as #self}}}
 use Rattle.task_handles.specs.contracts.members.Member as member
-use Rattle.task_handles.proofs.Unboxing.{pair, pair_fits, put_together, heap_of}
-use Rattle.task_handles.proofs.HandleSteps.{H', word, handle_out}
-use Rattle.task_handles.specs.contracts.handles.TaskHandle.into_unboxed.{ended, clauses}
-use Rattle.task_handles.specs.contracts.handles.TaskHandle.into_unboxed.Key.{name as #self}
+use Rattle.task_handles.proofs.{Unboxing.{pair, pair_fits, put_together, heap_of}, HandleSteps.{H', word, handle_out}}
 use Rattle.task_handles.proofs.handles.TaskHandle.into_unboxed.Statement.{statement}
 use Rattle.task_handles.proofs.handles.TaskHandle.into_unboxed.Code as code
 

@@ -1,39 +1,23 @@
 -- `member` lends what the pointer of a handle points at, and the handle follows it.
-use Rattle.std.proofs.Common.{◌≡◌, ℕ, List, [], ◌∷◌, refl, sym, ap, ◌∙◌}
+use Rattle.std.proofs.{Common.{◌≡◌, ℕ, List, [], ◌∷◌, refl, sym, ap, ◌∙◌}, VecSteps.Shapes.{after}, raw_atomic.Walks.{proved}}
 use mathlib.Core.Bool.{Bool, true}
 use seplogic.Ra.Ura.{Ura}
-use base.Fraction.{full_share}
-use base.Logic.{ent, sep, never, fst∗}
-use base.Fml.{Fml, GName, ftrue, fsep, flft}
-use contract.Monad.{fact}
-use contract.Running.{tables}
-use denote.Exit.{no}
-use denote.Follow.{Part, lends_Part, follows}
-use denote.Memory.{cell_at, lone, mem, part_at, part_of}
-use denote.RawPtr.{Ptr, block_ptr, null_ptr, in_a_block}
-use denote.RattleType.{RattleType}
-use denote.Ref.{MutRef, mut_vals, mut_Tells}
-use denote.Signature.{plain, mut_ref_to}
-use denote.Steps.{nothing, opens, heard}
+use base.{Fraction.{full_share}, Logic.{ent, sep, never, fst∗}, Fml.{Fml, GName, ftrue, fsep, flft}}
+use contract.{Monad.{fact}, Running.{tables}}
+use denote.{Exit.{no}, Follow.{Part, lends_Part, follows}, Memory.{cell_at, lone, mem, part_at, part_of}}
+use denote.{RawPtr.{Ptr, block_ptr, null_ptr, in_a_block}, RattleType.{RattleType}, Ref.{MutRef, mut_vals, mut_Tells}}
+use denote.{Signature.{plain, mut_ref_to}, Steps.{nothing, opens, heard}}
 use denote.Triple.Walked.{Stays, walk_of, says, stay_dropped, Goes-spent_ref, ends_at}
-use mir.Raw.{raw as bare}
-use mir.Syntax.{named}
-use mir.Val.{Val, vptr}
+use mir.{Raw.{raw as bare}, Syntax.{named}, Val.{Val, vptr}}
 use types.Kit.{‵, raw, ◌⊛◌, some, later, at_ret, ◌$◌, ◌∵◌, !, qed, done, move, keep, use1, split, join, fsplit, fsplit3, fjoin, fpack, pick, await, rewrite, suffices, frame, group}
-use types.Logic.{Logic, sem}
-use types.Part.{whole, sub, look_in}
-use types.Run.{stop, fld, load, of_opd, first, blocks, exec, returns, enter, addr}
+use types.{Logic.{Logic, sem}, Part.{whole, sub, look_in}, Run.{stop, fld, load, of_opd, first, blocks, exec, returns, enter, addr}}
 use types.ByLocal.{alloc_all, pass_all, free_all, look_at, get, through, sets, sets_last, env}
 use Rattle.std_alloc.specs.Box.Ownership.{box_owns}
-use Rattle.std.proofs.VecSteps.Shapes.{after}
-use Rattle.std.proofs.raw_atomic.Walks.{proved}
 use Rattle.std_heap.specs.contracts.GlobalAllocator.TheImpl.{ghosts}
-use Rattle.task_handles.specs.Handles.{holds, heap}
-use Rattle.task_handles.specs.Follows.{with_state}
+use Rattle.task_handles.specs.{Handles.{holds, heap}, Follows.{with_state}}
 use Rattle.task_handles.specs.contracts.members.Member as task
-use Rattle.task_handles.proofs.HandleSteps.{H', word, handle_out, handle_in}
+use Rattle.task_handles.proofs.{HandleSteps.{H', word, handle_out, handle_in}, handles.TaskHandle.member.Statement.{statement}}
 use Rattle.task_handles.specs.contracts.handles.TaskHandle.member as f
-use Rattle.task_handles.proofs.handles.TaskHandle.member.Statement.{statement}
 use Rattle.task_handles.proofs.handles.TaskHandle.member.Code as code
 
 abbrev R : RattleType

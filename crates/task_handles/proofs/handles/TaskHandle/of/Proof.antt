@@ -1,32 +1,22 @@
 -- `of` keeps the pointer, and what is owned behind it.
-use Rattle.std.proofs.Common.{◌≡◌, List, [], ◌∷◌, ◌++◌, refl, sym, subst}
+use Rattle.std.proofs.{Common.{◌≡◌, List, [], ◌∷◌, ◌++◌, refl, sym, subst}, raw_atomic.Walks.{proved_at, leaves}}
 use mathlib.Core.Bool.{true}
 use mir.Val.{Val, vptr}
 use base.Logic.{SProp, ent, emp, id⊢}
 use prog.Wp.{WpFn}
 use types.Kit.{‵, raw, ◌⊛◌, ◌$◌, ◌∵◌, !, qed, by, move, keep, split, fsplit, fjoin, use0, suffices}
-use types.Run.{stop, fld, of_opd, no_more, and_then, returns, enter}
-use types.ByLocal.{alloc_all, pass_all, free_all, look_at, get, get_in, sets}
+use types.{Run.{stop, fld, of_opd, no_more, and_then, returns, enter}, ByLocal.{alloc_all, pass_all, free_all, look_at, get, get_in, sets}}
 use types.Part.{agg, sub, whole}
-use contract.Monad.{fact, fact_i}
-use contract.Running.{tables}
-use denote.Exit.{yes}
-use denote.RattleType.{RattleType, owns}
-use denote.RawPtr.{block_ptr}
-use denote.Signature.{types_at, plain}
-use denote.Steps.{nothing}
-use denote.Triple.Entry.{alive}
-use denote.Triple.Walked.{Stays, stay_dropped, walk_of, Goes-dropped}
+use contract.{Monad.{fact, fact_i}, Running.{tables}}
+use denote.{Exit.{yes}, RattleType.{RattleType, owns}, RawPtr.{block_ptr}, Signature.{types_at, plain}, Steps.{nothing}}
+use denote.Triple.{Entry.{alive}, Walked.{Stays, stay_dropped, walk_of, Goes-dropped}}
 use Rattle.std_heap.specs.contracts.Global as heap
 use Rattle.std_heap.proofs.Global.TheLaws as heap_laws
 use Rattle.std_heap.specs.contracts.GlobalAllocator.TheImpl.{ghosts}
-use Rattle.std.proofs.raw_atomic.Walks.{proved_at, leaves}
 use Rattle.task_handles.specs.contracts.members.Member as member
-use Rattle.task_handles.proofs.Unboxing.{pair, BoxedRow, pair_fits, taken_apart}
-use Rattle.task_handles.proofs.HandleSteps.{word, handle_in}
-use Rattle.task_handles.specs.contracts.handles.TaskHandle.of.{ended, clauses}
-use Rattle.task_handles.specs.contracts.handles.TaskHandle.of.Key.{name as #self}
+use Rattle.task_handles.proofs.{Unboxing.{pair, BoxedRow, pair_fits, taken_apart}, HandleSteps.{word, handle_in}}
 use Rattle.task_handles.proofs.handles.TaskHandle.of.Statement.{statement}
+use Rattle.task_handles.specs.contracts.handles.TaskHandle.of.{ended, clauses, Key.{name as #self}}
 use Rattle.task_handles.proofs.handles.TaskHandle.of.Code as code
 
 abbrev Lr : RattleType

@@ -1,6 +1,5 @@
 use Rattle.std.proofs.Common.{sym, subst}
-use Rattle.vfs_gates.specs.Ended.{HasOpeningWords}
-use Rattle.vfs_gates.specs.TaskStates.{SeatedTask}
+use Rattle.vfs_gates.specs.{Ended.{HasOpeningWords}, TaskStates.{SeatedTask}}
 use Rattle.task_handles.proofs.handles.TaskHandle.open.Goals as goal
 
 -- the handle has the task of the block

@@ -1,7 +1,6 @@
 use Rattle.std.proofs.Common.{ap, sym, subst}
 use Rattle.gate_world.specs.declared.config.Config.{Config}
-use Rattle.vfs_gates.specs.Ended.{HasOpeningWords}
-use Rattle.vfs_gates.specs.TaskStates.{SeatedTask}
+use Rattle.vfs_gates.specs.{Ended.{HasOpeningWords}, TaskStates.{SeatedTask}}
 use Rattle.task_handles.proofs.Results.{if_ok_then}
 use Rattle.task_handles.proofs.members.Member.open.Goals as goal
 

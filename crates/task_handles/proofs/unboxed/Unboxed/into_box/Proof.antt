@@ -1,42 +1,21 @@
 -- `into_box` makes the box again: the struct's two fields, and a call.
-use Rattle.std.proofs.Common.{◌≡◌, List, [], ◌∷◌, ◌++◌, refl, sym, ap, subst}
-use base.Fml.{ftrue, flft}
-use base.Logic.{SProp, ent, id⊢}
-use contract.BorrowLft.{◌⊑◌}
-use contract.Monad.{fact}
-use contract.Running.{tables}
-use denote.Exit.{no}
-use denote.Param.{param, layout, bounded}
-use denote.Param.Laws.{param_laws}
-use denote.RattleType.{RattleType, owns}
-use denote.RawPtr.{block_ptr}
-use denote.Signature.{types_at, plain}
-use denote.Steps.{nothing, only}
-use denote.Triple.Call.{calls_at_last}
-use denote.Triple.Clauses.{Lasts, lasts}
-use denote.Triple.Spec.{triple_of}
+use Rattle.std.proofs.{Common.{◌≡◌, List, [], ◌∷◌, ◌++◌, refl, sym, ap, subst}, raw_atomic.Walks.{proved_at, leaves}}
+use base.{Fml.{ftrue, flft}, Logic.{SProp, ent, id⊢}}
+use contract.{BorrowLft.{◌⊑◌}, Monad.{fact}, Running.{tables}}
+use denote.{Exit.{no}, Param.{param, layout, bounded, Laws.{param_laws}}, RattleType.{RattleType, owns}, RawPtr.{block_ptr}}
+use denote.{Signature.{types_at, plain}, Steps.{nothing, only}, Triple.{Call.{calls_at_last}, Clauses.{Lasts, lasts}, Spec.{triple_of}}}
 use denote.Triple.Walked.{Stays, stay_dropped, walk_of}
-use mir.MapTy.{inst_fn}
-use mir.Syntax.{a_type, dcons, dnil}
-use mir.Val.{Val, vptr}
+use mir.{MapTy.{inst_fn}, Syntax.{a_type, dcons, dnil}, Val.{Val, vptr}}
 use prog.Wp.{WpFn}
 use types.ByLocal.{alloc_all, pass_all, free_all, look_at, get, get_in, sets, lands_last, env}
 use types.Kit.{‵, raw, ◌⊛◌, some, later, at_ret, ◌$◌, ◌∵◌, !, qed, by, move, keep, drop, split, split3, join, fsplit, fjoin, pick, suffices, use1, await, rewrite, feq_i}
-use types.Part.{sub, whole}
-use types.Run.{stop, fld, of_opd, no_more, and_then, first, blocks, exec, returns, enter}
-use Rattle.core.proofs.alloc.Calls.{Goes-blank}
-use Rattle.core.proofs.alloc.Shapes.{after}
-use Rattle.core.proofs.atomic.Steps.{fm}
-use Rattle.core.proofs.cell.Inside.{Good}
+use types.{Part.{sub, whole}, Run.{stop, fld, of_opd, no_more, and_then, first, blocks, exec, returns, enter}}
+use Rattle.core.proofs.{alloc.{Calls.{Goes-blank}, Shapes.{after}}, atomic.Steps.{fm}, cell.Inside.{Good}}
 use Rattle.std_alloc.proofs.BoxSteps.Form as box
-use Rattle.std_alloc.proofs.BoxSteps.Steps.{box_out, box_in}
-use Rattle.std.proofs.raw_atomic.Walks.{proved_at, leaves}
+use Rattle.std_alloc.proofs.{BoxSteps.Steps.{box_out, box_in}, boxed.Box.from_raw.Met.{met}}
 use Rattle.std_alloc.specs.contracts.boxed.Box.from_raw as from_raw
-use Rattle.std_alloc.proofs.boxed.Box.from_raw.Met.{met}
-use Rattle.task_handles.proofs.Unboxing.{pair, BoxedRow, pair_fits, taken_apart}
-use Rattle.task_handles.specs.contracts.unboxed.Unboxed.into_box.{ended, clauses}
-use Rattle.task_handles.specs.contracts.unboxed.Unboxed.into_box.Key.{name as #self}
-use Rattle.task_handles.proofs.unboxed.Unboxed.into_box.Statement.{statement}
+use Rattle.task_handles.proofs.{Unboxing.{pair, BoxedRow, pair_fits, taken_apart}, unboxed.Unboxed.into_box.Statement.{statement}}
+use Rattle.task_handles.specs.contracts.unboxed.Unboxed.into_box.{ended, clauses, Key.{name as #self}}
 use Rattle.task_handles.proofs.unboxed.Unboxed.into_box.Code as code
 
 pub into_box_spec : {M : Type 1} → statement M

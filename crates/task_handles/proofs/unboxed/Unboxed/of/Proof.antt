@@ -1,44 +1,22 @@
 -- `of` takes the box apart: a call, and the struct of what it gave.
-use Rattle.std.proofs.Common.{◌≡◌, List, [], ◌∷◌, ◌++◌, refl, sym, ap, ◌∙◌, subst}
-use base.Fml.{ftrue, fsep, flft}
-use base.Logic.{SProp, ent, emp, never, id⊢, fst∗}
-use contract.Monad.{fact, fact_i}
-use contract.Running.{tables}
-use denote.Builtin.{RawPtr}
-use denote.Exit.{no}
-use denote.Param.{param, layout, bounded}
-use denote.Param.Laws.{param_laws}
-use denote.RattleType.{RattleType, owns}
-use denote.RawPtr.{Ptr, block_ptr, null_ptr, ptr_val, in_a_block}
-use denote.Signature.{types_at, plain}
-use denote.Steps.{nothing, only, heard}
-use denote.Struct.Tuple.{Tuple}
-use denote.Triple.Call.{calls_at}
-use denote.Triple.Clauses.{Lasts}
-use denote.Triple.Spec.{triple_of}
-use denote.Triple.Walked.{Stays, stay_dropped, walk_of}
-use mir.MapTy.{inst_fn}
-use mir.Raw.{raw as bare}
-use mir.Syntax.{a_type, dcons, dnil}
-use mir.Val.{Val, vptr, vstruct, of_list}
+use Rattle.std.proofs.{Common.{◌≡◌, List, [], ◌∷◌, ◌++◌, refl, sym, ap, ◌∙◌, subst}, raw_atomic.Walks.{proved_at, leaves}}
+use base.{Fml.{ftrue, fsep, flft}, Logic.{SProp, ent, emp, never, id⊢, fst∗}}
+use contract.{Monad.{fact, fact_i}, Running.{tables}}
+use denote.{Builtin.{RawPtr}, Exit.{no}, Param.{param, layout, bounded, Laws.{param_laws}}, RattleType.{RattleType, owns}}
+use denote.{RawPtr.{Ptr, block_ptr, null_ptr, ptr_val, in_a_block}, Signature.{types_at, plain}, Steps.{nothing, only, heard}}
+use denote.{Struct.Tuple.{Tuple}, Triple.{Call.{calls_at}, Clauses.{Lasts}, Spec.{triple_of}, Walked.{Stays, stay_dropped, walk_of}}}
+use mir.{MapTy.{inst_fn}, Raw.{raw as bare}, Syntax.{a_type, dcons, dnil}, Val.{Val, vptr, vstruct, of_list}}
 use prog.Wp.{WpFn}
 use types.ByLocal.{alloc_all, pass_all, free_all, look_at, get, get_in, sets, lands_as}
 use types.Kit.{‵, raw, ◌⊛◌, some, later, ◌$◌, ◌∵◌, !, qed, by, move, keep, drop, split, split3, join, fsplit, fjoin, fpick, pick, suffices, use0, use1, await, rewrite, feq_l}
-use types.Logic.{sem}
-use types.Part.{agg, sub}
-use types.Run.{stop, fld, of_opd, no_more, and_then, returns, enter}
-use Rattle.core.proofs.alloc.Calls.{Goes-blank, handle_tells}
-use Rattle.core.proofs.atomic.Steps.{fm}
+use types.{Logic.{sem}, Part.{agg, sub}, Run.{stop, fld, of_opd, no_more, and_then, returns, enter}}
+use Rattle.core.proofs.{alloc.Calls.{Goes-blank, handle_tells}, atomic.Steps.{fm}}
 use Rattle.std_alloc.specs.Box.Ownership.{box_owns}
 use Rattle.std_alloc.proofs.BoxSteps.Form as box
-use Rattle.std_alloc.proofs.BoxSteps.Steps.{box_out, box_in}
-use Rattle.std.proofs.raw_atomic.Walks.{proved_at, leaves}
+use Rattle.std_alloc.proofs.{BoxSteps.Steps.{box_out, box_in}, boxed.Box.into_raw_with_allocator.Met.{met}}
 use Rattle.std_alloc.specs.contracts.boxed.Box.into_raw_with_allocator as raw_parts
-use Rattle.std_alloc.proofs.boxed.Box.into_raw_with_allocator.Met.{met}
-use Rattle.task_handles.proofs.Unboxing.{pair, pair_fits, put_together}
-use Rattle.task_handles.specs.contracts.unboxed.Unboxed.of.{ended, clauses}
-use Rattle.task_handles.specs.contracts.unboxed.Unboxed.of.Key.{name as #self}
-use Rattle.task_handles.proofs.unboxed.Unboxed.of.Statement.{statement}
+use Rattle.task_handles.proofs.{Unboxing.{pair, pair_fits, put_together}, unboxed.Unboxed.of.Statement.{statement}}
+use Rattle.task_handles.specs.contracts.unboxed.Unboxed.of.{ended, clauses, Key.{name as #self}}
 use Rattle.task_handles.proofs.unboxed.Unboxed.of.Code as code
 
 pub of_spec : {M : Type 1} → statement M

@@ -1,11 +1,9 @@
 use Rattle.std.proofs.Common.{◌≡◌, ℕ, List, ◌++◌, ◌∙◌, ap, sym, subst}
 use Rattle.std.specs.Prelude.{OnOk}
-use Rattle.gate_schedules.specs.Answers.{step_answer}
-use Rattle.gate_schedules.specs.declared.steps.Step.{Step}
+use Rattle.gate_schedules.specs.{Answers.{step_answer}, declared.steps.Step.{Step}}
 use Rattle.schedule_text.specs.declared.commands.TaskCommand.{TaskCommand}
 use Rattle.schedule_lines.proofs.Printed.{printed_if_whole}
-use Rattle.transcripts.specs.Printing.{step_text}
-use Rattle.transcripts.specs.Transcript.{command_outcome}
+use Rattle.transcripts.specs.{Printing.{step_text}, Transcript.{command_outcome}}
 use Rattle.transcripts.proofs.Showing.{same_step}
 use Rattle.transcripts.proofs.session.Session.do_command.Goals as goal
 

@@ -1,8 +1,5 @@
-use Rattle.std.proofs.Common.{◌≡◌, ◌∙◌, sym, arith}
-use Rattle.std.proofs.lemmas.Bool.{false≢true}
-use Rattle.std.proofs.lemmas.Grind.{common_steps}
-use Rattle.gate_world.specs.Configs.{IsWithin}
-use Rattle.gate_world.specs.Worlds.{opening}
+use Rattle.std.proofs.{Common.{◌≡◌, ◌∙◌, sym, arith}, lemmas.{Bool.{false≢true}, Grind.{common_steps}}}
+use Rattle.gate_world.specs.{Configs.{IsWithin}, Worlds.{opening}}
 use Rattle.model_state.specs.Shown.{bounded_state_of, opened}
 use Rattle.transcripts.proofs.Opening.{is_config_within, limits_within, known_mapped, answer_mapped, opens}
 use Rattle.transcripts.proofs.session.Session.new.Goals as goal

@@ -2,8 +2,7 @@ use Rattle.std.proofs.Common.{◌<◌}
 use Rattle.std.specs.List.{flat_map}
 use Rattle.access_model.specs.Histories.{end_of}
 use Rattle.schedule_lines.specs.Printed.{Prints}
-use Rattle.transcripts.specs.Sessions.{ShowsPlay}
-use Rattle.transcripts.specs.Transcript.{ReplayState, count_up, held_line}
+use Rattle.transcripts.specs.{Sessions.{ShowsPlay}, Transcript.{ReplayState, count_up, held_line}}
 use Rattle.transcripts.proofs.session.Session.print_held_mounts.Given as goal
 
 -- what the mounts so far print

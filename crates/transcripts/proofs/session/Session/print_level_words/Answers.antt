@@ -1,6 +1,5 @@
 use Rattle.std.proofs.Common.{◌≡◌, ℕ, arith}
-use Rattle.cpu_words.specs.declared.names.WordName.{WordName}
-use Rattle.cpu_words.specs.declared.names.WordName.TheVariants.{LevelCount}
+use Rattle.cpu_words.specs.declared.names.WordName.{WordName, TheVariants.{LevelCount}}
 use Rattle.schedule_lines.proofs.Printed.{prints_both}
 use Rattle.transcripts.specs.Transcript.{word_text}
 use Rattle.transcripts.proofs.Texts.{one_more, one_and_counts}

@@ -1,6 +1,5 @@
 use Rattle.std.proofs.Common.{◌≡◌, ℕ, arith}
-use Rattle.cpu_words.specs.declared.names.WordName.{WordName}
-use Rattle.cpu_words.specs.declared.names.WordName.TheVariants.{MountCount}
+use Rattle.cpu_words.specs.declared.names.WordName.{WordName, TheVariants.{MountCount}}
 use Rattle.transcripts.specs.Transcript.{word_text}
 use Rattle.transcripts.proofs.Texts.{one_more, one_and_counts}
 use Rattle.transcripts.proofs.session.Session.print_mount_words.Goals as goal

@@ -1,8 +1,7 @@
 use Rattle.std.specs.List.{flat_map}
 use Rattle.access_model.specs.Histories.{end_of}
 use Rattle.schedule_lines.specs.Printed.{Prints}
-use Rattle.transcripts.specs.Sessions.{ShowsPlay}
-use Rattle.transcripts.specs.Transcript.{ReplayState, count_up, tree_line}
+use Rattle.transcripts.specs.{Sessions.{ShowsPlay}, Transcript.{ReplayState, count_up, tree_line}}
 use Rattle.transcripts.proofs.session.Session.print_tree.Given as goal
 
 -- what the nodes so far print

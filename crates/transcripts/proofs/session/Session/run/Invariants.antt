@@ -1,5 +1,4 @@
-use Rattle.transcripts.specs.Sessions.{ShowsPlay}
-use Rattle.transcripts.specs.Transcript.{ReplayState}
+use Rattle.transcripts.specs.{Sessions.{ShowsPlay}, Transcript.{ReplayState}}
 use Rattle.transcripts.proofs.Running.{OnTheWay}
 use Rattle.transcripts.proofs.session.Session.run.Given as goal
 

@@ -1,5 +1,4 @@
-use Rattle.std.proofs.Common.{refl, arith}
-use Rattle.std.proofs.lemmas.Grind.{common_steps}
+use Rattle.std.proofs.{Common.{refl, arith}, lemmas.Grind.{common_steps}}
 use Rattle.transcripts.proofs.Showing.{stepped_none, stepped_some, not_refused, by_ok}
 use Rattle.transcripts.proofs.session.Session.step_judged.Goals as goal
 

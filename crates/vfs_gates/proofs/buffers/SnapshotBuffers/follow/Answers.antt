@@ -1,13 +1,10 @@
 -- an event of a snapshot is noted, and one of any other operation leaves the room as it is
 use Rattle.std.proofs.Common.{ap, sym, subst, ◌∙◌}
 use Rattle.std.specs.Prelude.{None}
-use Rattle.gate_world.specs.declared.work.Phase.TheVariants.{Trees}
-use Rattle.gate_world.specs.Views.{phase_after}
-use Rattle.gate_world.specs.Work.{after_of}
+use Rattle.gate_world.specs.{declared.work.Phase.TheVariants.{Trees}, Views.{phase_after}, Work.{after_of}}
 use Rattle.gate_steps.specs.Seating.{items_after}
 use Rattle.vfs_gates.specs.Buffers.{BufferWords, BuffersMatch, is_of_snapshot, words_in}
-use Rattle.vfs_gates.proofs.Noting.{follows_taking}
-use Rattle.vfs_gates.proofs.Rooming.{follows_other, not_tree, not_snapshot}
+use Rattle.vfs_gates.proofs.{Noting.{follows_taking}, Rooming.{follows_other, not_tree, not_snapshot}}
 use Rattle.vfs_gates.proofs.buffers.SnapshotBuffers.follow.Goals as goal
 
 pub returns-in_default : goal.returns-in_default

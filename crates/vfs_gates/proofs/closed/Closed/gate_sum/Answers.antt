@@ -1,17 +1,13 @@
 use Rattle.std.proofs.Common.{◌≡◌, ◌*◌, ◌%◌, ◌<◌, ℕ, Some, sym, ap, ◌∙◌, subst, arith, refl, true≢false}
-use Rattle.std.specs.Prelude.{slice_index}
-use Rattle.std.specs.Slots.{slots_items}
+use Rattle.std.specs.{Prelude.{slice_index}, Slots.{slots_items}}
 use Rattle.finite_sums.specs.Sums.{total}
 use Rattle.access_model.specs.declared.actions.Gate.{Gate}
-use Rattle.cpu_words.specs.Names.{IsWord, place, stride}
-use Rattle.cpu_words.specs.declared.names.WordName.{WordName}
+use Rattle.cpu_words.specs.{Names.{IsWord, place, stride}, declared.names.WordName.{WordName}}
 use Rattle.gate_world.specs.Configs.{extents_of, extents_kept}
 use Rattle.gate_steps.specs.Rules.{table_index}
 use Rattle.gate_steps.proofs.TableWords.{lies_inside}
-use Rattle.vfs_gates.specs.Sums.{IsGate, count_word}
-use Rattle.vfs_gates.specs.Ended.{ClosedState}
-use Rattle.vfs_gates.proofs.Ending.{sums_to_none, level_sums_to_none}
-use Rattle.vfs_gates.proofs.Gating.{has_count, is_gate, counts_on, counts_one_more}
+use Rattle.vfs_gates.specs.{Sums.{IsGate, count_word}, Ended.{ClosedState}}
+use Rattle.vfs_gates.proofs.{Ending.{sums_to_none, level_sums_to_none}, Gating.{has_count, is_gate, counts_on, counts_one_more}}
 use Rattle.vfs_gates.proofs.closed.Closed.gate_sum.Goals as goal
 
 pub returns-clause-mounts : goal.returns-clause-mounts

@@ -1,8 +1,6 @@
 use Rattle.std.proofs.Common.{◌≡◌, ◌%◌, ◌*◌, ◌<◌, ℕ, Some, refl, sym, ap, ◌∙◌, subst}
-use Rattle.std.specs.Prelude.{slice_index}
-use Rattle.std.specs.Slots.{slots_items}
-use Rattle.cpu_words.specs.declared.names.WordName.{WordName}
-use Rattle.cpu_words.specs.Names.{IsWord, place, stride}
+use Rattle.std.specs.{Prelude.{slice_index}, Slots.{slots_items}}
+use Rattle.cpu_words.specs.{declared.names.WordName.{WordName}, Names.{IsWord, place, stride}}
 use Rattle.gate_world.specs.Configs.{extents_of}
 use Rattle.vfs_gates.proofs.Ending.{umount_free, no_remount, none_removed, no_hold, no_section}
 use Rattle.vfs_gates.proofs.closed.Closed.word.Goals as goal

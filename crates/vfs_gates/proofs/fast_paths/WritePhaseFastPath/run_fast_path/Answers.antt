@@ -1,14 +1,9 @@
 -- a taking and a return go on as what they are
 use Rattle.std.proofs.Common.{◌≡◌, ap, subst, ◌∙◌}
 use Rattle.std.specs.Prelude.{Option, Some, None}
-use Rattle.gate_world.specs.Views.{phase_after}
-use Rattle.gate_world.specs.declared.operations.Op.{Op}
-use Rattle.gate_world.specs.declared.work.Phase.{Phase}
-use Rattle.gate_world.specs.declared.work.Phase.TheVariants.{Writes}
+use Rattle.gate_world.specs.{Views.{phase_after}, declared.{operations.Op.{Op}, work.Phase.{Phase, TheVariants.{Writes}}}}
 use Rattle.composite_ops.specs.declared.write_access.phases.WritePhase.{WritePhase}
-use Rattle.gate_steps.specs.call_events.SeatedTasks.{task_state}
-use Rattle.gate_steps.specs.call_events.GhostAgrees.{GhostAgrees}
-use Rattle.gate_steps.specs.call_events.Turns.{StateAgrees, state_at, of_write}
+use Rattle.gate_steps.specs.call_events.{SeatedTasks.{task_state}, GhostAgrees.{GhostAgrees}, Turns.{StateAgrees, state_at, of_write}}
 use Rattle.gate_steps.specs.call_events.Waited.{OpUnderWayWaiting, OpAfterStepWaiting}
 use Rattle.vfs_gates.specs.Lines.{done_or}
 use Rattle.vfs_gates.proofs.fast_paths.WritePhaseFastPath.run_fast_path.Goals as goal

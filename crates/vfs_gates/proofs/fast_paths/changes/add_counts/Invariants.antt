@@ -1,10 +1,8 @@
 -- Each event of the line goes on from what the one before it left.
 use Rattle.std.proofs.Common.{◌≡◌, ℕ}
 use Rattle.std.specs.Prelude.{None}
-use Rattle.gate_world.specs.Views.{phase_after}
-use Rattle.gate_world.specs.declared.operations.Op.{Op}
-use Rattle.gate_steps.specs.call_events.SeatedTasks.{SeatedTask, task_state}
-use Rattle.gate_steps.specs.call_events.Turns.{StateAgrees, AgreesAfter, of_change}
+use Rattle.gate_world.specs.{Views.{phase_after}, declared.operations.Op.{Op}}
+use Rattle.gate_steps.specs.call_events.{SeatedTasks.{SeatedTask, task_state}, Turns.{StateAgrees, AgreesAfter, of_change}}
 use Rattle.gate_steps.specs.call_events.Waited.{OpAfterStepWaiting}
 use Rattle.vfs_gates.proofs.fast_paths.changes.add_counts.Given as goal
 

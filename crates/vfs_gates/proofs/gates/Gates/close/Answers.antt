@@ -2,13 +2,10 @@
 use Rattle.std.proofs.Common.{ℕ, ◌<◌, ◌≤◌, List, refl, sym, ◌∙◌, subst}
 use Rattle.std.specs.Slots.{slots_items}
 use Rattle.gate_world.specs.declared.{config.Config.Config, entries.Entry.Entry}
-use Rattle.gate_steps.specs.Seating.{DealtNumbers, times}
-use Rattle.gate_steps.specs.Tables.{IsClosing}
-use Rattle.gate_steps.specs.call_events.GhostAgrees.{AllRest}
+use Rattle.gate_steps.specs.{Seating.{DealtNumbers, times}, Tables.{IsClosing}, call_events.GhostAgrees.{AllRest}}
 use Rattle.vfs_gates.specs.Ended.{EndedWith}
-use Rattle.vfs_gates.proofs.Closing.{ended}
+use Rattle.vfs_gates.proofs.{Closing.{ended}, gates.Gates.close.Goals.{After-close}}
 use Rattle.vfs_gates.proofs.gates.Gates.close.Goals as goal
-use Rattle.vfs_gates.proofs.gates.Gates.close.Goals.{After-close}
 
 -- what the words and the task's numbers say of each other
 ends : (c : After-close) → EndedWith c.args.self.words.config (slots_items c.close.result.words) c.args.task.items c.args.task.seen

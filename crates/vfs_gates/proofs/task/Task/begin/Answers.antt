@@ -1,13 +1,10 @@
 -- a beginning that is refused, and one that isn't
-use Rattle.std.proofs.Common.{refl, sym, ap}
-use Rattle.std.proofs.lemmas.Result.{err_from_is_err_and}
+use Rattle.std.proofs.{Common.{refl, sym, ap}, lemmas.Result.{err_from_is_err_and}}
 use Rattle.vfs_gates.specs.TaskStates.{SeatedTask}
 use Rattle.gate_steps.proofs.call_events.Running.{starts}
-use Rattle.vfs_gates.proofs.Admitting.{admitted_by, refused_by}
-use Rattle.vfs_gates.proofs.Calling.{Call, admitted_call, begun, begun_state}
+use Rattle.vfs_gates.proofs.{Admitting.{admitted_by, refused_by}, Calling.{Call, admitted_call, begun, begun_state}}
+use Rattle.vfs_gates.proofs.{task.Task.begin.Goals.{In_ok-phase}, Rooming.{begun_in}}
 use Rattle.vfs_gates.proofs.task.Task.begin.Goals as goal
-use Rattle.vfs_gates.proofs.task.Task.begin.Goals.{In_ok-phase}
-use Rattle.vfs_gates.proofs.Rooming.{begun_in}
 
 pub returns-in_err-phase-clause-answer : goal.returns-in_err-phase-clause-answer
 returns-in_err-phase-clause-answer c = let p = err_from_is_err_and c.from_residual.result c.from_residual.ensures.1 in

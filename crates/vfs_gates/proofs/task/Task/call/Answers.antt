@@ -3,14 +3,11 @@ use Rattle.std.proofs.Common.{refl, sym, ◌∙◌}
 use Rattle.access_model.specs.declared.replies.Next.TheVariants.{Done}
 use Rattle.gate_world.specs.declared.work.Phase.TheVariants.{Trees}
 use Rattle.gate_steps.specs.call_events.Runs.{the_reply}
-use Rattle.vfs_gates.proofs.Admitting.{refused_by}
-use Rattle.vfs_gates.proofs.Calling.{Call, Left, call_with, is_agrees, has_begun, ghost_agrees_done, ended_at}
-use Rattle.vfs_gates.proofs.Rooming.{room_done}
-use Rattle.vfs_gates.proofs.Waiting.{left_tells, waits_for_nobody}
+use Rattle.vfs_gates.proofs.{Admitting.{refused_by}, Calling.{Call, Left, call_with, is_agrees, has_begun, ghost_agrees_done, ended_at}}
+use Rattle.vfs_gates.proofs.{Rooming.{room_done}, Waiting.{left_tells, waits_for_nobody}, task.Task.call.Goals.{After-run_to_reply}}
 use Rattle.vfs_gates.specs.TaskStates.{own_number}
 use Rattle.gate_steps.proofs.call_events.Running.{was_refused, was_done, told_whole}
 use Rattle.vfs_gates.proofs.task.Task.call.Goals as goal
-use Rattle.vfs_gates.proofs.task.Task.call.Goals.{After-run_to_reply}
 
 -- the call, and what its events have left
 abbrev call : After-run_to_reply → Call

@@ -1,16 +1,11 @@
 -- it tells of the reply the node that it took
 use Rattle.std.proofs.Common.{◌≡◌, ℕ, Some, None, Ok, Err, refl, sym, subst}
 use Rattle.std.specs.Prelude.{Option, Result, IfOk, List}
-use Rattle.access_model.specs.declared.errors.GateError.{GateError}
-use Rattle.access_model.specs.declared.actions.Kind.{Kind}
-use Rattle.access_model.specs.declared.replies.Reply.{Reply}
-use Rattle.gate_world.specs.Operations.{IsNodeReply}
-use Rattle.gate_world.specs.traces.Traces.{IsHonestAnswer}
-use Rattle.gate_world.specs.declared.config.Config.{Config}
-use Rattle.gate_world.specs.declared.views.Traced.{Traced}
+use Rattle.access_model.specs.declared.{errors.GateError.{GateError}, actions.Kind.{Kind}, replies.Reply.{Reply}}
+use Rattle.gate_world.specs.{Operations.{IsNodeReply}, traces.Traces.{IsHonestAnswer}, declared.config.Config.{Config}}
+use Rattle.gate_world.specs.declared.{views.Traced.{Traced}, operations.Op.TheVariants.{Create}}
 use Rattle.gate_steps.specs.call_events.Runs.{told_as, node_of, the_reply, Replies}
 use Rattle.gate_steps.proofs.call_events.Running.{was_told}
-use Rattle.gate_world.specs.declared.operations.Op.TheVariants.{Create}
 use Rattle.vfs_gates.specs.TaskStates.{SeatedTask, refusal_at}
 use Rattle.vfs_gates.proofs.task.Task.create.Goals as goal
 

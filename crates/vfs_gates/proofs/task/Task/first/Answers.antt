@@ -1,12 +1,7 @@
 use Rattle.std.proofs.Common.{ap, sym, subst, ◌∙◌, None}
-use Rattle.gate_steps.specs.Seating.{DealtNumbers}
-use Rattle.gate_steps.specs.call_events.GhostAgrees.{GhostAgrees}
-use Rattle.vfs_gates.proofs.Parting.{first_ghost_agrees}
-use Rattle.gate_steps.specs.call_events.TaskState.{TaskState}
-use Rattle.vfs_gates.specs.Buffers.{words_in}
-use Rattle.vfs_gates.specs.TaskStates.{own_view}
-use Rattle.vfs_gates.proofs.Rooming.{first_unseen, room_new}
-use Rattle.vfs_gates.proofs.Waiting.{first_tells}
+use Rattle.gate_steps.specs.{Seating.{DealtNumbers}, call_events.{GhostAgrees.{GhostAgrees}, TaskState.{TaskState}}}
+use Rattle.vfs_gates.proofs.{Parting.{first_ghost_agrees}, Rooming.{first_unseen, room_new}, Waiting.{first_tells}}
+use Rattle.vfs_gates.specs.{Buffers.{words_in}, TaskStates.{own_view}}
 use Rattle.vfs_gates.proofs.task.Task.first.Goals as goal
 
 pub invariant_of-result : goal.invariant_of-result

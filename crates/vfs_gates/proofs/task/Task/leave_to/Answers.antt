@@ -1,12 +1,8 @@
 use Rattle.std.proofs.Common.{◌≡◌, set, true, length, arith, sym, ap, ◌∙◌, subst, None}
 use Rattle.gate_world.specs.declared.config.Config.{Config}
-use Rattle.gate_steps.specs.Seating.{DealtNumbers}
-use Rattle.vfs_gates.specs.TaskStates.{SeatedTask, Empty, own_number, own_view}
-use Rattle.gate_steps.specs.call_events.GhostAgrees.{GhostAgrees}
-use Rattle.vfs_gates.proofs.Parting.{join_self, below}
-use Rattle.vfs_gates.specs.Buffers.{words_in}
-use Rattle.vfs_gates.proofs.Rooming.{joined_view, room_same}
-use Rattle.vfs_gates.proofs.Waiting.{joined_number, tell_same}
+use Rattle.gate_steps.specs.{Seating.{DealtNumbers}, call_events.GhostAgrees.{GhostAgrees}}
+use Rattle.vfs_gates.specs.{TaskStates.{SeatedTask, Empty, own_number, own_view}, Buffers.{words_in}}
+use Rattle.vfs_gates.proofs.{Parting.{join_self, below}, Rooming.{joined_view, room_same}, Waiting.{joined_number, tell_same}}
 use Rattle.vfs_gates.proofs.task.Task.leave_to.Goals as goal
 
 pub invariant_of-task : goal.invariant_of-task

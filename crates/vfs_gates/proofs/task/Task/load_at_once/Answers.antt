@@ -3,22 +3,15 @@ use Rattle.std.proofs.Common.{◌≡◌, ◌≤◌, arith, sym, ap, subst, ◌�
 use Rattle.std.specs.Prelude.{Some}
 use Rattle.gate_steps.proofs.call_events.Onward.{stands_at, done_at}
 use Rattle.gate_steps.specs.call_events.Progress.TheVariants.{Going, Done}
-use Rattle.gate_world.specs.declared.operations.Op.TheVariants.{Snapshot as SnapshotOp}
-use Rattle.gate_world.specs.declared.config.Config.{Config}
-use Rattle.gate_world.specs.declared.work.Phase.{Phase}
+use Rattle.gate_world.specs.declared.{operations.Op.TheVariants.{Snapshot as SnapshotOp}, config.Config.{Config}, work.Phase.{Phase}}
 use Rattle.gate_world.specs.declared.work.Phase.TheVariants.{Trees}
 use Rattle.gated_tree.specs.declared.snapshots.SnapshotStep.TheVariants.{Locks}
-use Rattle.vfs_gates.specs.Noted.{of_tree, taking_at}
-use Rattle.vfs_gates.specs.TaskStates.{SeatedTask}
-use Rattle.vfs_gates.specs.Buffers.{BuffersMatch, IsSized, words_in}
-use Rattle.vfs_gates.proofs.Admitting.{refused_by}
-use Rattle.vfs_gates.proofs.AtOnce.{refused_at_once, told_at_once}
+use Rattle.vfs_gates.specs.{Noted.{of_tree, taking_at}, TaskStates.{SeatedTask}, Buffers.{BuffersMatch, IsSized, words_in}}
+use Rattle.vfs_gates.proofs.{Admitting.{refused_by}, AtOnce.{refused_at_once, told_at_once}}
 use Rattle.vfs_gates.proofs.Calling.{Call, Left, call_with, is_agrees, items_of, not_begun, ghost_agrees_at, ghost_agrees_done, goes_at, ended_at}
-use Rattle.vfs_gates.proofs.Loading.{left_by, loaded_done, loaded_buffers, nodes_as_begun}
-use Rattle.vfs_gates.proofs.Rooming.{begun_in}
-use Rattle.vfs_gates.proofs.Waiting.{left_tells, once}
-use Rattle.vfs_gates.proofs.task.Task.load_at_once.Goals as goal
+use Rattle.vfs_gates.proofs.{Loading.{left_by, loaded_done, loaded_buffers, nodes_as_begun}, Rooming.{begun_in}, Waiting.{left_tells, once}}
 use Rattle.vfs_gates.proofs.task.Task.load_at_once.Goals.{After-snapshot_first-next}
+use Rattle.vfs_gates.proofs.task.Task.load_at_once.Goals as goal
 
 -- the call, and what its line has left
 abbrev call : After-snapshot_first-next → Call

@@ -6,12 +6,10 @@ use Rattle.access_model.specs.Replies.{map_next}
 use Rattle.gate_steps.specs.call_events.Runs.{unit_of}
 use Rattle.vfs_gates.proofs.Admitting.{refused_by}
 use Rattle.vfs_gates.proofs.Calling.{Call, Left, call_with, is_agrees, has_not_waited, ghost_agrees_at, ghost_agrees_done, goes_at, ended_at}
-use Rattle.gate_steps.proofs.call_events.Onward.{stands_at, done_at}
-use Rattle.gate_steps.proofs.call_events.Running.{was_refused, was_done}
-use Rattle.vfs_gates.proofs.task.Task.perform_or_wait.Goals as goal
-use Rattle.vfs_gates.proofs.task.Task.perform_or_wait.Goals.{After-run_fast_path-next}
-use Rattle.vfs_gates.proofs.Rooming.{room_at, room_done}
+use Rattle.vfs_gates.proofs.{task.Task.perform_or_wait.Goals.{After-run_fast_path-next}, Rooming.{room_at, room_done}}
 use Rattle.vfs_gates.proofs.Waiting.{left_tells, once}
+use Rattle.gate_steps.proofs.call_events.{Onward.{stands_at, done_at}, Running.{was_refused, was_done}}
+use Rattle.vfs_gates.proofs.task.Task.perform_or_wait.Goals as goal
 
 -- the call, and what its line has left
 abbrev call : (g : _) → After-run_fast_path-next g → Call

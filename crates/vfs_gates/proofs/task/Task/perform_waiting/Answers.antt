@@ -2,18 +2,13 @@
 use Rattle.std.proofs.Common.{refl, sym, ap, ◌∙◌, [], add-zero}
 use Rattle.std.specs.Prelude.{None}
 use Rattle.access_model.specs.declared.replies.Next.TheVariants.{Done}
-use Rattle.gate_steps.specs.call_events.Runs.{the_reply}
+use Rattle.gate_steps.specs.call_events.{Runs.{the_reply}, Asking.{CalledAsking}, Waited.{counted, waits_in}}
 use Rattle.vfs_gates.proofs.Admitting.{refused_by}
 use Rattle.vfs_gates.proofs.Calling.{Call, Left, call_with, is_agrees, has_asked_none, ghost_agrees_done, ended_asking}
-use Rattle.vfs_gates.proofs.Rooming.{room_done}
-use Rattle.gate_steps.specs.call_events.Asking.{CalledAsking}
-use Rattle.gate_steps.proofs.call_events.Asking.{was_refused_asking, was_done_asking}
-use Rattle.gate_steps.proofs.call_events.Running.{told_whole}
-use Rattle.gate_steps.specs.call_events.Waited.{counted, waits_in}
-use Rattle.vfs_gates.proofs.Waiting.{left_tells}
+use Rattle.vfs_gates.proofs.{Rooming.{room_done}, Waiting.{left_tells}, task.Task.perform_waiting.Goals.{After-wait_for_reply-answer}}
+use Rattle.gate_steps.proofs.call_events.{Asking.{was_refused_asking, was_done_asking}, Running.{told_whole}}
 use Rattle.vfs_gates.specs.TaskStates.{own_number, task_state}
 use Rattle.vfs_gates.proofs.task.Task.perform_waiting.Goals as goal
-use Rattle.vfs_gates.proofs.task.Task.perform_waiting.Goals.{After-wait_for_reply-answer}
 
 -- the call, and what its events have left
 abbrev call : (g : _) → After-wait_for_reply-answer g → Call

@@ -1,6 +1,5 @@
 -- its beginning and its events
-use Rattle.std.proofs.Common.{sym}
-use Rattle.std.proofs.lemmas.Result.{err_from_is_err_and}
+use Rattle.std.proofs.{Common.{sym}, lemmas.Result.{err_from_is_err_and}}
 use Rattle.gate_steps.specs.call_events.Runs.{the_reply}
 use Rattle.gate_steps.proofs.call_events.Running.{was_refused, was_done, told_whole}
 use Rattle.vfs_gates.proofs.task.Task.run.Goals as goal

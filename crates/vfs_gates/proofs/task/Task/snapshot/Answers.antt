@@ -1,6 +1,5 @@
 -- its line, and what is left of it
-use Rattle.std.proofs.Common.{refl, true, subst}
-use Rattle.std.proofs.lemmas.Result.{err_from_is_err_and}
+use Rattle.std.proofs.{Common.{refl, true, subst}, lemmas.Result.{err_from_is_err_and}}
 use Rattle.gate_world.specs.declared.operations.Op.TheVariants.{Snapshot as SnapshotOp}
 use Rattle.gate_steps.specs.call_events.Runs.{ProgressMatches, unit_of}
 use Rattle.gate_steps.proofs.call_events.Running.{was_refused, was_done}

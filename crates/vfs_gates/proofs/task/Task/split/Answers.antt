@@ -1,15 +1,10 @@
 use Rattle.std.proofs.Common.{◌≡◌, ◌≤◌, ℕ, refl, length, set, false, arith, sym, ap, ◌∙◌, subst, None}
 use Rattle.gate_world.specs.declared.views.View.{View}
-use Rattle.gate_steps.specs.Seating.{DealtNumbers, times}
-use Rattle.gate_steps.specs.call_events.GhostAgrees.{GhostAgrees}
+use Rattle.gate_steps.specs.{Seating.{DealtNumbers, times}, call_events.{GhostAgrees.{GhostAgrees}, TaskState.{TaskState}}}
 use Rattle.vfs_gates.proofs.Parting.{split_self, split_new, lowest_there, none_begun, none_there}
-use Rattle.gate_steps.specs.call_events.TaskState.{TaskState}
-use Rattle.vfs_gates.specs.Buffers.{words_in}
-use Rattle.vfs_gates.specs.TaskStates.{SeatedTask, task_state, own_number, own_view, spare_of, Empty}
-use Rattle.vfs_gates.specs.Parts.{SplitOf}
-use Rattle.vfs_gates.proofs.Rooming.{given_unseen, kept_view, room_new, room_same}
-use Rattle.vfs_gates.proofs.Resting.{given_empty}
+use Rattle.vfs_gates.proofs.{Rooming.{given_unseen, kept_view, room_new, room_same}, Resting.{given_empty}}
 use Rattle.vfs_gates.proofs.Waiting.{given_tells, kept_number, tell_same}
+use Rattle.vfs_gates.specs.{Buffers.{words_in}, TaskStates.{SeatedTask, task_state, own_number, own_view, spare_of, Empty}, Parts.{SplitOf}}
 use Rattle.vfs_gates.proofs.task.Task.split.Goals as goal
 
 pub invariant_of-result : goal.invariant_of-result

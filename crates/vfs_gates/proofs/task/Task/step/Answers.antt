@@ -1,6 +1,5 @@
 -- the event of its kind is the event of the operation
-use Rattle.std.proofs.Common.{sym, ap, ◌∙◌, refl, subst}
-use Rattle.std.proofs.lemmas.Option.{none-some}
+use Rattle.std.proofs.{Common.{sym, ap, ◌∙◌, refl, subst}, lemmas.Option.{none-some}}
 use Rattle.vfs_gates.specs.TaskStates.{SeatedTask}
 use Rattle.gate_steps.proofs.call_events.Running.{told_then}
 use Rattle.gate_world.specs.Configs.{IsWithin}

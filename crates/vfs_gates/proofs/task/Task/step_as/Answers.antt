@@ -1,16 +1,12 @@
 -- the fields after an event are what the seat knows after it
 use Rattle.std.proofs.Common.{◌≡◌, ◌+◌, ◌∙◌, sym, ap, refl, subst}
 use Rattle.std.specs.Prelude.{Option, Some, None}
-use Rattle.access_model.specs.declared.replies.Next.{Next}
+use Rattle.access_model.specs.{declared.replies.Next.{Next}, Replies.{map_next}}
 use Rattle.gate_world.specs.declared.work.Phase.{Phase}
-use Rattle.vfs_gates.specs.TaskStates.{SeatedTask, task_state}
+use Rattle.vfs_gates.specs.{TaskStates.{SeatedTask, task_state}, Buffers.{BuffersMatch, words_in}, Waits.{counted, is_wait}}
 use Rattle.gate_steps.specs.call_events.Turns.{state_at}
 use Rattle.gate_steps.proofs.call_events.Turning.{agrees_at, stepped_there}
-use Rattle.access_model.specs.Replies.{map_next}
-use Rattle.vfs_gates.specs.Buffers.{BuffersMatch, words_in}
-use Rattle.vfs_gates.proofs.Rooming.{FollowsBy, stepped_room}
-use Rattle.vfs_gates.specs.Waits.{counted, is_wait}
-use Rattle.vfs_gates.proofs.Waiting.{noted_tells, since, since_begun, since_going}
+use Rattle.vfs_gates.proofs.{Rooming.{FollowsBy, stepped_room}, Waiting.{noted_tells, since, since_begun, since_going}}
 use Rattle.vfs_gates.proofs.task.Task.step_as.Goals.{then-is_some, else-is_some}
 use Rattle.vfs_gates.proofs.task.Task.step_as.Goals as goal
 

@@ -5,13 +5,11 @@ use Rattle.access_model.specs.Replies.{map_next}
 use Rattle.gate_steps.proofs.call_events.Onward.{stands_at, done_at}
 use Rattle.gate_steps.specs.call_events.Progress.TheVariants.{Going, Done}
 use Rattle.gate_world.specs.declared.work.Phase.{Phase}
-use Rattle.vfs_gates.proofs.Admitting.{refused_by}
-use Rattle.vfs_gates.proofs.AtOnce.{refused_at_once, told_at_once}
+use Rattle.vfs_gates.proofs.{Admitting.{refused_by}, AtOnce.{refused_at_once, told_at_once}}
 use Rattle.vfs_gates.proofs.Calling.{Call, Left, call_with, is_agrees, has_not_waited, not_begun, ghost_agrees_at, ghost_agrees_done, goes_at, ended_at}
-use Rattle.vfs_gates.proofs.Rooming.{room_at, room_done}
-use Rattle.vfs_gates.proofs.Waiting.{left_tells, once}
-use Rattle.vfs_gates.proofs.task.Task.take_at_once.Goals as goal
+use Rattle.vfs_gates.proofs.{Rooming.{room_at, room_done}, Waiting.{left_tells, once}}
 use Rattle.vfs_gates.proofs.task.Task.take_at_once.Goals.{After-run_fast_path-next}
+use Rattle.vfs_gates.proofs.task.Task.take_at_once.Goals as goal
 
 -- the call, and what its line has left
 abbrev call : (g : _) → After-run_fast_path-next g → Call

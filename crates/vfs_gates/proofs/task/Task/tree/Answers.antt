@@ -2,10 +2,8 @@
 use Rattle.std.proofs.Common.{◌≤◌, ap, subst, ◌∙◌}
 use Rattle.std.specs.Prelude.{length, option_map}
 use Rattle.gate_world.specs.declared.views.Snapshot.{Snapshot}
-use Rattle.vfs_gates.specs.Buffers.{words_in}
-use Rattle.vfs_gates.specs.TaskStates.{SeatedTask, own_view}
-use Rattle.vfs_gates.proofs.Parting.{has_own}
-use Rattle.vfs_gates.proofs.Rooming.{shows_last}
+use Rattle.vfs_gates.specs.{Buffers.{words_in}, TaskStates.{SeatedTask, own_view}}
+use Rattle.vfs_gates.proofs.{Parting.{has_own}, Rooming.{shows_last}}
 use Rattle.vfs_gates.proofs.task.Task.tree.Goals as goal
 
 pub returns-clause-last : goal.returns-clause-last

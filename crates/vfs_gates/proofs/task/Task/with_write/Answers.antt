@@ -3,8 +3,7 @@ use Rattle.std.proofs.Common.{rules, ◌∙◌}
 use Rattle.gate_world.specs.declared.operations.Op.TheVariants.{WantWrite}
 use Rattle.gate_steps.specs.call_events.Runs.{unit_of}
 use Rattle.vfs_gates.specs.Held.{IsAsBefore}
-use Rattle.vfs_gates.proofs.Holding.{refused_call_keeps}
-use Rattle.vfs_gates.proofs.Returning.{done_idle, written_back}
+use Rattle.vfs_gates.proofs.{Holding.{refused_call_keeps}, Returning.{done_idle, written_back}}
 use Rattle.vfs_gates.proofs.task.Task.with_write.Goals as goal
 
 pub returns-in_err-want_write-clause-as_before : goal.returns-in_err-want_write-clause-as_before
