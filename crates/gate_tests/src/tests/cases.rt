@@ -119,16 +119,18 @@ fn go_beside<R: Wait + Threads + Sync>(
     );
 }
 
-/// The first task splits one more off.
-fn split_off(first: &mut Task, others: &mut Vec<Task>, alloc: Global, gates: &Gates)
+/// The first task splits one more off, which isn't to be refused.
+fn split_off(first: &mut Task, others: &mut Vec<Task>, gates: &Gates, scene: &Fixture)
     requires first { IsFrom first.old gates.now }
     requires others { All (λ task. IsFrom task gates.now) others.old.items }
     ensures first { IsFrom first.new gates.now }
     ensures others { All (λ task. IsFrom task gates.now) others.new.items }
 {
-    if let Ok(other) = first.split(alloc, gates) {
-        let _ = others.push(other);
-    }
+    let is_split = match first.split(scene.alloc, gates) {
+        Ok(other) => others.push(other).is_ok(),
+        Err(_) => false,
+    };
+    scene.expect(is_split, "a task for each thread");
 }
 
 /// The first task joins the last one.
@@ -169,7 +171,7 @@ fn go_at_once<R: Wait + Threads + Sync>(
 {
     let mut others = Vec::new(scene.alloc);
     for _part in rounds.split(' ') {
-        split_off(first, &mut others, scene.alloc, gates);
+        split_off(first, &mut others, gates, scene);
     }
     go_beside(&mut others, rt, gates, scene);
     join_rest(first, &mut others, gates);
@@ -198,7 +200,7 @@ fn does_for_all<R: Wait + Threads + Sync>(
             end_name(split(first, second, turn.scene.alloc, gates, count)) == ends
         }
         Act::Join => end_name(join(first, second, gates)) == ends,
-        Act::Lose => second.take().is_some(),
+        Act::Lose => second.take().is_some() && ends == "done",
         Act::Fail => {
             turn.fails = rest;
             true
