@@ -241,6 +241,10 @@ class Gates(unittest.TestCase):
 
     def test_block_that_is_interrupted(self) -> None:
         """A block gives back what it holds, and a freeze that it has begun, as soon as that is done."""
+        # A shell that starts a command in the background has it ignore Ctrl-C.
+        before = signal.signal(signal.SIGINT, signal.default_int_handler)
+        self.addCleanup(signal.signal, signal.SIGINT, before)
+
         def interrupt() -> None:
             time.sleep(0.05)
             os.kill(os.getpid(), signal.SIGINT)
