@@ -24,7 +24,7 @@ REFUSED = [
     (["sums_before_hold"], "a mutant and a race are needed"),
     (["sums_befor_hold", RACE], "no mutant sums_befor_hold; the nearest: mount_counts/sums_before_hold"),
     (["zzz", RACE], "no mutant zzz; ls {crates,docs/steps}/*/must-fail lists all"),
-    (["task_handles/a_hook_is_told_as_an_errno", RACE], "mntgate doesn't stand on that crate, so no race shows it"),
+    (["mntgate_c/a_hook_is_told_as_an_errno", RACE], "mntgate doesn't stand on that crate, so no race shows it"),
     (["sums_before_hold", "no.race"], "no race no.race"),
     (["--limit", "10", "sums_before_hold", RACE], f"{RACE}: more than 10 states"),
 ]

@@ -1,9 +1,9 @@
 -- What comes after each event of the closing of a level.
 use Rattle.std.proofs.Common.{◌≡◌, ℕ, ◌-◌, ◌<◌, Bool, true, false, refl, sym, ap, ◌∙◌, arith}
 use Rattle.std.specs.Prelude.{Some, None, Ok, Err, ◌==◌, if◌then◌else◌}
-use Rattle.access_model.specs.declared.{actions.Action.TheVariants.{Clean, Pass}, replies.Next.{Next, TheVariants.{Go, Wait, Done}}}
+use Rattle.access_model.specs.declared.{actions.Action.TheVariants.{Clean}, replies.Next.{Next, TheVariants.{Go, Wait, Done}}}
 use Rattle.access_model.specs.declared.replies.Reply.{TheVariants.{Unit as UnitReply}}
-use Rattle.cpu_words.specs.{Hooks.{HookAnswer}, Sums.{sum_taking}, declared.sums.{Sum.{Sum}, Taken.{Taken}}}
+use Rattle.cpu_words.specs.{Hooks.{HookAnswer}, Sums.{sum_taking}, declared.sums.{Sum.{Sum}}}
 use Rattle.cpu_words.specs.declared.sums.Taken.TheVariants.{More as MoreWords, Total}
 use Rattle.freeze_levels.specs.{Freezes.{after_closing, at_freeze, level_closed}, Levels.{closing}, declared.freezes.Freeze.{Freeze}}
 use Rattle.freeze_levels.specs.declared.freezes.FreezeStep.{FreezeStep, TheVariants.{Closes, Cleans, Locks, LocksAgain, LoadsStage}}
@@ -12,7 +12,7 @@ use Rattle.gate_world.specs.{declared.work.Phase.TheVariants.{Freezes}, Accesses
 use Rattle.gate_world.specs.declared.accesses.Accesses.{Accesses}
 use Rattle.node_words.specs.{Nodes.{dirty_in, node_after}, declared.marks.ClearMarks.{ClearMarks}}
 use Rattle.percpu_rwsem.specs.{Graces.{looked}, SyncWords.{on_enter, on_callback, pack, unpack}}
-use Rattle.percpu_rwsem.specs.{Writers.{at_down_write, entered_from, down_write_summed, sum_begun}, declared.grace.Grace.{Grace}}
+use Rattle.percpu_rwsem.specs.{Writers.{at_down_write, entered_from, sum_begun}, declared.grace.Grace.{Grace}}
 use Rattle.percpu_rwsem.specs.declared.{grace.GraceNext.TheVariants.{More, Wait as WaitsFor, Ended}, sync_word.SyncWord.{SyncWord}}
 use Rattle.percpu_rwsem.specs.declared.{transitions.Transition.{Transition, TheVariants.{Loads, Exchanges}}, writers.DownWrite.{DownWrite}}
 use Rattle.percpu_rwsem.specs.declared.writers.DownWriteStep.{DownWriteStep}
@@ -109,16 +109,6 @@ module _ (x : Freeze) (level : ℕ) where
   closing_of d same_level same_tasks same_processors =
       λ i. Go (standing x (Closes record { level = sym same_level i; tasks = sym same_tasks i; processors = sym same_processors i; step = d.step }))
 
-  -- the enter: a number that is no word
-  pub enters_none : (found : ℕ) → None ≡ unpack found →
-      (after_of (closing_at x level (Enters Loads)) found (Ok tt)).0 ≡ Go (closing_at x level (Enters Loads))
-  enters_none found is = rw (sym is) refl
-
-  -- a word of which there is no enter
-  pub enters_full : (found : ℕ) (from : SyncWord) → Some from ≡ unpack found → None ≡ on_enter from →
-      (after_of (closing_at x level (Enters Loads)) found (Ok tt)).0 ≡ Go (closing_at x level (Enters Loads))
-  enters_full found from is none = rw (sym is, sym none) refl
-
   -- one that is to be exchanged
   pub enters_on : (found : ℕ) (from to : SyncWord) → Some from ≡ unpack found → Some to ≡ on_enter from →
       (after_of (closing_at x level (Enters Loads)) found (Ok tt)).0 ≡ Go (closing_at x level (Enters (Exchanges from to)))
@@ -132,15 +122,6 @@ module _ (x : Freeze) (level : ℕ) where
   pub entered_not : (found : ℕ) (from to : SyncWord) → (found ≡ pack from → ⊥) →
       (after_of (closing_at x level (Enters (Exchanges from to))) found (Ok tt)).0 ≡ Go (closing_at x level (Enters Loads))
   entered_not found from to not = rw (other_number found (pack from) not) refl
-
-  -- the same of the end of the grace period
-  pub calls_none : (found : ℕ) → None ≡ unpack found →
-      (after_of (closing_at x level (CallsBack Loads)) found (Ok tt)).0 ≡ Go (closing_at x level (CallsBack Loads))
-  calls_none found is = rw (sym is) refl
-
-  pub calls_full : (found : ℕ) (from : SyncWord) → Some from ≡ unpack found → None ≡ on_callback from →
-      (after_of (closing_at x level (CallsBack Loads)) found (Ok tt)).0 ≡ Go (closing_at x level (CallsBack Loads))
-  calls_full found from is none = rw (sym is, sym none) refl
 
   pub calls_on : (found : ℕ) (from to : SyncWord) → Some from ≡ unpack found → Some to ≡ on_callback from →
       (after_of (closing_at x level (CallsBack Loads)) found (Ok tt)).0 ≡ Go (closing_at x level (CallsBack (Exchanges from to)))
@@ -190,19 +171,6 @@ module _ (x : Freeze) (level : ℕ) where
   pub sums_last : (sum : Sum) (total found : ℕ) → Total total ≡ sum_taking sum found x.processors →
       (after_of (closing_at x level (Sums sum)) found (Ok tt)).0 ≡ summed x level (total == 0)
   sums_last sum total found is = rw (sym is) (sums_case (total == 0))
-
--- a load of a count word leaves the accesses
-module _ (held : Accesses) (level : ℕ) where
-  leaves_case : (b : Bool) → held ≡ accesses_after held (if b then Some (Pass level) else None)
-  leaves_case true = refl
-  leaves_case false = refl
-
-  leaves_taken : (d : DownWrite) → d.level ≡ level → (taken : Taken) → held ≡ accesses_after held (down_write_summed d taken).1
-  leaves_taken d is (MoreWords sum) = refl
-  leaves_taken d is (Total total) = rw is (leaves_case (total == 0))
-
-  pub sums_leave : (x : Freeze) (sum : Sum) (found : ℕ) → held ≡ accesses_after held (after_of (closing_at x level (Sums sum)) found (Ok tt)).1
-  sums_leave x sum found = leaves_taken (closing level x.tasks x.processors) refl (sum_taking sum found x.processors)
 
 -- the rows come to their ends
 pub fewer_words : (sum further : Sum) (found processors : ℕ) → MoreWords further ≡ sum_taking sum found processors →

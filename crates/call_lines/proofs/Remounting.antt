@@ -1,28 +1,16 @@
 -- What comes after each event of a remount's line.
 use Rattle.std.proofs.{Common.{◌≡◌, ℕ, ◌+◌, ◌<◌, Bool, true, false, true≢false, refl, sym, ap, ◌∙◌, subst, arith}, lemmas.Nat.{and_le_l}}
-use Rattle.std.specs.{Int.{bit_not, w8}, Prelude.{bit_and, Some, None, Ok, Err, ◌==◌, nat_lt, not, if◌then◌else◌}}
+use Rattle.std.specs.{Int.{bit_not, w8}, Prelude.{bit_and, Some, None, Ok, ◌==◌, nat_lt, not, if◌then◌else◌}}
 use Rattle.access_model.specs.declared.{actions.Action.TheVariants.{Clean}, replies.Next.TheVariants.{Go}}
-use Rattle.cpu_words.specs.{Hooks.{HookAnswer}, Sums.{sum_taking}, declared.sums.{Sum.{Sum}, Taken.TheVariants.{More as MoreWords, Total}}}
+use Rattle.cpu_words.specs.{Sums.{sum_taking}, declared.sums.{Sum.{Sum}, Taken.TheVariants.{More as MoreWords, Total}}}
 use Rattle.gate_world.specs.{Accesses.{accesses_after}, Work.{after_of}, declared.accesses.Accesses.{Accesses}}
 use Rattle.gate_world.specs.declared.work.Phase.TheVariants.{Remounts}
 use Rattle.mount_counts.specs.{Phases.{has_flag}, Remounts.{let_go, past_mount, remount_from}}
 use Rattle.mount_counts.specs.Sets.{has_mount, lowest, no_mounts, one_mount, with_mount, without_lowest}
 use Rattle.mount_counts.specs.declared.remounts.{Remount.{Remount}, RemountStep.{RemountStep}}
-use Rattle.mount_counts.specs.declared.remounts.RemountStep.TheVariants.{
-  ClearsHold,
-  ClearsMark,
-  LoadsFlags,
-  LoadsRemoved,
-  LoadsRemovedAgain,
-  LoadsStage,
-  LoadsSuperblock,
-  Locks,
-  SetsHold,
-  SetsReadOnly,
-  SetsRemount,
-  SetsWritable,
-  Sums,
-}
+use Rattle.mount_counts.specs.declared.remounts.RemountStep.TheVariants.{ClearsHold, ClearsMark, LoadsFlags, LoadsRemoved}
+use Rattle.mount_counts.specs.declared.remounts.RemountStep.TheVariants.{LoadsRemovedAgain, LoadsStage, LoadsSuperblock, Locks, SetsHold}
+use Rattle.mount_counts.specs.declared.remounts.RemountStep.TheVariants.{SetsReadOnly, SetsRemount, Sums}
 use Rattle.mount_counts.specs.declared.sets.MountSet.{MountSet}
 use Rattle.mount_counts.proofs.laws.Sets.{leaves_here, lowest_held}
 use Rattle.node_words.specs.Nodes.{node_after}
@@ -91,14 +79,6 @@ module _ (x : Remount) where
 
   pub cleans_leave : (held : Accesses) (node found : ℕ) → held ≡ accesses_after held (after_of (remounting_at x (ClearsMark node)) found (Ok tt)).1
   cleans_leave held node found = cleans_case held node (has_flag found 4)
-
-  pub opens_leave : (held : Accesses) (found : ℕ) (hook : HookAnswer) → held ≡ accesses_after held (after_of (remounting_at x SetsWritable) found hook).1
-  opens_leave held found (Ok answer) = refl
-  opens_leave held found (Err code) = refl
-
-  pub bars_leave : (held : Accesses) (found : ℕ) (hook : HookAnswer) → held ≡ accesses_after held (after_of (remounting_at x SetsReadOnly) found hook).1
-  bars_leave held found (Ok answer) = refl
-  bars_leave held found (Err code) = refl
 
 module _ (x : Remount) (mount : ℕ) (held : MountSet) where
   -- the next mount, or none

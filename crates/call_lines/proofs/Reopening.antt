@@ -1,6 +1,6 @@
 -- What comes after each event of the reopening of the levels.
 use Rattle.std.proofs.Common.{◌≡◌, ℕ, Bool, true, false, refl, sym, ap, ◌∙◌, subst}
-use Rattle.std.specs.Prelude.{Some, None, Ok, Err, ◌==◌, if◌then◌else◌}
+use Rattle.std.specs.Prelude.{Some, Ok, Err, ◌==◌, if◌then◌else◌}
 use Rattle.access_model.specs.{Holders.{held_by, with_holder, is_unheld}, declared.actions.Holders.{Holders}}
 use Rattle.access_model.specs.declared.replies.Next.TheVariants.{Go}
 use Rattle.cpu_words.specs.Hooks.{HookAnswer}
@@ -47,15 +47,6 @@ module _ (x : Thaw) (level : ℕ) where
   -- a thaw stands at a step
   pub thaw_stands : (s : ThawStep) → x.step ≡ s → Go (thaw_at x s) ≡ Go (Thaws x)
   thaw_stands s at = ap (λ t. Go (thaw_at x t)) (sym at)
-
-  -- the load of the sync word
-  pub exits_none : (found : ℕ) → None ≡ unpack found →
-      (after_of (opening_at x level (Exits Loads)) found (Ok tt)).0 ≡ Go (reopened x level false)
-  exits_none found is = rw (sym is) refl
-
-  pub exits_full : (found : ℕ) (from : SyncWord) → Some from ≡ unpack found → None ≡ on_exit from →
-      (after_of (opening_at x level (Exits Loads)) found (Ok tt)).0 ≡ Go (reopened x level false)
-  exits_full found from is none = rw (sym is, sym none) refl
 
   pub exits_on : (found : ℕ) (from to : SyncWord) → Some from ≡ unpack found → Some to ≡ on_exit from →
       (after_of (opening_at x level (Exits Loads)) found (Ok tt)).0 ≡ Go (opening_at x level (Exits (Exchanges from to)))

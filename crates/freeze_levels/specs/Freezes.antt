@@ -11,24 +11,9 @@ use Rattle.percpu_rwsem.specs.declared.writers.{DownWrite.{DownWrite}, UpWrite.{
 use Rattle.percpu_rwsem.specs.Writers.{down_write_next, down_write_after, up_write_next, up_write_after}
 use Rattle.freeze_levels.specs.declared.{hooks.HookKind.{HookKind, TheVariants.{Sync, FreezeFs}}, freezes.Freeze.{Freeze}}
 use Rattle.freeze_levels.specs.declared.freezes.FreezeStep.{FreezeStep}
-use Rattle.freeze_levels.specs.declared.freezes.FreezeStep.TheVariants.{
-  Locks,
-  LoadsStage,
-  LoadsHolders,
-  Holds,
-  LoadsSuperblock,
-  CompletesReadOnly,
-  SetsWrite,
-  Unlocks,
-  Closes,
-  LocksAgain,
-  SetsPageFault,
-  Cleans,
-  SetsFs,
-  SetsComplete,
-  Reopens,
-  Releases,
-}
+use Rattle.freeze_levels.specs.declared.freezes.FreezeStep.TheVariants.{Locks, LoadsStage, LoadsHolders, Holds, LoadsSuperblock}
+use Rattle.freeze_levels.specs.declared.freezes.FreezeStep.TheVariants.{CompletesReadOnly, SetsWrite, Unlocks, Closes, LocksAgain}
+use Rattle.freeze_levels.specs.declared.freezes.FreezeStep.TheVariants.{SetsPageFault, Cleans, SetsFs, SetsComplete, Reopens, Releases}
 use Rattle.freeze_levels.specs.{Holders.{word_of, holders_in}, Levels.{closing, reopening}}
 
 -- the hook whose answer a step reads

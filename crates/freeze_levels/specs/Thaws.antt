@@ -8,19 +8,9 @@ use Rattle.cpu_words.specs.declared.names.WordName.{WordName, TheVariants.{Umoun
 use Rattle.cpu_words.specs.{declared.events.Touch.{Touch, TheVariants.{Load, Store, Cas}}, Hooks.{HookAnswer}}
 use Rattle.percpu_rwsem.specs.{declared.writers.UpWrite.{UpWrite}, Writers.{up_write_next, up_write_after}}
 use Rattle.freeze_levels.specs.declared.{hooks.HookKind.{HookKind, TheVariants.{UnfreezeFs}}, thaws.{Thaw.{Thaw}, ThawStep.{ThawStep}}}
-use Rattle.freeze_levels.specs.declared.thaws.ThawStep.TheVariants.{
-  Locks,
-  LoadsStage,
-  LoadsHolders,
-  Leaves,
-  LoadsSuperblock,
-  LeavesReadOnly,
-  UnfreezesReadOnly,
-  LeavesLast,
-  SetsUnfrozen,
-  Reopens,
-  Releases,
-}
+use Rattle.freeze_levels.specs.declared.thaws.ThawStep.TheVariants.{Locks, LoadsStage, LoadsHolders, Leaves, LoadsSuperblock}
+use Rattle.freeze_levels.specs.declared.thaws.ThawStep.TheVariants.{LeavesReadOnly, UnfreezesReadOnly, LeavesLast, SetsUnfrozen, Reopens}
+use Rattle.freeze_levels.specs.declared.thaws.ThawStep.TheVariants.{Releases}
 use Rattle.freeze_levels.specs.{Holders.{word_of, holders_in}, Levels.{reopening}}
 
 -- the hook whose answer a step reads

@@ -6,15 +6,11 @@ use Rattle.mount_counts.specs.declared.phases.ChangeStep.TheVariants.{Locks}
 use Rattle.mount_counts.specs.declared.{remounts.RemountStep.TheVariants.{SetsWritable, SetsReadOnly as RSetsReadOnly}, phases.Want.{Want}}
 use Rattle.mount_counts.specs.declared.{phases.{Change.{Change}, WantStep.{WantStep}, ChangeStep.{ChangeStep}}, remounts.Remount.{Remount}}
 use Rattle.mount_counts.specs.{declared.remounts.RemountStep.{RemountStep}, Phases.{want_next, change_next}, Remounts.{remount_next}}
-use Rattle.percpu_rwsem.specs.declared.transitions.Transition.TheVariants.{Loads, Exchanges}
 use Rattle.percpu_rwsem.specs.declared.readers.DownReadStep.TheVariants.{EntersSection}
-use Rattle.percpu_rwsem.specs.declared.writers.DownWriteStep.TheVariants.{Enters, CallsBack as WCallsBack}
-use Rattle.percpu_rwsem.specs.declared.{writers.UpWriteStep.TheVariants.{ClearsBlock, Exits}, transitions.Transition.{Transition}}
-use Rattle.percpu_rwsem.specs.declared.{readers.DownRead.{DownRead}, callbacks.Callback.{Callback}, writers.DownWrite.{DownWrite}}
-use Rattle.percpu_rwsem.specs.{declared.{writers.UpWrite.{UpWrite}, readers.DownReadStep.{DownReadStep}}, Transitions.{transition_next}}
-use Rattle.percpu_rwsem.specs.declared.{callbacks.CallbackStep.{CallbackStep}, writers.DownWriteStep.{DownWriteStep}}
-use Rattle.percpu_rwsem.specs.{declared.writers.UpWriteStep.{UpWriteStep}, Readers.{down_read_next}, Callbacks.{callback_next}}
-use Rattle.percpu_rwsem.specs.Writers.{down_write_next, up_write_next}
+use Rattle.percpu_rwsem.specs.declared.{readers.DownRead.{DownRead}, callbacks.Callback.{Callback}}
+use Rattle.percpu_rwsem.specs.{declared.{readers.DownReadStep.{DownReadStep}}}
+use Rattle.percpu_rwsem.specs.declared.{callbacks.CallbackStep.{CallbackStep}}
+use Rattle.percpu_rwsem.specs.{Readers.{down_read_next}, Callbacks.{callback_next}}
 use Rattle.composite_ops.specs.declared.write_access.phases.WritePhase.TheVariants.{Takes, Wants as WWants}
 use Rattle.composite_ops.specs.{file_closes.Phases.{next as close_next}, write_access.Phases.{next as write_next}}
 use Rattle.composite_ops.specs.declared.file_closes.phases.ClosePhase.{ClosePhase}
@@ -22,19 +18,10 @@ use Rattle.composite_ops.specs.declared.file_closes.phases.ClosePhase.TheVariant
 use Rattle.composite_ops.specs.declared.write_access.phases.WritePhase.{WritePhase}
 use Rattle.freeze_levels.specs.declared.{freezes.{FreezeStep.{TheVariants.{Closes}, FreezeStep}, Freeze.{Freeze}}, thaws.Thaw.{Thaw}}
 use Rattle.freeze_levels.specs.{declared.thaws.ThawStep.{ThawStep}, Thaws.{thaw_next}, Freezes.{freeze_next}}
-use Rattle.gated_tree.specs.declared.changes.CreateStep.TheVariants.{LoadsDirectory}
-use Rattle.gated_tree.specs.declared.changes.RemoveStep.TheVariants.{LoadsFile as LoadsFileToRemove}
-use Rattle.gated_tree.specs.declared.growth.GrowStep.TheVariants.{LoadsFile as LoadsFileToGrow}
-use Rattle.gated_tree.specs.declared.changes.MoveStep.TheVariants.{LoadsFile as LoadsFileToMove}
-use Rattle.gated_tree.specs.declared.marks.MarkStep.TheVariants.{LoadsFile as LoadsFileToMark, MarksFile}
-use Rattle.gated_tree.specs.declared.snapshots.SnapshotStep.TheVariants.{Locks as SLocks}
 use Rattle.gated_tree.specs.declared.phases.TreePhase.TheVariants.{OpenFile as OpensOne}
-use Rattle.gated_tree.specs.Phases.{next as tree_next, remove_next, grow_next, move_next, mark_next, create_next, snapshot_next, open_next}
+use Rattle.gated_tree.specs.Phases.{next as tree_next, open_next}
 use Rattle.gated_tree.specs.declared.opens.{OpenFile.{OpenFile}, OpenStep.{OpenStep, TheVariants.{LoadsFile as LoadsFileToOpen, OpensFile}}}
-use Rattle.gated_tree.specs.declared.{changes.{Create.{Create}, Remove.{Remove}, MoveTo.{MoveTo}}, growth.Grow.{Grow}, marks.Mark.{Mark}}
-use Rattle.gated_tree.specs.declared.{snapshots.Snapshot.{Snapshot}, phases.TreePhase.{TreePhase}, changes.CreateStep.{CreateStep}}
-use Rattle.gated_tree.specs.declared.{changes.{RemoveStep.{RemoveStep}, MoveStep.{MoveStep}}, growth.GrowStep.{GrowStep}}
-use Rattle.gated_tree.specs.declared.{marks.MarkStep.{MarkStep}, snapshots.SnapshotStep.{SnapshotStep}}
+use Rattle.gated_tree.specs.declared.{phases.TreePhase.{TreePhase}}
 use Rattle.gate_world.specs.declared.work.Phase.TheVariants.{Mounts, Remounts, DownReads, Callbacks, Writes, Freezes, Thaws, Trees, Closes}
 use Rattle.gate_world.specs.{traces.TraceStates.{WordIsValid, ReadIsValid, OpenReadIsValid}, declared.work.Phase.{Phase}, Work.{next_of}}
 use Rattle.cpu_words.specs.declared.{names.WordName.TheVariants.{Node, Sync}, events.Touch.{Touch}}
@@ -62,25 +49,12 @@ remount_word x RSetsReadOnly (Ok answer) = tt
 remount_word x RSetsReadOnly (Err code) = tt
 remount_word x other hook = tt
 
-transition_word : (level : ℕ) (x : Transition) → IsNoStore (transition_next level x)
-transition_word level Loads = tt
-transition_word level (Exchanges from to) = tt
-
 read_word : (x : DownRead) (s : DownReadStep) → IsNoStore (down_read_next x s)
 read_word x EntersSection = tt
 read_word x other = tt
 
 callback_word : (x : Callback) (s : CallbackStep) → IsNoStore (callback_next x s)
 callback_word x s = grind arith
-
-down_write_word : (x : DownWrite) (s : DownWriteStep) → IsNoStore (down_write_next x s)
-down_write_word x (Enters transition) = transition_word x.level transition
-down_write_word x (WCallsBack transition) = transition_word x.level transition
-down_write_word x other = tt
-
-up_write_word : (x : UpWrite) (s : UpWriteStep) → IsNoStore (up_write_next x s)
-up_write_word x ClearsBlock = tt
-up_write_word x (Exits transition) = transition_word x.level transition
 
 write_word : (x : WritePhase) → IsNoStore (write_next x)
 write_word (Takes m r) = read_word r r.step
@@ -92,34 +66,6 @@ freeze_word x other hook = grind arith
 
 thaw_word : (x : Thaw) (s : ThawStep) (hook : HookAnswer) → IsNoStore (thaw_next x s hook)
 thaw_word x other hook = grind arith
-
-create_word : (x : Create) (s : CreateStep) → IsNoStore (create_next x s)
-create_word x LoadsDirectory = tt
-create_word x other = tt
-
-remove_word : (x : Remove) (s : RemoveStep) → IsNoStore (remove_next x s)
-remove_word x LoadsFileToRemove = tt
-remove_word x other = tt
-
-grow_word : (x : Grow) (s : GrowStep) → IsNoStore (grow_next x s)
-grow_word x LoadsFileToGrow = tt
-grow_word x other = tt
-
-move_word : (x : MoveTo) (s : MoveStep) → IsNoStore (move_next x s)
-move_word x LoadsFileToMove = tt
-move_word x other = tt
-
-mark_word : (x : Mark) (s : MarkStep) → IsNoStore (mark_next x s)
-mark_word x LoadsFileToMark = tt
-mark_word x (MarksFile file) = tt
-
-open_word : (x : OpenFile) (s : OpenStep) → IsNoStore (open_next x s)
-open_word x LoadsFileToOpen = tt
-open_word x (OpensFile file) = tt
-
-snapshot_word : (x : Snapshot) (s : SnapshotStep) → IsNoStore (snapshot_next x s)
-snapshot_word x SLocks = tt
-snapshot_word x other = tt
 
 tree_word : (x : TreePhase) (hook : HookAnswer) → IsNoStore (tree_next x hook)
 tree_word x hook = grind arith

@@ -9,25 +9,10 @@ use Rattle.cpu_words.specs.declared.{events.Touch.{Touch, TheVariants.{Load, Sto
 use Rattle.cpu_words.specs.{declared.sums.Taken.TheVariants.{More, Total}, Hooks.{HookAnswer}, Sums.{sum_taking}}
 use Rattle.mount_counts.specs.{Phases.{has_flag}, Sets.{no_mounts, with_mount, lowest, without_lowest}, declared.sets.MountSet.{MountSet}}
 use Rattle.mount_counts.specs.declared.remounts.{Remount.{Remount}, RemountStep.{RemountStep}}
-use Rattle.mount_counts.specs.declared.remounts.RemountStep.TheVariants.{
-  Locks,
-  LoadsStage,
-  LoadsSuperblock,
-  SetsWritable,
-  LoadsRemoved,
-  LoadsFlags,
-  SetsHold,
-  Sums,
-  LoadsRemovedAgain,
-  LeavesHolds,
-  SetsRemount,
-  ClearsHold,
-  GivesUp,
-  ClearsMark,
-  SetsReadOnly,
-  ClearsRemount,
-  Releases,
-}
+use Rattle.mount_counts.specs.declared.remounts.RemountStep.TheVariants.{Locks, LoadsStage, LoadsSuperblock, SetsWritable, LoadsRemoved}
+use Rattle.mount_counts.specs.declared.remounts.RemountStep.TheVariants.{LoadsFlags, SetsHold, Sums, LoadsRemovedAgain, LeavesHolds}
+use Rattle.mount_counts.specs.declared.remounts.RemountStep.TheVariants.{SetsRemount, ClearsHold, GivesUp, ClearsMark, SetsReadOnly}
+use Rattle.mount_counts.specs.declared.remounts.RemountStep.TheVariants.{ClearsRemount, Releases}
 
 -- remount: under `umount`, see that no file is removed, hold and sum each mount that isn't read-only, and see it again before `remount` is
 -- set; then let them go, clear the dirty marks, and set the superblock's flag before `remount` is cleared

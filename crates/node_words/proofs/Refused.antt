@@ -74,10 +74,6 @@ directory_refused word refusal e =
 pub taken_some : (word : ℕ) (node : NodeWord) → unpacked word ≡ Some node → is_some node.kind ≡ true → word ≡ 0 → ⊥
 taken_some word node e taken none = grind arith
 
--- a node that was taken for a file is that file
-of_kind : (node file : NodeWord) (removed : Bool) (kind : Option Kind) → as_file node removed kind ≡ Ok file → node ≡ file
-of_kind node file removed kind e = grind arith
-
 -- a file that was loaded is the node of the word's fields
 pub size_loaded : (word : ℕ) (file : NodeWord) → file_in word ≡ Some (Ok file) → node_of word ≡ file
 size_loaded word file e = grind (arith, common_steps)

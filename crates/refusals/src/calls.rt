@@ -13,36 +13,8 @@ Gates::close
 run run_with
 ";
 
-/// The kernel's functions beside those in the table of commands, on a line for each call, behind the name of its command. They are looked
-/// up first: `mnt_want_write` is write access.
-const IN_KERNEL: &str = "\
-want __mnt_want_write
-wantwrite mnt_want_write
-drop __mnt_drop_write
-dropwrite mnt_drop_write
-start sb_start_pagefault sb_start_intwrite
-end sb_end_pagefault sb_end_intwrite
-callback rcu_sync_func
-change change_mount_ro_state
-freeze freeze_bdev
-thaw thaw_bdev
-create vfs_create vfs_mkdir
-remove vfs_unlink
-grow vfs_write vfs_truncate
-move vfs_rename
-fault page_mkwrite
-flush writeback_single_inode
-open do_dentry_open
-close __fput
-";
-
 /// Returns the first name of the call that has this name: that of a schedule's command, or else the library's.
 pub(crate) fn call_named(word: &str) -> Option<&'static str> {
-    for call in IN_KERNEL.lines() {
-        if is_named(call, word) {
-            return Some(first_name(call));
-        }
-    }
     for verb in &Verb::ALL {
         let row = verb.row();
         if !row.call.is_empty() && (row.name == word || is_named(row.call, word)) {
@@ -68,9 +40,6 @@ pub(crate) fn nearest_call(alloc: Global, word: &str) -> Option<&'static str> {
         }
     }
     for call in OTHERS.lines() {
-        compare_names(&mut nearest, call);
-    }
-    for call in IN_KERNEL.lines() {
         compare_names(&mut nearest, call);
     }
     nearest.name

@@ -1,5 +1,5 @@
 -- A snapshot whose steps stand in a line: where they lead, and what its task notes of them.
-use Rattle.std.proofs.Common.{◌≡◌, ℕ, ◌+◌, ◌-◌, ◌<◌, ◌≤◌, refl, sym, ap, ◌∙◌, subst, arith, Bool, true, false}
+use Rattle.std.proofs.Common.{◌≡◌, ℕ, ◌-◌, ◌<◌, ◌≤◌, refl, sym, ap, ◌∙◌, subst, arith, Bool, true, false}
 use Rattle.std.proofs.lemmas.Bool.Decides.{nat_tests}
 use Rattle.std.specs.Prelude.{Option, Some, None, Result, Ok, List, is_some, if◌then◌else◌, length, [], not, slice_set as set}
 use Rattle.atomic_table.specs.Seated.{TableId}
@@ -177,10 +177,6 @@ lock_free s found is = subst (λ n. (after_of (taking_at s Locks) n (Ok tt)).0 �
 
 pub is_frozen : (s : Snapshot) (found : ℕ) → found ≡ 4 → (after_of (taking_at s LoadsStage) found (Ok tt)).0 ≡ Go (taking_at s LoadsUsed)
 is_frozen s found is = subst (λ n. (after_of (taking_at s LoadsStage) n (Ok tt)).0 ≡ Go (taking_at s LoadsUsed)) (sym is) refl
-
--- the last load of a row of nodes, and no last one
-pub last_node : (node nodes : ℕ) → None ≡ node_after node nodes → nodes ≤ node + 1
-last_node node nodes is = grind (arith, nat_tests)
 
 pub next_node : (node next nodes : ℕ) → Some next ≡ node_after node nodes → next < nodes
 next_node node next nodes is = grind (arith, nat_tests)

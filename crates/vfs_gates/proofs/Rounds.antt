@@ -1,6 +1,6 @@
 -- Laws for a caller, with the words that its proofs cite them by. Their arguments are found from what its calls ensure.
 pub use Rattle.std.proofs.Common.{ℕ, ◌≤◌, rules}
-use Rattle.std.proofs.Common.{◌≡◌, ◌<◌, ◌+◌, suc, arith, add-zero, length-append, Bool, true, false, List, [], ◌∷◌, ◌++◌, length, refl, sym, ap, ◌∙◌, subst}
+use Rattle.std.proofs.Common.{◌≡◌, ◌<◌, ◌+◌, suc, arith, add-zero, Bool, true, false, List, [], ◌∷◌, ◌++◌, length, refl, sym, ap, ◌∙◌, subst}
 use Rattle.std.proofs.lemmas.Bool.{and_parts, eq-eqb, ltb-true}
 use Rattle.std.specs.Prelude.{Option, Some, None, Result, Ok, nat_lt}
 pub use Rattle.atomic_table.specs.Seated.{TableId}
@@ -19,7 +19,7 @@ use Rattle.access_model.specs.declared.actions.Gate.{Gate}
 use Rattle.vfs_gates.specs.{Rounds.{granted_in}, Parts.{SplitOf}, TaskStates.{own_number, own_view, refusal_at, spare_of, Empty}}
 pub use Rattle.vfs_gates.specs.TaskStates.{task_state}
 use Rattle.vfs_gates.proofs.{Holding.{keeps, rests_on}, Reopening.{Opens, opens}}
-use Rattle.vfs_gates.proofs.Resting.{both_end, first_ends, second_ends, change_begins, split_done_nothing}
+use Rattle.vfs_gates.proofs.Resting.{first_ends, second_ends, change_begins, split_done_nothing}
 use Rattle.vfs_gates.proofs.{Returning.{may, was_done, dropped}, Timing.{comes_after}}
 
 -- a call that takes nothing leaves a task at rest
@@ -58,22 +58,6 @@ reopened {m = m} {old = old} {there = there} rests closed call =
     let at_rest = rests_after refl rests closed in
     (made_writable at_rest mount call, rests_after refl at_rest call)
 
--- Two tasks, the first of some gates and one that was split off it, did this each, were joined, and closed the gates: their numbers have it in the
--- end, from where they had done nothing.
-pub joined_did : {c : Config} {ws : List ℕ} {items : DealtNumbers} {seen : List (List Entry)} {one two : ℕ} {opening : Config} {id : TableId} {old f s : SeatedTask}
-    (F S : SeatedTask → SeatedTask → Type 0) (first second : SeatedTask) → old ≡ task_state id opening None None (first_known opening) → SplitOf old f s →
-    (e : EndedWith c ws items seen) → items ≡ first.items ++ second.items → one ≡ own_number first.items → 1 ≤ length first.items →
-    two ≡ own_number second.items → 1 ≤ length second.items → F f first → S s second →
-    (ended : Ended c ws) × Did (ended.world.views one) F × Did (ended.world.views two) S
-joined_did {c = c} {ws = ws} {seen = seen} {opening = opening} {id = id} {old = old} {f = f} {s = s} F S first second is made e joined own there own' there' did did' =
-    let nothing = split_done_nothing opening id old f s is made in
-    let both : EndedWith c ws (first.items ++ second.items) seen = subst (λ l. EndedWith c ws l seen) joined e in
-    let ends = both_end c ws first.items second.items seen both there there' in (
-      both.ended,
-      record { begins = f; ends = first; nothing = nothing.0; does = did; last = ap both.ended.world.views own ∙ ends.0 },
-      record { begins = s; ends = second; nothing = nothing.1; does = did'; last = ap both.ended.world.views own' ∙ ends.1 },
-    )
-
 -- A call that was done of a task to which another was joined has all behind it that the other had done.
 pub done_after : {op : Op} {other joined left : SeatedTask} (first : SeatedTask) → joined.items ≡ first.items ++ other.items → 1 ≤ length first.items →
     1 ≤ length other.items → Performs op joined left (Ok tt) → ComesAfter other joined left
@@ -89,11 +73,6 @@ pub joined_rests : {joined : SeatedTask} (first other : SeatedTask) → joined �
     1 ≤ length first.items → Rests first → Rests joined
 joined_rests first other is there rests =
     subst Rests (sym is) (rests.0, subst (Empty first.config) (own_same first.items other.items there) rests.1)
-
--- And has a number of its own.
-pub joined_there : (first other joined : SeatedTask) → joined.items ≡ first.items ++ other.items → 1 ≤ length first.items →
-    1 ≤ length joined.items
-joined_there first other joined is there = let more = length-append first.items other.items in omega (arith, ap length is, more, there)
 
 -- A call leaves the numbers that its task has to give as they were.
 ran_spare : (c : Config) (op : Op) (trace : List Traced) (l : DealtNumbers) → spare_of (ran_items c op trace l) ≡ spare_of l

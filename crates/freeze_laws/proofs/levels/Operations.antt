@@ -22,10 +22,6 @@ role_from : (tasks : ℕ) (s : GpState) → down_write_role (entered_from tasks 
 role_from tasks GpState.Idle = refl
 role_from tasks other = refl
 
-knows_from : (tasks : ℕ) (s : GpState) → KnowsDownWrite (entered_from tasks s)
-knows_from tasks GpState.Idle = tt
-knows_from tasks other = tt
-
 module _ (tasks t : ℕ) (lt : t < tasks) (l : SyncLevel) where
   -- an event of this task
   step_by : (l' : SyncLevel) (k : SyncEvent) → Happens tasks t l l' k → SyncStep tasks l l'

@@ -1,8 +1,8 @@
 -- one level: what its predicate says, and how it is kept where one task's role changes
-use Rattle.std.{proofs.{Common.{◌≡◌, ℕ, true, ◌+◌, ◌<◌, ◌≤◌, refl, ◌∙◌, arith}}, specs.Prelude.{Bool, Option, Some, None}}
+use Rattle.std.{proofs.{Common.{◌≡◌, ℕ, true, ◌+◌, ◌<◌, ◌≤◌, refl, arith}}, specs.Prelude.{Bool}}
 use Rattle.finite_sums.{proofs.Totals.{update_off, each_updated, total_updated, total_le, total_add, total_at}, specs.Sums.{update, total}}
 use Rattle.percpu_rwsem.{proofs.SyncWords.bit_small, specs.{SyncWords.{bit, is_lawful}, declared.sync_word.{GpState.GpState, SyncWord.SyncWord}}}
-use Rattle.freeze_laws.specs.levels.Roles.{SyncRole, Fast, Closed, fast, entering, entered, closed, claimed, enter_bit, idle_bit, StillFirst, RoleHolds}
+use Rattle.freeze_laws.specs.levels.Roles.{SyncRole, Closed, fast, entering, entered, closed, claimed, enter_bit, idle_bit, RoleHolds}
 use Rattle.freeze_laws.specs.levels.Roles.{SyncHolds}
 
 -- what a lawful word with a count of at most 1 says in numbers
@@ -14,17 +14,6 @@ pub record LawfulSays (s : GpState) (t : Bool) (c : ℕ) : Type 0 where
 -- a lawful word says it, whatever its state
 pub lawful_says : (s : GpState) (t : Bool) (c : ℕ) → c ≤ 1 → is_lawful s t c ≡ true → LawfulSays s t c
 lawful_says other t c l h = grind arith
-
-pub fast_small : (r : SyncRole) → fast r ≤ 1
-fast_small Fast = omega arith
-fast_small r = omega arith
-
--- what a role says is only about readers on the fast path, and the first value found of one
-still_kept : (section section' : ℕ → ℕ) (at at' : ℕ → SyncRole) → ((u : ℕ) → fast (at' u) ≤ fast (at u)) →
-    ((u : ℕ) → fast (at' u) ≡ 1 → section' u ≡ section u) →
-    (j : ℕ) (o : Option ℕ) → StillFirst section at j o → StillFirst section' at' j o
-still_kept section section' at at' less same j None h = tt
-still_kept section section' at at' less same j (Some f) h = λ e. same j e ∙ h (omega (arith, less j, fast_small (at j)))
 
 pub role_kept : (section section' : ℕ → ℕ) (at at' : ℕ → SyncRole) → ((u : ℕ) → fast (at' u) ≤ fast (at u)) →
     ((u : ℕ) → fast (at' u) ≡ 1 → section' u ≡ section u) →

@@ -1,14 +1,10 @@
 -- What holds of every role, of the numbers that say how far a freeze has come, and of sums in which at most one place counts.
-use Rattle.std.proofs.Common.{◌≡◌, ℕ, zero, suc, ◌+◌, ◌*◌, ◌-◌, ◌/◌, ◌%◌, ◌<◌, ◌≤◌, Bool, true, false, refl, sym, arith, ap}
+use Rattle.std.proofs.Common.{◌≡◌, ℕ, zero, suc, ◌+◌, ◌*◌, ◌-◌, ◌/◌, ◌%◌, ◌<◌, ◌≤◌, Bool, refl, sym, arith, ap}
 use Rattle.std.proofs.lemmas.Bool.{le-leb, lt-leb, Decides.{nat_tests}}
 use Rattle.std.specs.Prelude.{◌==◌, ◌&&◌, if◌then◌else◌}
 use Rattle.finite_sums.{proofs.Totals.{update_off, each_updated, total_same, total_updated, total_zero, total_at}, specs.Sums.{update, total}}
-use Rattle.freeze_laws.specs.stages.Roles.{Place, StageRole, Freezing, Reopening, bit, owns, freezes, reopens, has_position}
+use Rattle.freeze_laws.specs.stages.Roles.{Place, StageRole, Freezing, Reopening, owns, freezes, reopens, has_position}
 use Rattle.freeze_laws.specs.stages.Roles.{remounts, passed_by, up_to, closes, passes, sums, under_way, is_full, KnowsStage}
-
-pub bit_le : (b : Bool) → bit b ≤ 1
-bit_le true = omega arith
-bit_le false = omega arith
 
 pub owns_le : (r : StageRole) → owns r ≤ 1
 owns_le r = grind arith

@@ -1,13 +1,10 @@
 -- Each event keeps what holds of the marks of nodes.
-use Rattle.std.proofs.{Common.{◌≡◌, ℕ, suc, ◌+◌, ◌<◌, ◌≤◌, refl, inl, inr, arith, ◌%◌, ◌/◌, ◌-◌}, lemmas.Bool.Decides.eqb_tells}
-use Rattle.finite_sums.{proofs.Totals.{each_updated, total_at}, specs.Sums.update}
+use Rattle.std.proofs.{Common.{◌≡◌, ℕ, ◌+◌, ◌<◌, ◌≤◌, inl, inr, arith, ◌%◌, ◌/◌, ◌-◌}, lemmas.Bool.Decides.eqb_tells}
+use Rattle.finite_sums.{proofs.Totals.{total_at}, specs.Sums.update}
 use Rattle.freeze_laws.proofs.stages.{Facts.owner_only, Positions.{way, who_freezes, passed_own, passed_is}}
 use Rattle.freeze_laws.specs.stages.Events.{Stages, Holds}
 use Rattle.freeze_laws.specs.stages.Roles.{StageRole, StagesHold, CleanBelow, MarksHold, clean_by, KnowsStage, under_way, remounts, freezes}
 use Rattle.freeze_laws.specs.stages.{Roles.{passed_by, has_position, is_full}, Shown.{passed_shown}}
-
-pub one_more : (node : ℕ) (dirty : ℕ → ℕ) → CleanBelow node dirty → CleanBelow (suc node) (update dirty node 0)
-one_more node dirty h m lt = each_updated (λ y v. v ≡ 0) dirty node 0 m refl (λ ne. h m (omega (arith, lt, ne)))
 
 cleared_by : (r : StageRole) → 0 < clean_by r → remounts r ≡ 0 → (2 ≤ passed_by r) × (has_position r ≡ 1)
 cleared_by r h n = grind arith

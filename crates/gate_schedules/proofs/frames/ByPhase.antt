@@ -4,11 +4,10 @@ use Rattle.std.proofs.Common.{◌≡◌, ℕ, refl, sym, ap, ◌∙◌, arith}
 use Rattle.std.specs.Prelude.{Option, Some, None, ◌==◌, ◌&&◌, ◌+◌, if◌then◌else◌}
 use Rattle.finite_sums.specs.Sums.{total}
 use Rattle.gated_tree.specs.declared.{snapshots.SnapshotStep.SnapshotStep}
-use Rattle.mount_counts.specs.declared.remounts.RemountStep.{RemountStep}
 use Rattle.percpu_rwsem.specs.declared.writers.{UpWriteStep.UpWriteStep}
 use Rattle.freeze_levels.specs.declared.{freezes.FreezeStep.FreezeStep, thaws.ThawStep.ThawStep}
 use Rattle.freeze_laws.specs.stages.{Roles.{Freezing, StageRole, freezes, sums, owns as stage_owns}, Shown.{is_passed as passed_at_level, passed_shown}}
-use Rattle.gate_world.specs.Roles.{freeze_owns, freeze_stage_role, remount_stage_role, reopening_role, snapshot_owns, snapshot_stage_role}
+use Rattle.gate_world.specs.Roles.{freeze_owns, freeze_stage_role, reopening_role, snapshot_owns, snapshot_stage_role}
 use Rattle.gate_world.specs.{Roles.{thaw_owns, thaw_stage_role}, Rules.{stage_role_of, stage_roles}, Shown.{closing, is_passed, shown}}
 use Rattle.gate_world.specs.{Headline.{freezing_at}, Worlds.World, declared.{config.Config.Config, work.Phase.Phase}}
 
@@ -28,14 +27,6 @@ thaw_owner s = refl
 pub snapshot_owner : (s : SnapshotStep) → stage_owns (snapshot_stage_role s) ≡ snapshot_owns s
 snapshot_owner SnapshotStep.Locks = refl
 snapshot_owner s = refl
-
-remount_apart : (nodes : ℕ) (s : RemountStep) → freezes (remount_stage_role nodes s) ≡ 0
-remount_apart nodes RemountStep.Locks = refl
-remount_apart nodes s = refl
-
-snapshot_apart : (s : SnapshotStep) → freezes (snapshot_stage_role s) ≡ 0
-snapshot_apart SnapshotStep.Locks = refl
-snapshot_apart s = refl
 
 pub closing_is : (i : ℕ) (p : Option Phase) → closing i p ≡ sums i (stage_role_of p)
 closing_is i p = grind arith

@@ -6,11 +6,11 @@ use Rattle.finite_sums.proofs.Totals.{total_none, update_map, update_same}
 use Rattle.finite_sums.specs.Sums.{total, update}
 use Rattle.freeze_levels.specs.Holders.{holders_in}
 use Rattle.gate_schedules.proofs.{frames.{ByPhase.{shown_passed}, Owners.owns_le}, trees.worlds.Trees.marks_right}
-use Rattle.gate_world.specs.{Configs.model_limits, Holdings.Holdings, Remounts.remount_owns, Roles.remount_stage_role, Rules.{Holds, IsGood, Owner, Stages}}
+use Rattle.gate_world.specs.{Configs.model_limits, Holdings.Holdings, Rules.{Holds, IsGood, Owner, Stages}}
 use Rattle.gate_world.specs.{Rules.{marks_of, owns, stage_role_of, stage_roles}, Shown.shown, Views.{has_open, held_at, held_of, holds_level}, Worlds.World}
 use Rattle.gate_world.specs.declared.{config.Config.Config, views.View.View, work.Phase.Phase}
 use Rattle.node_words.specs.Nodes.{dirty_in, node_shown}
-use Rattle.mount_counts.specs.{Roles.ro_bit, declared.remounts.RemountStep.RemountStep}
+use Rattle.mount_counts.specs.{Roles.ro_bit}
 use Rattle.freeze_laws.proofs.stages.CitedLaws.{actions_are_allowed, actions_have_their_effect, events_keep}
 use Rattle.freeze_laws.specs.stages.{Events.{Happens, Holds as StageHolds, SameDuties, RepresentsStages, StageEvent, Stages as StageMoment, action_of}, Roles.{Owning, StageRole}}
 use Rattle.freeze_laws.specs.stages.{Roles.owns as stage_owns, Shown.{AsksOthers, ShowsStages, passed_shown, state_after}}
@@ -35,10 +35,6 @@ stages_in w = record {
   dirty = marks_of w.words;
   at = stage_roles w;
 }
-
-remount_owner : (nodes : ℕ) (s : RemountStep) → stage_owns (remount_stage_role nodes s) ≤ remount_owns s
-remount_owner nodes RemountStep.Locks = omega arith
-remount_owner nodes s = omega arith
 
 pub stage_owner : (p : Option Phase) → stage_owns (stage_role_of p) ≤ owns p
 stage_owner p = grind arith

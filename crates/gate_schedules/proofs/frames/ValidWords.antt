@@ -2,32 +2,20 @@
 -- is one.
 use Rattle.std.proofs.Common.{◌≡◌, ℕ, ◌<◌, ◌≤◌, ◌*◌, subst, ap, true, false, arith}
 use Rattle.std.specs.Prelude.{Some, is_some}
-use Rattle.mount_counts.specs.{Phases.{want_next, change_next}, Remounts.{remount_next}, declared.phases.WantStep.TheVariants.{CountsUp}}
-use Rattle.mount_counts.specs.declared.phases.{ChangeStep.{TheVariants.Locks, ChangeStep}, Want.Want, Change.Change, WantStep.WantStep}
-use Rattle.mount_counts.specs.declared.remounts.{Remount.{Remount}, RemountStep.{RemountStep}}
-use Rattle.percpu_rwsem.specs.{Callbacks.callback_next, Readers.down_read_next, Transitions.transition_next, Writers.{down_write_next, up_write_next}}
-use Rattle.percpu_rwsem.specs.declared.{callbacks.{Callback.Callback, CallbackStep.CallbackStep}, readers.DownReadStep.TheVariants.LoadsSync}
-use Rattle.percpu_rwsem.specs.declared.{readers.{DownRead.DownRead, DownReadStep.DownReadStep}, transitions.Transition.TheVariants.{Loads, Exchanges}}
-use Rattle.percpu_rwsem.specs.declared.{transitions.Transition.Transition}
-use Rattle.percpu_rwsem.specs.declared.writers.{UpWriteStep.TheVariants.{ClearsBlock, Exits}, DownWrite.DownWrite, UpWrite.UpWrite}
-use Rattle.percpu_rwsem.specs.declared.writers.{DownWriteStep.DownWriteStep, UpWriteStep.UpWriteStep}
-use Rattle.composite_ops.specs.{write_access.Phases.next as write_next, declared.write_access.phases.WritePhase.{WritePhase}}
+use Rattle.percpu_rwsem.specs.{Readers.down_read_next}
+use Rattle.percpu_rwsem.specs.declared.{readers.DownReadStep.TheVariants.LoadsSync}
+use Rattle.percpu_rwsem.specs.declared.{readers.{DownRead.DownRead, DownReadStep.DownReadStep}}
 use Rattle.composite_ops.specs.{file_closes.Phases.next as close_next, declared.file_closes.phases.ClosePhase.{ClosePhase, TheVariants.{LoadsFile as CloseLoadsFile, LowersCount}}}
 use Rattle.composite_ops.specs.declared.file_closes.phases.ClosePhase.TheVariants.{Enters as EntersLevel, FreesNode as ClosesNode}
-use Rattle.freeze_levels.specs.{Freezes.freeze_next, Thaws.thaw_next, declared.freezes.FreezeStep.TheVariants.{Closes}}
-use Rattle.freeze_levels.specs.declared.{freezes.{FreezeStep.{FreezeStep}, Freeze.{Freeze}}, thaws.{ThawStep.{ThawStep}, Thaw.{Thaw}}}
+use Rattle.freeze_levels.specs.{declared.freezes.FreezeStep.TheVariants.{Closes}}
 use Rattle.node_words.specs.Nodes.{unpacked, opens_in}
-use Rattle.gated_tree.specs.{Calls.{CreateStepFits, SnapshotStepFits, TreePhaseFits}, Phases.{next as tree_next, remove_next}}
-use Rattle.gated_tree.specs.{Phases.{grow_next, move_next, mark_next, create_next, snapshot_next, open_next}, Roles.RoleHolds}
-use Rattle.gated_tree.specs.declared.changes.{Create.Create, Remove.Remove, MoveTo.MoveTo}
-use Rattle.gated_tree.specs.declared.changes.{CreateStep.CreateStep, RemoveStep.RemoveStep, MoveStep.MoveStep}
-use Rattle.gated_tree.specs.declared.growth.{GrowStep.{GrowStep}, Grow.Grow}
-use Rattle.gated_tree.specs.declared.{marks.{MarkStep.{TheVariants.{LoadsFile as LoadsFileToMark, MarksFile}, MarkStep}, Mark.Mark}, opens.OpenFile.OpenFile}
+use Rattle.gated_tree.specs.{Calls.{TreePhaseFits}, Phases.{next as tree_next}}
+use Rattle.gated_tree.specs.{Phases.{open_next}, Roles.RoleHolds}
+use Rattle.gated_tree.specs.declared.{opens.OpenFile.OpenFile}
 use Rattle.gated_tree.specs.declared.opens.OpenStep.{OpenStep, TheVariants.{LoadsFile as LoadsFileToOpen, OpensFile}}
 use Rattle.gated_tree.specs.declared.phases.TreePhase.{TheVariants.{OpenFile as OpensOne}, TreePhase}
-use Rattle.gated_tree.specs.declared.snapshots.{SnapshotStep.{TheVariants.LoadsNode as SLoadsNode, SnapshotStep}, Snapshot.Snapshot}
-use Rattle.gate_world.specs.{Configs.IsWithin, traces.TraceStates.{WordIsValid, ReadIsValid, CloseReadIsValid, OpenReadIsValid, EventsMayBe}, Fits.{FreezeFits, ThawFits, WriteFits}}
-use Rattle.gate_world.specs.{Fits.{PhaseFits, CloseFits, HasFile, file_of, Fits}, Holdings.Holdings, Remounts.RemountFits, Rules.{IsGood, Tree, Files}}
+use Rattle.gate_world.specs.{Configs.IsWithin, traces.TraceStates.{WordIsValid, ReadIsValid, CloseReadIsValid, OpenReadIsValid, EventsMayBe}}
+use Rattle.gate_world.specs.{Fits.{PhaseFits, CloseFits, HasFile, file_of, Fits}, Holdings.Holdings, Rules.{IsGood, Tree, Files}}
 use Rattle.gate_world.specs.{Rules.{Fitting, SyncAt, SyncHoldsIn}, Trees.{tree_bounds, tree_role_of}, Views.{held_of, has_open}, Work.next_of, Worlds.World}
 use Rattle.gate_world.specs.declared.{config.Config.{Config}, work.Phase.{TheVariants.{Trees, Closes}, Phase}}
 use Rattle.node_words.proofs.Packing.{packed_unpacks}
@@ -44,70 +32,9 @@ WordExists c (Sync i) = (1 ≤ i) × (i ≤ 3)
 WordExists c word = Unit {0}
 
 module _ (c : Config) where
-  want_word : (x : Want) (s : WantStep) → WordExists c (want_next x s).0
-  want_word x CountsUp = tt
-  want_word x other = tt
-
-  change_word : (x : Change) (s : ChangeStep) → WordExists c (change_next x s).0
-  change_word x Locks = tt
-  change_word x other = tt
-
-  remount_word : (x : Remount) (s : RemountStep) (hook : HookAnswer) → RemountFits c s → WordExists c (remount_next x s hook).0
-  remount_word x s hook fits = grind arith
-
-  transition_word : (level : ℕ) (x : Transition) → 1 ≤ level → level ≤ 3 → WordExists c (transition_next level x).0
-  transition_word level Loads l1 l3 = (l1, l3)
-  transition_word level (Exchanges from to) l1 l3 = (l1, l3)
-
   read_word : (x : DownRead) (s : DownReadStep) → 1 ≤ x.level → x.level ≤ 3 → WordExists c (down_read_next x s).0
   read_word x LoadsSync l1 l3 = (l1, l3)
   read_word x other l1 l3 = tt
-
-  callback_word : (x : Callback) (s : CallbackStep) → 1 ≤ x.level → x.level ≤ 3 → WordExists c (callback_next x s).0
-  callback_word x s l1 l3 = grind arith
-
-  down_write_word : (x : DownWrite) (s : DownWriteStep) → 1 ≤ x.level → x.level ≤ 3 → WordExists c (down_write_next x s).0
-  down_write_word x s l1 l3 = grind arith
-
-  up_write_word : (x : UpWrite) (s : UpWriteStep) → 1 ≤ x.level → x.level ≤ 3 → WordExists c (up_write_next x s).0
-  up_write_word x ClearsBlock l1 l3 = tt
-  up_write_word x (Exits transition) l1 l3 = transition_word x.level transition l1 l3
-
-  write_word : (t : ℕ) (held : Holdings) (x : WritePhase) → WriteFits c t held x → WordExists c (write_next x).0
-  write_word t held x fits = grind arith
-
-  freeze_word : (x : Freeze) (s : FreezeStep) (hook : HookAnswer) → FreezeFits c x.holder s → WordExists c (freeze_next x s hook).0
-  freeze_word x s hook fits = grind arith
-
-  thaw_word : (x : Thaw) (s : ThawStep) (hook : HookAnswer) → ThawFits x.holder s → WordExists c (thaw_next x s hook).0
-  thaw_word x s hook fits = grind arith
-
-  create_word : (x : Create) (s : CreateStep) → x.dir < c.nodes → CreateStepFits (tree_bounds c) s → WordExists c (create_next x s).0
-  create_word x s lt fits = grind arith
-
-  remove_word : (x : Remove) (s : RemoveStep) → x.file < c.nodes → WordExists c (remove_next x s).0
-  remove_word x s lt = grind arith
-
-  grow_word : (x : Grow) (s : GrowStep) → x.file < c.nodes → WordExists c (grow_next x s).0
-  grow_word x s lt = grind arith
-
-  move_word : (x : MoveTo) (s : MoveStep) → x.file < c.nodes → x.dir < c.nodes → WordExists c (move_next x s).0
-  move_word x s lt ld = grind arith
-
-  mark_word : (x : Mark) (s : MarkStep) → x.file < c.nodes → WordExists c (mark_next x s).0
-  mark_word x LoadsFileToMark lt = lt
-  mark_word x (MarksFile file) lt = lt
-
-  snapshot_word : (x : Snapshot) (s : SnapshotStep) → SnapshotStepFits (tree_bounds c) s → WordExists c (snapshot_next x s).0
-  snapshot_word x (SLoadsNode n) fits = fits
-  snapshot_word x other fits = tt
-
-  open_word : (x : OpenFile) (s : OpenStep) → x.file < c.nodes → WordExists c (open_next x s).0
-  open_word x LoadsFileToOpen lt = lt
-  open_word x (OpensFile file) lt = lt
-
-  close_word : (t : ℕ) (held : Holdings) (x : ClosePhase) → CloseFits c t held x → WordExists c (close_next x).0
-  close_word t held x fits = grind arith
 
   tree_word : (t : ℕ) (x : TreePhase) (hook : HookAnswer) → TreePhaseFits (tree_bounds c) t x → WordExists c (tree_next x hook).0
   tree_word t x hook fits = grind arith

@@ -1,6 +1,6 @@
 -- The counts of a freeze level after each kind of event of a reader there.
 use Rattle.std.proofs.Common.{◌≡◌, ℕ, ◌+◌, ◌<◌, ◌≤◌, Bool, true, false, refl, sym, ap, ◌∙◌, subst, inl, inr, arith}
-use Rattle.std.proofs.lemmas.Bool.{eq-eqb, ne_eqb, Decides.eqb_tells}
+use Rattle.std.proofs.lemmas.Bool.{eq-eqb, Decides.eqb_tells}
 use Rattle.std.specs.Prelude.{◌==◌, if◌then◌else◌, Option}
 use Rattle.finite_sums.{proofs.Totals.{update_map, update_at, update_off}, specs.Sums.update}
 use Rattle.access_model.specs.declared.{actions.Action.Action, replies.Next.Next}
@@ -14,9 +14,6 @@ use Rattle.gate_schedules.proofs.{frames.Frames.{left_alone, level_as, level_vie
 
 pub count_on : (i : ℕ) (r : LevelRole) → count_role_if (i == i) r ≡ r
 count_on i r = rw (eq-eqb i i refl)
-
-pub count_off : (j i : ℕ) (r : LevelRole) → (j ≡ i → ⊥) → count_role_if (j == i) r ≡ CountsNot
-count_off j i r ne = rw (ne_eqb j i ne)
 
 -- one access at most has room
 pub bit_room : (b : Bool) → (if b then 1 else 0) < 1024

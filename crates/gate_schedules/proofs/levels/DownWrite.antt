@@ -41,17 +41,6 @@ down_write_counts w d s = grind arith
 abbrev AtTheLevel : ℕ → Next DownWrite → Type 0
 AtTheLevel level n = HoldsOfNext (λ (x : DownWrite). x.level ≡ level) n
 
--- one that loads for GP_PASSED does
-state_level : (d : DownWrite) (b : Bool) →
-    AtTheLevel d.level (if b then Next.Go (at_down_write d DownWriteStep.SetsBlock) else Next.Wait (at_down_write d DownWriteStep.AwaitsPassed))
-state_level d true = refl
-state_level d false = refl
-
--- whatever number it finds
-passed_level : (d : DownWrite) (o : Option SyncWord) → AtTheLevel d.level (passed_awaited d o)
-passed_level d None = refl
-passed_level d (Some word) = state_level d (is_passed word.state)
-
 pub down_write_level : (d : DownWrite) (s : DownWriteStep) (found : ℕ) → AtTheLevel d.level (down_write_after d s found).0
 down_write_level d s found = grind arith
 

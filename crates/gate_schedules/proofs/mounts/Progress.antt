@@ -1,8 +1,8 @@
 -- A want whose mount is not held, a drop, and a change that finds `umount` free run out.
-use Rattle.std.proofs.{Common.{◌≡◌, ℕ, Bool, true, false, ap, ◌∙◌, arith}}
+use Rattle.std.proofs.{Common.{◌≡◌, ℕ, ap, ◌∙◌, arith}}
 use Rattle.access_model.specs.Replies.{map_next}
 use Rattle.cpu_words.specs.{Touches.{left, found_by}, Words.{Words, read, put}}
-use Rattle.mount_counts.specs.Phases.{has_flag, want_next, want_after, change_next, change_after, lock_failed}
+use Rattle.mount_counts.specs.Phases.{has_flag, want_next, want_after, change_next, change_after}
 use Rattle.mount_counts.specs.declared.phases.{Change.Change, ChangeStep.ChangeStep, MountPhase.MountPhase, Want.Want, WantStep.WantStep}
 use Rattle.gate_world.specs.{Worlds.{words_after, found_at}, declared.{config.Config.Config, work.Phase.Phase}}
 use Rattle.gate_schedules.proofs.operations.deadlocks.RankDecreases.{falls_as}
@@ -20,13 +20,6 @@ module _ (w : Words) (x : Want) where
   want_falls after stays clear s = grind arith
 
 module _ (w : Words) (x : Change) where
-  -- a change that doesn't wait ends where `umount` was taken
-  locked_falls : (after : Words) → (x.wait ≡ true → ⊥) → (b : Bool) → x.wait ≡ b →
-      RankDecreases (λ (y : Change). change_rank y.processors y.step) (λ (y : Change). ChangeIsUnblocked after y.step y.wait)
-      (change_rank x.processors ChangeStep.Locks) (lock_failed x b)
-  locked_falls after never true e = absurd (never e)
-  locked_falls after never false e = tt
-
   -- each event of a change
   change_falls : (after : Words) (s : ChangeStep) → ChangeIsUnblocked w s x.wait →
       RankDecreases (λ (y : Change). change_rank y.processors y.step) (λ (y : Change). ChangeIsUnblocked after y.step y.wait) (change_rank x.processors s)

@@ -155,10 +155,6 @@ module _ (c : Config) (w : World) (good : IsGood c w) (t : ℕ) (lt : t < c.task
       each_updated (λ y (v : View). RoleMatchesTrace v.phase v.trace) w.views t
       (view_after (w.views t) phase (value_at w.words phase hook) hook) x (phase_told phase hook e after) (λ ne. told x)
 
-none_yet : (phase : Phase) → is_between (Some phase) [] ≡ false
-none_yet (Phase.Mounts phase) = refl
-none_yet other = refl
-
 begin_told : (c : Config) (w : World) (t : ℕ) (op : Op) (refused : Option GateError) → AllTold w → AllTold (begin_of c w t op refused)
 begin_told c w t op refused told x = grind arith
 

@@ -1,26 +1,15 @@
 -- Each view follows its operation, after every schedule.
-use Rattle.std.proofs.{Common.{◌≡◌, ℕ, refl, ap, inl, inr, ◌<◌, arith}, lemmas.Bool.{cases_Bool, cases_lt, lt-ltb, le-ltb}}
-use Rattle.std.specs.Prelude.{Option, Some, None, nat_lt, List, ◌∷◌, ◌++◌}
+use Rattle.std.proofs.{Common.{◌≡◌, ℕ, refl, inl, inr, ◌<◌, arith}, lemmas.Bool.{cases_Bool, cases_lt, lt-ltb, le-ltb}}
+use Rattle.std.specs.Prelude.{Option, Some, None, nat_lt}
 use Rattle.finite_sums.proofs.Totals.{each_updated}
-use Rattle.access_model.specs.declared.{actions.Action.Action, errors.GateError.GateError, replies.Next.Next}
+use Rattle.access_model.specs.declared.{errors.GateError.GateError}
 use Rattle.cpu_words.specs.{Hooks.HookAnswer}
 use Rattle.gate_world.specs.Beginnings.{view_refusal}
-use Rattle.gate_world.specs.traces.TraceStates.{trace_state_with, trace_state_after, IsEventOf, IsNext, IsTraced, ReadIsValid, AllTraced, EventsMayBe}
-use Rattle.gate_world.specs.{Views.{phase_after, actions_after, view_after}, Work.{next_of, after_of}}
+use Rattle.gate_world.specs.traces.TraceStates.{IsTraced, ReadIsValid, AllTraced, EventsMayBe}
+use Rattle.gate_world.specs.{Views.{view_after}, Work.{next_of}}
 use Rattle.gate_world.specs.Worlds.{World, begin_refusal, begin_of, value_at, step_of, happens, opening}
 use Rattle.gate_world.specs.declared.entries.Entry.{Entry, TheVariants.{Begins, Steps}}
-use Rattle.gate_world.specs.declared.{config.Config.Config, operations.Op.Op, views.{Traced.Traced, View.View}, work.Phase.Phase}
-
--- where an operation stands at this phase, its event is the next, and what comes after it is the course after it
-stands_at : (comes : Next Phase) (added : List Action) (phase : Phase) (e : Traced) → phase_after comes ≡ Some phase → IsEventOf phase e →
-    IsNext comes e × (trace_state_after comes added e ≡ trace_state_with added (after_of phase e.event.found e.hook))
-stands_at comes added phase e h next = grind arith
-
--- an action more goes before the earlier ones
-newest : (action : Option Action) (actions added before : List Action) → actions ≡ added ++ before →
-    actions_after action actions ≡ actions_after action added ++ before
-newest None actions added before h = h
-newest (Some a) actions added before h = ap (λ l. a ∷ l) h
+use Rattle.gate_world.specs.declared.{config.Config.Config, operations.Op.Op, views.{View.View}, work.Phase.Phase}
 
 -- the next event of a view that follows its operation
 step_follows : (c : Config) (t : ℕ) (v : View) (op : Option Op) (phase : Phase) (value : ℕ) (hook : HookAnswer) → v.phase ≡ Some phase →

@@ -2,12 +2,12 @@
 use Rattle.std.{proofs.Common.{◌≡◌, ℕ, ◌<◌, subst, arith}, specs.Prelude.Option}
 use Rattle.access_model.specs.{Replies.map_next, declared.{actions.Action.Action, replies.Next.Next}}
 use Rattle.cpu_words.specs.{Hooks.HookAnswer, Names.{Extents, IsWord}, Words.Words, declared.{events.Touch.Touch, names.WordName.WordName}}
-use Rattle.gated_tree.specs.Calls.{phase_role, remove_role, move_role, role_after, CreateStepFits, SnapshotStepFits, TreePhaseFits}
+use Rattle.gated_tree.specs.Calls.{phase_role, role_after, TreePhaseFits}
 use Rattle.gated_tree.specs.Phases.{next, create_next, remove_next, grow_next, move_next, mark_next, open_next, snapshot_next}
 use Rattle.gated_tree.specs.Roles.{Role, Bounds, AreWithin, TreeHolds}
-use Rattle.gated_tree.specs.declared.changes.{Create.Create, CreateStep.CreateStep, MoveStep.MoveStep, MoveTo.MoveTo, Remove.Remove, RemoveStep.RemoveStep}
-use Rattle.gated_tree.specs.declared.{growth.{Grow.Grow, GrowStep.GrowStep}, marks.{Mark.Mark, MarkStep.MarkStep}, opens.{OpenFile.OpenFile, OpenStep.OpenStep}}
-use Rattle.gated_tree.specs.declared.{phases.TreePhase.TreePhase, snapshots.{Snapshot.Snapshot, SnapshotStep.SnapshotStep}}
+use Rattle.gated_tree.specs.declared.changes.{Create.Create, MoveTo.MoveTo, Remove.Remove}
+use Rattle.gated_tree.specs.declared.{growth.{Grow.Grow}, marks.{Mark.Mark}, opens.{OpenFile.OpenFile}}
+use Rattle.gated_tree.specs.declared.{phases.TreePhase.TreePhase, snapshots.{Snapshot.Snapshot}}
 use Rattle.gate_schedules.proofs.trees.{Steps.{create_step, remove_step, grow_step, move_step, mark_step, open_step}, Sweeps.{clear_step, snapshot_step}}
 use Rattle.gate_schedules.specs.trees.Steps.{tree_in, found_at, EventKeeps, TreeAllowsStep, Notes, StepKeeps}
 
@@ -54,30 +54,6 @@ module _ (c : Bounds) (within : AreWithin c) (sealed bare : ℕ) (w : Words) (at
       (clear_step c within sealed bare w at good t lt x fits.0 may is)
 
   module _ (e : Extents) (nodes : e.nodes ≡ c.nodes) where
-    create_there : (x : Create) (step : CreateStep) → x.dir < c.nodes → CreateStepFits c step → IsWord e (create_next x step).0
-    create_there x step d fits = grind arith
-
-    remove_there : (x : Remove) (step : RemoveStep) → x.file < c.nodes → at t ≡ remove_role x step → IsWord e (remove_next x step).0
-    remove_there x step n is = grind arith
-
-    grow_there : (x : Grow) (step : GrowStep) → x.file < c.nodes → IsWord e (grow_next x step).0
-    grow_there x step n = grind arith
-
-    move_there : (x : MoveTo) (step : MoveStep) → x.file < c.nodes → x.dir < c.nodes → at t ≡ move_role x step →
-        IsWord e (move_next x step).0
-    move_there x step n d is = grind arith
-
-    mark_there : (x : Mark) (step : MarkStep) → x.file < c.nodes → IsWord e (mark_next x step).0
-    mark_there x MarkStep.LoadsFile n = omega (arith, n, nodes)
-    mark_there x (MarkStep.MarksFile file) n = omega (arith, n, nodes)
-
-    open_there : (x : OpenFile) (step : OpenStep) → x.file < c.nodes → IsWord e (open_next x step).0
-    open_there x OpenStep.LoadsFile n = omega (arith, n, nodes)
-    open_there x (OpenStep.OpensFile file) n = omega (arith, n, nodes)
-
-    snapshot_there : (x : Snapshot) (step : SnapshotStep) → SnapshotStepFits c step → IsWord e (snapshot_next x step).0
-    snapshot_there x step fits = grind arith
-
     -- the word of each event is there
     pub word_there : (phase : TreePhase) (values : ℕ → ℕ) (hook : HookAnswer) → at t ≡ phase_role values phase → TreePhaseFits c t phase →
         IsWord e (next phase hook).0

@@ -15,7 +15,7 @@ use Rattle.gate_world.specs.Rules.{Fitting, Holding, Holds, IsGood, Known, Moves
 use Rattle.gate_world.specs.{Rules.{owns, stage_role_of, stage_roles}, Shown.shown, Views.{added_by, has_open, held_of, phase_after, taken_by}, Worlds.World}
 use Rattle.gate_world.specs.{Worlds.{after_step, phase_action, value_at}, declared.{config.Config.Config, views.View.View, work.Phase.Phase}}
 use Rattle.node_words.specs.Nodes.{node_shown, opens_in}
-use Rattle.percpu_rwsem.specs.Writers.{at_down_write, down_write_after, down_write_next}
+use Rattle.percpu_rwsem.specs.Writers.{at_down_write, down_write_after}
 use Rattle.percpu_rwsem.specs.declared.writers.{DownWrite.DownWrite, DownWriteStep.DownWriteStep}
 use Rattle.freeze_laws.specs.stages.{Events.{StageEvent, action_of as stage_action_of}, Shown.{AsksOthers, ShowsStages, state_after}}
 use Rattle.std.proofs.{Common.{ap, arith, false, inl, inr, refl, subst, sym, true, true≢false, ℕ, ◌<◌, ◌∙◌, ◌≡◌, ◌⊎◌}, lemmas.Bool.cases_Bool}
@@ -164,10 +164,6 @@ module _ (d : DownWrite) (P : Next DownWrite → Type 0) (go : (s : DownWriteSte
     (wait : (s : DownWriteStep) → P (Next.Wait (at_down_write d s))) (done : P (Next.Done (Ok Reply.Unit))) where
   pub down_write_comes : (s : DownWriteStep) (found : ℕ) → P (down_write_after d s found).0
   down_write_comes s found = grind arith
-
--- a down-write changes no word that only the owner changes
-down_write_off : (d : DownWrite) (s : DownWriteStep) → is_owned (down_write_next d s).0 ≡ false
-down_write_off d s = grind arith
 
 freeze_changes : (x : Freeze) (s : FreezeStep) (hook : HookAnswer) → is_owned (freeze_next x s hook).0 ≡ true →
     (is_load (freeze_next x s hook).1 ≡ true) ⊎ (freeze_owns s ≡ 1)

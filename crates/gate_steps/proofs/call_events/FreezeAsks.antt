@@ -3,32 +3,17 @@ use Rattle.std.proofs.Common.{arith, ◌≡◌, ℕ, zero, suc, true, false, Lis
 use Rattle.std.specs.Prelude.{◌==◌, if◌then◌else◌, Option, Some, None, Ok, Err}
 use Rattle.access_model.specs.declared.{actions.Action.{Action, TheVariants.{Clean}}, replies.Next.{Next, TheVariants.{Go, Wait, Done}}}
 use Rattle.access_model.specs.{declared.{replies.Reply.{Reply}, actions.Holder.{Holder}}, Replies.{map_next}, Holders.{held_by}}
-use Rattle.cpu_words.specs.{Hooks.{HookAnswer}, declared.sums.Taken.{Taken}}
+use Rattle.cpu_words.specs.{Hooks.{HookAnswer}}
 use Rattle.node_words.specs.{declared.marks.ClearMarks.{ClearMarks}, Nodes.{dirty_in, node_after}, Phases.{clears_at, clear_after}}
-use Rattle.percpu_rwsem.specs.declared.{grace.GraceNext.{GraceNext}, sync_word.SyncWord.{SyncWord}, writers.DownWrite.{DownWrite}}
+use Rattle.percpu_rwsem.specs.declared.{writers.DownWrite.{DownWrite}}
 use Rattle.percpu_rwsem.specs.declared.writers.{DownWriteStep.{DownWriteStep}, UpWrite.{UpWrite}}
-use Rattle.percpu_rwsem.specs.Writers.{down_write_after, sections_awaited, passed_awaited, down_write_summed, up_write_after}
+use Rattle.percpu_rwsem.specs.Writers.{down_write_after, up_write_after}
 use Rattle.freeze_levels.specs.declared.freezes.{Freeze.{Freeze}, FreezeStep.{FreezeStep}}
-use Rattle.freeze_levels.specs.declared.freezes.FreezeStep.TheVariants.{
-  Locks,
-  LoadsStage,
-  LoadsHolders,
-  Holds,
-  LoadsSuperblock,
-  CompletesReadOnly,
-  SetsWrite,
-  Unlocks,
-  Closes,
-  LocksAgain,
-  SetsPageFault,
-  Cleans,
-  SetsFs,
-  SetsComplete,
-  Reopens,
-  Releases,
-}
+use Rattle.freeze_levels.specs.declared.freezes.FreezeStep.TheVariants.{Locks, LoadsStage, LoadsHolders, Holds, LoadsSuperblock}
+use Rattle.freeze_levels.specs.declared.freezes.FreezeStep.TheVariants.{CompletesReadOnly, SetsWrite, Unlocks, Closes, LocksAgain}
+use Rattle.freeze_levels.specs.declared.freezes.FreezeStep.TheVariants.{SetsPageFault, Cleans, SetsFs, SetsComplete, Reopens, Releases}
 use Rattle.freeze_levels.specs.declared.hooks.HookCall.TheVariants.{Sync as SyncCall, FreezeFs as FreezeCall}
-use Rattle.freeze_levels.specs.Freezes.{freeze_after, at_freeze, after_closing, after_clearing, after_reopening, level_closed}
+use Rattle.freeze_levels.specs.Freezes.{freeze_after, at_freeze, after_closing, after_clearing, after_reopening}
 use Rattle.freeze_levels.specs.Holders.{holders_in}
 use Rattle.gate_world.specs.declared.{operations.Op.TheVariants.{Freeze as FreezeOp}, work.Phase.{Phase, TheVariants.{Freezes}}}
 use Rattle.gate_world.specs.{traces.Traces.{actions_of}, Views.{actions_after}, Work.{after_of}}
@@ -87,17 +72,6 @@ KeepsLevel level (Go d) = d.level ≡ level
 KeepsLevel level (Wait d) = d.level ≡ level
 KeepsLevel level (Done answer) = Unit {0}
 
-awaited : (d : DownWrite) (g : GraceNext) → KeepsLevel d.level (sections_awaited d g)
-awaited d g = grind arith
-
-passed : (d : DownWrite) (word : Option SyncWord) → KeepsLevel d.level (passed_awaited d word)
-passed d word = grind arith
-
--- and stores no stage
-summed : (d : DownWrite) (taken : Taken) (added : List Action) → KeepsLevel d.level (down_write_summed d taken).0 ×
-    (stored_third_stage (actions_after (down_write_summed d taken).1 added) ≡ stored_third_stage added)
-summed d taken added = grind arith
-
 closes_on : (d : DownWrite) (step : DownWriteStep) (found : ℕ) (added : List Action) → KeepsLevel d.level (down_write_after d step found).0 ×
     (stored_third_stage (actions_after (down_write_after d step found).1 added) ≡ stored_third_stage added)
 closes_on d step found added = grind arith
@@ -106,10 +80,6 @@ closes_on d step found added = grind arith
 same_level : (level : ℕ) (added later : List Action) (asks : List Ask) → stored_third_stage later ≡ stored_third_stage added →
     AtLevel level added asks → AtLevel level later asks
 same_level level added later asks same is = grind arith
-
--- a level is closed
-closed_at : (level nodes : ℕ) (added : List Action) (asks : List Ask) → AtLevel level added asks → AtStep (level_closed level nodes) added asks
-closed_at level nodes added asks is = grind arith
 
 closing_next : (x : Freeze) (level : ℕ) (next : Next DownWrite) (added : List Action) (asks : List Ask) → KeepsLevel level next →
     AtLevel level added asks → AtNext (after_closing x level next) added asks

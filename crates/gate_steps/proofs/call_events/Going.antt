@@ -2,16 +2,16 @@
 use Rattle.std.proofs.Common.{arith, ◌≡◌, ℕ, Bool, List, [], ◌∷◌, refl, sym, ap, ◌∙◌, subst}
 use Rattle.gate_world.specs.declared.entries.Entry.{Entry}
 use Rattle.gate_world.specs.{Accesses.accesses_after, Fits.{PhaseFits, Fits, ActionFits}, Holdings.{Agree, holdings_of, held_after}, Views.held_of}
-use Rattle.gate_world.specs.{Views.{phase_after, view_after_with_others}, Work.{next_of, after_of}, Worlds.{World, found_at}}
+use Rattle.gate_world.specs.{Views.{phase_after, view_after_with_others}, Work.{next_of, after_of}}
 use Rattle.gate_world.specs.declared.{accesses.Accesses.Accesses, config.Config.Config, operations.Op.Op, views.View.View, work.Phase.Phase}
 use Rattle.gate_steps.specs.Seating.{knows}
 use Rattle.gate_steps.specs.{Seating.{DealtNumbers, numbered, entered, done_by, items_after, HasWitness}, declared.seating.Numbered.Numbered}
-use Rattle.gate_steps.specs.call_events.{Stepped.{found_step, state_after, Stepped}, SeatedTasks.{SeatedTask, task_state}, GhostAgrees.{PhaseOk, OwnNumberAgrees, GhostAgrees}}
+use Rattle.gate_steps.specs.call_events.{Stepped.{state_after, Stepped}, SeatedTasks.{SeatedTask, task_state}, GhostAgrees.{PhaseOk, OwnNumberAgrees, GhostAgrees}}
 use Rattle.std.specs.Prelude.{Option, Some, None}
 use Rattle.access_model.specs.declared.{actions.Action.Action, replies.Next.Next}
 use Rattle.cpu_words.specs.{Hooks.HookAnswer, Touches.{found_by, event_of}, declared.events.Touch.{Touch}}
 use Rattle.cpu_words.specs.declared.{events.{Event.Event}, names.WordName.WordName}
-use Rattle.gate_schedules.specs.{Answers.{progress_of, phase_step}, TaskStates.{task_holdings}, declared.task_states.TaskState.{TaskState}}
+use Rattle.gate_schedules.specs.{Answers.{progress_of}, TaskStates.{task_holdings}, declared.task_states.TaskState.{TaskState}}
 use Rattle.gate_schedules.specs.declared.steps.Progress.{Progress}
 use Rattle.gate_schedules.proofs.frames.{Accesses.{holdings_of_after, long_after, wide_after, deep_after, agree_after}, Agreeing.agree_sym}
 use Rattle.gate_schedules.proofs.schedules.Phases.{action_fits, fits_after, fits_agree}
@@ -94,16 +94,6 @@ module _ (number : ℕ) (c : Config) (begins : Option Op) (state : TaskState) (f
   pub acts_after : (items : DealtNumbers) → GhostAgrees number c begins state flags items → ActionFits (task_holdings state) done.1
   acts_after [] t = absurd t
   acts_after (x ∷ xs) t = acts_kept x xs t
-
--- what a touch found serves as the value that it finds
-serves : (name : WordName) (touch : Touch) (value : ℕ) → (event_of name touch (found_by touch value) ≡ event_of name touch value) ×
-    (found_by touch (found_by touch value) ≡ found_by touch value)
-serves name touch value = grind arith
-
--- the step is the one that the phase has in a world
-step_in : (w : World) (phase : Phase) (hook : HookAnswer) → found_step phase hook (found_at w.words phase hook) ≡
-    phase_step w hook (Some phase)
-step_in w phase hook = grind arith
 
 -- the same of the values that the code has
 module _ (number : ℕ) (c : Config) (begins : Option Op) (state : TaskState) (flags : List Bool) (phase : Phase) (is : state.phase ≡ Some phase)

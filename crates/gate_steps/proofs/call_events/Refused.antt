@@ -1,10 +1,10 @@
 -- What a refusal leaves, and when a call says that it waits.
 use Rattle.std.proofs.Common.{arith}
-use Rattle.std.proofs.{Common.{◌≡◌, ℕ, Bool, true, false, List, [], ◌∷◌, ◌++◌, refl, sym, ap, ◌∙◌, inl, inr, subst}, lemmas.Bool.eqb-true}
+use Rattle.std.proofs.{Common.{◌≡◌, ℕ, true, List, [], ◌∷◌, ◌++◌, refl, sym, ap, ◌∙◌, inl, subst}}
 use Rattle.std.proofs.lemmas.List.Elements.{All-from_recursion}
-use Rattle.std.specs.{List.{All, AllByRecursion}, Prelude.{◌==◌, ◌⊎◌, if◌then◌else◌, Option, Err, option_map}}
-use Rattle.access_model.specs.{Actions.marked, declared.actions.Action.{Action, TheVariants.{Stage as StageAction, Reopen, Clean}}}
-use Rattle.access_model.specs.declared.{actions.NodeInfo.NodeInfo, errors.GateError.{GateError}, replies.Next.{Next}}
+use Rattle.std.specs.{List.{All, AllByRecursion}, Prelude.{if◌then◌else◌, Err}}
+use Rattle.access_model.specs.{declared.actions.Action.{Action, TheVariants.{Stage as StageAction, Reopen}}}
+use Rattle.access_model.specs.declared.{errors.GateError.{GateError}, replies.Next.{Next}}
 use Rattle.cpu_words.specs.declared.{events.Touch.{Touch}, names.WordName.{WordName}}
 use Rattle.gate_world.specs.{Beginnings.is_in_order, Operations.{two_levels_closed, all_levels_closed}, Configs.IsWithin, traces.TraceStates.{state_of_trace, IsTrace}}
 use Rattle.gate_world.specs.{traces.Found.{clean_found, cleans, stored_stage}, Holdings.holdings_of, traces.Traces.{actions_of, Tells}, Views.held_of}
@@ -13,16 +13,6 @@ use Rattle.gate_schedules.proofs.operations.AllOperations.{op_keeps}
 use Rattle.gate_steps.specs.Seating.{DealtNumbers}
 use Rattle.gate_steps.specs.call_events.{Refused.{LeavesTree, IsUnchanged, IsHonestWait, WaitsHonestly}, Runs.ran_items, SeatedTasks.{own_number, own_view}}
 use Rattle.gate_steps.proofs.call_events.Asked.{either_way}
-
--- a node that is cleaned loses its mark, and any other stays
-cleaned_by : (m n : ℕ) (tree : ℕ → Option NodeInfo) (same : Bool) → (n == m) ≡ same →
-    ((elim same [ true ↦ option_map (marked false) (tree m) | false ↦ tree n ]) ≡ tree n) ⊎
-    ((elim same [ true ↦ option_map (marked false) (tree m) | false ↦ tree n ]) ≡ option_map (marked false) (tree n))
-cleaned_by m n tree true is = inr (ap (λ k. option_map (marked false) (tree k)) (sym (eqb-true n m is)))
-cleaned_by m n tree false is = inl refl
-
-cleaned : (m : ℕ) → LeavesTree (Clean m)
-cleaned m counts tree n = cleaned_by m n tree (n == m) refl
 
 -- each of these actions leaves the tree
 abbrev EachLeaves : List Action → Type 0

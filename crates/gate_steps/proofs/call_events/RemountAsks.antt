@@ -8,25 +8,10 @@ use Rattle.mount_counts.specs.Phases.{has_flag}
 use Rattle.mount_counts.specs.Remounts.{remount_after, at_remount, remount_from, past_mount, let_go, leave_holds, give_up, remount_took}
 use Rattle.mount_counts.specs.{Sets.{no_mounts, without_lowest}, declared.{sets.MountSet.{MountSet}, remounts.Remount.{Remount}}}
 use Rattle.mount_counts.specs.declared.remounts.RemountStep.{RemountStep}
-use Rattle.mount_counts.specs.declared.remounts.RemountStep.TheVariants.{
-  Locks,
-  LoadsStage,
-  LoadsSuperblock,
-  SetsWritable,
-  LoadsRemoved,
-  LoadsFlags,
-  SetsHold,
-  Sums,
-  LoadsRemovedAgain,
-  LeavesHolds,
-  SetsRemount,
-  ClearsHold,
-  GivesUp,
-  ClearsMark,
-  SetsReadOnly,
-  ClearsRemount,
-  Releases,
-}
+use Rattle.mount_counts.specs.declared.remounts.RemountStep.TheVariants.{Locks, LoadsStage, LoadsSuperblock, SetsWritable, LoadsRemoved}
+use Rattle.mount_counts.specs.declared.remounts.RemountStep.TheVariants.{LoadsFlags, SetsHold, Sums, LoadsRemovedAgain, LeavesHolds}
+use Rattle.mount_counts.specs.declared.remounts.RemountStep.TheVariants.{SetsRemount, ClearsHold, GivesUp, ClearsMark, SetsReadOnly}
+use Rattle.mount_counts.specs.declared.remounts.RemountStep.TheVariants.{ClearsRemount, Releases}
 use Rattle.freeze_levels.specs.declared.hooks.HookCall.TheVariants.{Reconfigure as ReconfigureCall}
 use Rattle.gate_world.specs.declared.{operations.Op.TheVariants.{RemountSb}, work.Phase.{Phase, TheVariants.{Remounts}}}
 use Rattle.gate_world.specs.{traces.TraceStates.{state_of_trace}, Views.{actions_after}, Work.{after_of}}

@@ -7,7 +7,7 @@ use Rattle.gate_world.specs.Beginnings.{first_phase}
 use Rattle.gate_world.specs.traces.TraceStates.{TraceState, trace_state_with, trace_state_after, state_of_trace, IsEventOf, IsNext, IsTrace, ReadIsValid}
 use Rattle.gate_world.specs.traces.Traces.{actions_of, Tells, ReplyMatchesTrace, most_events, IsShort, MayWait}
 use Rattle.std.proofs.Common.{◌≡◌, ℕ, ◌+◌, ◌-◌, ◌<◌, ◌≤◌, List, [], ◌∷◌, ◌++◌, length, refl, sym, ap, ◌∙◌, subst, arith, add-zero}
-use Rattle.std.specs.Prelude.{Option, Some, None, Result, Ok, Err, IfOk, is_some}
+use Rattle.std.specs.Prelude.{Option, Some, None, Result, Ok, Err, is_some}
 use Rattle.access_model.specs.declared.{actions.Action.{Action}, errors.GateError.{GateError}, replies.Next.{Next}}
 use Rattle.access_model.specs.declared.replies.{Next.TheVariants.{Go, Wait, Done}, Reply.{Reply}}
 use Rattle.cpu_words.specs.{Hooks.{HookAnswer}, Touches.{found_by, event_of}}
@@ -132,12 +132,6 @@ not_refused (Some refusal) is = absurd (let f : ◌≡◌ {A = Result (Unit {0})
 -- an admitted one has none
 pub admitted_some : (o : Option GateError) (r : GateError) → Ok tt ≡ unless_refused o → o ≡ Some r → ⊥
 admitted_some o r is at = grind arith
-
--- the numbers of an operation that has just begun
-begun_items : (c : Config) (op : Op) (l : DealtNumbers) → entered_items (Some op) (Some (first_phase c (own_number l) op)) l ≡
-    ran_items c op [] l
-begun_items c op [] = refl
-begun_items c op (x ∷ xs) = refl
 
 -- and of one under way
 ran_so_far : (op : Op) (start now : SeatedTask) (goes : OpUnderWay op start now) → entered_items now.begins now.phase now.items ≡
@@ -482,11 +476,6 @@ was_told read op old left answer outcome replies told = record {
   refused = λ r at. (told ∙ ap (told_as read) (replies.refused r at).0, (replies.refused r at).1);
   done = λ at. let done = replies.done at in (done.0, told ∙ (ap (told_as read) done.1 ∙ told_twice read done.0), done.2);
 }
-
-reply_at : (P : Reply → Type 0) (op : Op) (old left : SeatedTask) (outcome : Result Reply GateError) →
-    ((reply : Reply) (events : List Traced) → ReplyMatchesTrace op reply events → P reply) → Replies the_reply op old left outcome →
-    (o : Option GateError) → refusal_at op old ≡ o → IfOk outcome P
-reply_at P op old left outcome says replies o at = grind arith
 
 -- a callback's
 pub ran_told : (level : ℕ) (reply : Reply) (events : List Traced) → ReplyMatchesTrace (Callback level) reply events → IsRanReply reply

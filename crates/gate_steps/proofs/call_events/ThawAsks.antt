@@ -6,19 +6,9 @@ use Rattle.access_model.specs.{declared.replies.Reply.{Reply}, Holders.{held_by,
 use Rattle.cpu_words.specs.Hooks.{HookAnswer}
 use Rattle.percpu_rwsem.specs.{declared.writers.UpWrite.{UpWrite}, Writers.{up_write_after}}
 use Rattle.freeze_levels.specs.declared.{hooks.HookCall.TheVariants.{UnfreezeFs as UnfreezeCall}, thaws.{Thaw.{Thaw}, ThawStep.{ThawStep}}}
-use Rattle.freeze_levels.specs.declared.thaws.ThawStep.TheVariants.{
-  Locks,
-  LoadsStage,
-  LoadsHolders,
-  Leaves,
-  LoadsSuperblock,
-  LeavesReadOnly,
-  UnfreezesReadOnly,
-  LeavesLast,
-  SetsUnfrozen,
-  Reopens,
-  Releases,
-}
+use Rattle.freeze_levels.specs.declared.thaws.ThawStep.TheVariants.{Locks, LoadsStage, LoadsHolders, Leaves, LoadsSuperblock}
+use Rattle.freeze_levels.specs.declared.thaws.ThawStep.TheVariants.{LeavesReadOnly, UnfreezesReadOnly, LeavesLast, SetsUnfrozen, Reopens}
+use Rattle.freeze_levels.specs.declared.thaws.ThawStep.TheVariants.{Releases}
 use Rattle.freeze_levels.specs.{Holders.{holders_in}, Thaws.{thaw_after, at_thaw, after_opening}}
 use Rattle.gate_world.specs.declared.{operations.Op.TheVariants.{Thaw as ThawOp}, work.Phase.{Phase, TheVariants.{Thaws}}}
 use Rattle.gate_world.specs.{traces.TraceStates.{state_of_trace}, Views.{actions_after}, Work.{after_of}}

@@ -6,7 +6,7 @@ use Rattle.gate_steps.specs.{Seating.{knows}, declared.seating.Knowledge.{Knowle
 use Rattle.gate_steps.specs.Seating.{DealtNumbers, OwnNumberMayStep, items_after, HasWitness}
 use Rattle.gate_steps.specs.call_events.{Asking.{Ask, asks_with, call_at, OpUnderWayWith, OpAfterStepWith}, Runs.{OpUnderWay, OpAfterStep}, Stepped.Stepped, Waited.{OpUnderWayWaiting, OpAfterStepWaiting}, SeatedTasks.{SeatedTask, task_state}}
 use Rattle.gate_steps.specs.call_events.{GhostAgrees.GhostAgrees, Turns.{state_at, StateAgrees, step_was}}
-use Rattle.std.proofs.Common.{List, List, ◌≡◌, ℕ, ◌<◌, Bool, [], ◌∷◌, refl, sym, ap, ◌∙◌, subst, arith}
+use Rattle.std.proofs.Common.{List, List, ◌≡◌, ℕ, ◌<◌, Bool, [], refl, sym, ap, ◌∙◌, subst, arith}
 use Rattle.std.specs.Prelude.{Option, Some, None}
 use Rattle.access_model.specs.declared.{actions.Action.Action, replies.Next.{Next, TheVariants.{Go, Wait, Done}}}
 use Rattle.cpu_words.specs.{Hooks.HookAnswer, Names.{place, words_in_all}, Touches.event_of, declared.events.{Event.Event}}
@@ -20,11 +20,6 @@ module _ (number : ℕ) (c : Config) (begins : Option Op) (phase : Phase) (acces
   -- the word of the event is one of the table's
   word_inside : (l : DealtNumbers) → GhostAgrees number c begins (state_at (Some phase) accesses) flags l → place (next_of phase hook).0 < words_in_all
   word_inside l t = grind (arith, word_placed, held_of)
-
-  -- the own number may do the event
-  may_act : (l : DealtNumbers) → GhostAgrees number c begins (state_at (Some phase) accesses) flags l → OwnNumberMayStep c begins phase l
-  may_act [] t = absurd t
-  may_act (x ∷ xs) t = t.may
 
 -- the same of the configuration as the table names it
 module _ (c key : Config) (same_key : key ≡ c) (begins : Option Op) (phase : Phase) (accesses : Accesses) (items : DealtNumbers)

@@ -18,7 +18,7 @@
 //! - `0 want 0 0: done` is a call of the first or the second task, as a schedule has it. It ends so, or by the name of its refusal;
 //!   `ThreadRun::goes_on` says what may stand behind that. Node 100 is the file that was made last, and node 200 another one in each round.
 //! - `0 want 0 0: begun` only begins the operation, which goes on by steps.
-//! - `0 step: sb 0` and the like is what a schedule hasn't. `Act` lists it, and the end is what is printed, a part for each line.
+//! - `0 step: sb 0` and the like is what a schedule hasn't. `TaskAct` lists it, and the end is what is printed, a part for each line.
 //! - `split: done` splits the second task off the first one, `join: done` joins it, and `lose: done` drops it. `split 63: done` loses all but the
 //!   last.
 //! - `fail sync 16`: the next time that it is asked this, the file system fails with this code.
@@ -32,7 +32,7 @@ ghost use Rattle.std.specs.Prelude.{◌≡◌, All, IfSome, IfErr};
 ghost use Rattle.vfs_gates.specs.TaskStates.{IsFrom};
 
 use super::fixtures::Fixture;
-use super::lines::{Act, does, first_byte, is_printed, work};
+use super::lines::{does, first_byte, is_printed, work};
 use super::thread_runs::ThreadRun;
 use schedule_lines::numbers::number_of;
 use schedule_text::{Line, Output, parse};
@@ -194,18 +194,19 @@ fn does_for_all<R: Wait + Threads + Sync>(
 {
     let (front, ends) = cut(line, ": ");
     let (word, rest) = cut(front, " ");
-    match Act::of(word) {
-        Act::Split => {
+    match word {
+        "split" => {
             let count = number_of(rest.as_bytes()).unwrap_or(1);
             end_name(split(first, second, turn.scene.alloc, gates, count)) == ends
         }
-        Act::Join => end_name(join(first, second, gates)) == ends,
-        Act::Lose => second.take().is_some() && ends == "done",
-        Act::Fail => {
+        "join" => end_name(join(first, second, gates)) == ends,
+        "lose" => second.take().is_some() && ends == "done",
+        "fail" => {
+            let was_asked = turn.fails.is_empty();
             turn.fails = rest;
-            true
+            was_asked
         }
-        Act::Rounds => {
+        "rounds" => {
             *second = go_at_once(first, rt, gates, turn.scene, rest);
             second.is_some()
         }
@@ -240,6 +241,7 @@ fn go<R: Wait + Threads + Sync>(
         };
         scene.expect(is_so, line);
     }
+    scene.expect(turn.fails.is_empty(), "a hook that is to fail is asked");
 }
 
 /// The words of which a case may say what they hold in the end.

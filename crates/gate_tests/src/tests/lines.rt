@@ -72,12 +72,16 @@ fn print_done(said: &mut Output, is_done: bool) {
     said.line(if is_done { b"done" } else { b"otherwise" });
 }
 
-/// Prints the word that was in the way of a remount, if one was.
+/// Prints the word that was in the way of a remount, `done` if none was, or the name of another refusal.
 fn print_seen(said: &mut Output, seen: Result<Option<WordName>, GateError>) {
-    if let Ok(Some(word)) = seen {
-        said.word_name(word);
+    match seen {
+        Ok(Some(word)) => {
+            said.word_name(word);
+            said.text(b"\n");
+        }
+        Ok(None) => print_answer(said, Ok(())),
+        Err(refusal) => print_answer(said, Err(refusal)),
     }
-    said.text(b"\n");
 }
 
 /// Does a step, in which a hook that nobody asks fails. Prints the word, what the step finds in it, and how the operation stands then,
@@ -153,30 +157,28 @@ fn print_act<R: Wait>(
     rt: &R,
     gates: &Gates,
     turn: &mut ThreadRun<'_>,
-    act: Act,
+    act: TaskAct,
     said: &mut Output,
 )
     requires { IsFrom task.old gates.now }
     ensures { IsFrom task.new gates.now }
 {
     match act {
-        Act::Step => print_step(task, gates, said),
-        Act::Stand => print_stand(task, said),
-        Act::Tree => print_tree(task, said),
-        Act::Shut => print_answer(said, shut(rt, gates, task, turn, 3)),
-        Act::BackUp => print_answer(said, back_up(rt, gates, task, turn)),
-        Act::Take => print_answer(said, take(rt, gates, task, turn, 2)),
-        Act::WriteInside => print_done(said, writes_inside(task, rt, gates)),
-        Act::CopyInside => print_done(said, copies_inside(task, rt, gates)),
-        _ => print_seen(said, shut_and_see(rt, gates, task, turn)),
+        TaskAct::Step => print_step(task, gates, said),
+        TaskAct::Stand => print_stand(task, said),
+        TaskAct::Tree => print_tree(task, said),
+        TaskAct::Shut => print_answer(said, shut(rt, gates, task, turn, 3)),
+        TaskAct::BackUp => print_answer(said, back_up(rt, gates, task, turn)),
+        TaskAct::Take => print_answer(said, take(rt, gates, task, turn, 2)),
+        TaskAct::WriteInside => print_done(said, writes_inside(task, rt, gates)),
+        TaskAct::CopyInside => print_done(said, copies_inside(task, rt, gates)),
+        TaskAct::See => print_seen(said, shut_and_see(rt, gates, task, turn)),
     }
 }
 
-/// What a line does, by its first word or the one behind the task's number.
+/// What a line has a task do that is no call of the language of schedules.
 #[derive(Clone, Copy)]
-pub enum Act {
-    /// A call as a schedule has it.
-    Call,
+enum TaskAct {
     /// What docs/refusals.md advises, as `decisions` has it: a remount with three tries, one that says what was in the way, a backup, and a
     /// snapshot with two tries.
     Shut,
@@ -190,39 +192,24 @@ pub enum Act {
     Step,
     Stand,
     Tree,
-    /// What is of no one task, as `cases` has it.
-    Split,
-    Join,
-    Lose,
-    Fail,
-    Rounds,
 }
 
-/// What a line of a task does.
-fn act_of(line: &'static str) -> Act {
-    let (front, _) = cut(line, ": ");
-    let (_, word) = cut(front, " ");
-    Act::of(word)
-}
-
-impl Act {
-    pub fn of(word: &str) -> Act {
+impl TaskAct {
+    /// By the word behind the task's number; a call, if it is none of these.
+    fn of(line: &'static str) -> Option<TaskAct> {
+        let (front, _) = cut(line, ": ");
+        let (_, word) = cut(front, " ");
         match word {
-            "shut" => Act::Shut,
-            "shut_and_see" => Act::See,
-            "back_up" => Act::BackUp,
-            "take" => Act::Take,
-            "writes_inside" => Act::WriteInside,
-            "copies_inside" => Act::CopyInside,
-            "step" => Act::Step,
-            "stands" => Act::Stand,
-            "tree" => Act::Tree,
-            "split" => Act::Split,
-            "join" => Act::Join,
-            "lose" => Act::Lose,
-            "fail" => Act::Fail,
-            "rounds" => Act::Rounds,
-            _ => Act::Call,
+            "shut" => Some(TaskAct::Shut),
+            "shut_and_see" => Some(TaskAct::See),
+            "back_up" => Some(TaskAct::BackUp),
+            "take" => Some(TaskAct::Take),
+            "writes_inside" => Some(TaskAct::WriteInside),
+            "copies_inside" => Some(TaskAct::CopyInside),
+            "step" => Some(TaskAct::Step),
+            "stands" => Some(TaskAct::Stand),
+            "tree" => Some(TaskAct::Tree),
+            _ => None,
         }
     }
 }
@@ -238,12 +225,12 @@ pub fn does<R: Wait>(
     requires { IsFrom task.old gates.now }
     ensures { IsFrom task.new gates.now }
 {
-    match act_of(line) {
-        Act::Call => {
+    match TaskAct::of(line) {
+        None => {
             make_call(task, rt, gates, turn, line);
             true
         }
-        act => {
+        Some(act) => {
             let mut said = Output::new(turn.scene.alloc);
             print_act(task, rt, gates, turn, act, &mut said);
             let (_, ends) = cut(line, ": ");

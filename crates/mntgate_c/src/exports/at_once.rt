@@ -3,11 +3,11 @@
 ghost use Rattle.std.specs.Prelude.{◌≡◌, true, OnErr};
 ghost use Rattle.gate_world.specs.declared.operations.Op.TheVariants.{RemountSb, WantWrite, Callback, Freeze, Thaw};
 ghost use Rattle.vfs_gates.specs.AtOnce.{BeginsAtOnce};
-ghost use Rattle.task_handles.specs.Codes.{answer_of, begun_at, holder_of};
+ghost use Rattle.mntgate_c.specs.Codes.{answer_of, begun_at, holder_of};
 
-use task_handles::codes::{Outcome, begun, holder};
-use task_handles::handles::TaskHandle;
-use task_handles::members::Member;
+use crate::codes::{Outcome, begun, holder};
+use crate::handles::TaskHandle;
+use crate::members::Member;
 
 /// Takes write access at a mount (`mnt_want_write`), up to a step that finds something in the way. Writes whether it is done or goes on;
 /// nothing, where it may not begin.

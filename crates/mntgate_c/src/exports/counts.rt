@@ -3,11 +3,11 @@
 ghost use Rattle.std.specs.Prelude.{◌≡◌, true, false};
 ghost use Rattle.gate_world.specs.declared.operations.Op.TheVariants.{Want, DropMount, ChangeMount, Start, End, DropWrite};
 ghost use Rattle.gate_steps.specs.call_events.Runs.{Performs};
-ghost use Rattle.task_handles.specs.Codes.{answer_of};
+ghost use Rattle.mntgate_c.specs.Codes.{answer_of};
 
-use task_handles::codes::code;
-use task_handles::handles::TaskHandle;
-use task_handles::members::Member;
+use crate::codes::code;
+use crate::handles::TaskHandle;
+use crate::members::Member;
 
 /// Takes an access at a mount, counted on a processor (`__mnt_want_write` that doesn't wait).
 #[unsafe(no_mangle)]

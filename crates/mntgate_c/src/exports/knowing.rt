@@ -6,7 +6,7 @@ ghost use Rattle.vfs_gates.specs.Held.{Rests};
 ghost use Rattle.vfs_gates.specs.TaskStates.{IsIdle, own_number, own_view};
 ghost use Rattle.vfs_gates.specs.Waits.{waited_at};
 
-use task_handles::handles::TaskHandle;
+use crate::handles::TaskHandle;
 
 /// Answers the task's own number.
 #[unsafe(no_mangle)]

@@ -6,15 +6,15 @@ ghost use Rattle.gate_world.specs.Configs.{IsWithin};
 ghost use Rattle.vfs_gates.specs.Ended.{HasAll, HasOpeningWords};
 ghost use Rattle.vfs_gates.specs.Held.{Rests};
 ghost use Rattle.vfs_gates.specs.Parts.{SplitOf};
-ghost use Rattle.task_handles.specs.Closings.{ClosedWith};
-ghost use Rattle.task_handles.specs.Codes.{answer_of};
-ghost use Rattle.task_handles.specs.Openings.{SplitIsRefused, config_of};
+ghost use Rattle.mntgate_c.specs.Closings.{ClosedWith};
+ghost use Rattle.mntgate_c.specs.Codes.{answer_of};
+ghost use Rattle.mntgate_c.specs.Openings.{SplitIsRefused, config_of};
 
+use crate::codes::code;
+use crate::events::WordRecord;
+use crate::handles::TaskHandle;
+use crate::openings::ConfigRecord;
 use std::alloc::Global;
-use task_handles::codes::code;
-use task_handles::events::WordRecord;
-use task_handles::handles::TaskHandle;
-use task_handles::openings::ConfigRecord;
 
 /// Opens gates, and gives the handle, which has none, the task that has all other numbers to give. Where it is refused the handle has
 /// none still.

@@ -9,17 +9,17 @@ ghost use Rattle.gate_world.specs.declared.work.Phase.{Phase as PhaseType};
 ghost use Rattle.gate_steps.specs.call_events.Runs.{OpUnderWay, ProgressMatches};
 ghost use Rattle.gate_steps.specs.call_events.Stepped.{Stepped};
 ghost use Rattle.vfs_gates.specs.TaskStates.{SeatedTask, refusal_at, IsIdle};
-ghost use Rattle.task_handles.specs.Codes.{answer_of, hook_answer, hook_at, progress_at};
-ghost use Rattle.task_handles.specs.Events.{step_at};
-ghost use Rattle.task_handles.specs.Operations.{op_at};
-ghost use Rattle.task_handles.specs.Runs.{Runs};
+ghost use Rattle.mntgate_c.specs.Codes.{answer_of, hook_answer, hook_at, progress_at};
+ghost use Rattle.mntgate_c.specs.Events.{step_at};
+ghost use Rattle.mntgate_c.specs.Operations.{op_at};
+ghost use Rattle.mntgate_c.specs.Runs.{Runs};
 
-use task_handles::codes::{Outcome, answer, code, hook_code, tell};
-use task_handles::events::{StepRecord, record};
-use task_handles::handles::TaskHandle;
-use task_handles::members::Member;
-use task_handles::operations::OpRecord;
-use task_handles::runs::run;
+use crate::codes::{Outcome, answer, code, hook_code, tell};
+use crate::events::{StepRecord, record};
+use crate::handles::TaskHandle;
+use crate::members::Member;
+use crate::operations::OpRecord;
+use crate::runs::run;
 
 /// Begins an operation; no word is changed. EINVAL where there is none of that kind.
 #[unsafe(no_mangle)]

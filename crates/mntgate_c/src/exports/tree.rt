@@ -6,15 +6,15 @@ ghost use Rattle.gate_world.specs.declared.views.Snapshot.{Snapshot as Taken};
 ghost use Rattle.gated_tree.specs.Trees.{node_at};
 ghost use Rattle.gate_steps.specs.call_events.Runs.{Performs, Replies, node_of};
 ghost use Rattle.vfs_gates.specs.TaskStates.{own_view};
-ghost use Rattle.task_handles.specs.Codes.{answer_of, answer_with};
-ghost use Rattle.task_handles.specs.Operations.{kind_of};
-ghost use Rattle.task_handles.specs.Trees.{node_told};
+ghost use Rattle.mntgate_c.specs.Codes.{answer_of, answer_with};
+ghost use Rattle.mntgate_c.specs.Operations.{kind_of};
+ghost use Rattle.mntgate_c.specs.Trees.{node_told};
 
-use task_handles::codes::{code, made};
-use task_handles::handles::TaskHandle;
-use task_handles::members::Member;
-use task_handles::operations::kind;
-use task_handles::trees::NodeRecord;
+use crate::codes::{code, made};
+use crate::handles::TaskHandle;
+use crate::members::Member;
+use crate::operations::kind;
+use crate::trees::NodeRecord;
 
 /// Makes an empty file or directory in a directory, and writes the number of its node (`vfs_create`, `vfs_mkdir`). Where it is refused
 /// nothing is written.

@@ -10,14 +10,14 @@ use Rattle.gate_schedules.proofs.levels.Worlds.{IsEventAt, IsOfLevel, found_leve
 use Rattle.gate_world.specs.{Configs.{IsWithin}, Fits.{Fits, GraceFits, PhaseFits}, Holdings.{Holdings}, LevelRuns.{level_in}}
 use Rattle.gate_world.specs.Levels.{inside, level_added_after, level_added_by, level_role_of, level_taken_after, level_taken_by, sync_role_of}
 use Rattle.gate_world.specs.{Rules.{AtLevel, Fitting, Holds, IsGood, Moves, StepKeeps, SyncAt, ViewFits}, Shown.{shown}}
-use Rattle.gate_world.specs.{Views.{actions_after, added_after, held_of, phase_after, taken_after, view_after}, Worlds.{World}}
+use Rattle.gate_world.specs.{Views.{actions_after, held_of, phase_after, view_after}, Worlds.{World}}
 use Rattle.gate_world.specs.declared.{config.Config.{Config}, views.View.{View}, work.Phase.{Phase}}
 use Rattle.freeze_laws.proofs.levels.Operations.{callbacks_are_there}
 use Rattle.freeze_laws.specs.levels.Events.{SyncLevel, SyncLevelHolds, SyncStep}
 use Rattle.freeze_laws.specs.levels.Operations.{CallbackIsThere, HoldsOfNext, KnowsCallback, by_next, callback_role, left_by, put_at, value_at}
 use Rattle.freeze_laws.specs.levels.Roles.{Out as IsApart}
-use Rattle.percpu_rwsem.specs.{Callbacks.{at_callback, callback_after, callback_next, called_back}, declared.callbacks.Callback.{Callback}}
-use Rattle.percpu_rwsem.specs.declared.{callbacks.CallbackStep.{CallbackStep}, transitions.TransitionNext.{TransitionNext}}
+use Rattle.percpu_rwsem.specs.{Callbacks.{at_callback, callback_after, callback_next}, declared.callbacks.Callback.{Callback}}
+use Rattle.percpu_rwsem.specs.declared.{callbacks.CallbackStep.{CallbackStep}}
 use Rattle.std.proofs.{Common.{ap, arith, inl, inr, refl, subst, sym, ℕ, ◌<◌, ◌∙◌, ◌≡◌, ◌≤◌}, lemmas.Bool.Decides.{eqb_tells}}
 use Rattle.std.specs.Prelude.{None, Some, if◌then◌else◌}
 
@@ -41,12 +41,6 @@ inside_same l b s n = grind arith
 
 -- its event counts nowhere
 module _ (b : Callback) (counted : ℕ → ℕ → ℕ) where
-  added_same : (s : CallbackStep) → added_after (callback_next b s).0 (callback_next b s).1 counted ≡ counted
-  added_same s = grind arith
-
-  taken_same : (s : CallbackStep) → taken_after (callback_next b s).0 (callback_next b s).1 counted ≡ counted
-  taken_same s = grind arith
-
   level_added_same : (s : CallbackStep) → level_added_after (callback_next b s).0 (callback_next b s).1 counted ≡ counted
   level_added_same s = grind arith
 
@@ -72,10 +66,6 @@ after_outside other = refl
 -- what stays of a callback from event to event: its level, and that its grace period is among all tasks
 abbrev SameCallback : ℕ → ℕ → Callback → Type 0
 SameCallback level tasks x = (x.level ≡ level) × (x.tasks ≡ tasks) × GraceFits tasks x.step
-
--- an event of its own transition
-call_stays : (b : Callback) (n : TransitionNext) → HoldsOfNext (SameCallback b.level b.tasks) (called_back b n)
-call_stays b n = grind arith
 
 -- so each event leaves it
 stays_after : (b : Callback) → 0 < b.tasks → (s : CallbackStep) → GraceFits b.tasks s → (found : ℕ) →

@@ -1,13 +1,12 @@
 -- Traces of a callback.
 use Rattle.std.proofs.Common.{◌≡◌, ℕ, refl, sym, subst, arith}
-use Rattle.std.specs.Prelude.{List, [], ◌∷◌}
-use Rattle.access_model.specs.{Replies.map_next, declared.{actions.Action.Action, replies.Next.Next}}
+use Rattle.std.specs.Prelude.{List, []}
+use Rattle.access_model.specs.{declared.{actions.Action.Action}}
 use Rattle.cpu_words.specs.Hooks.{HookAnswer}
-use Rattle.percpu_rwsem.specs.{Callbacks.{callback_looked}, Graces.{passed_on}}
-use Rattle.percpu_rwsem.specs.declared.{callbacks.{Callback.Callback, CallbackStep.CallbackStep}, grace.Grace.Grace}
+use Rattle.percpu_rwsem.specs.declared.{callbacks.{Callback.Callback, CallbackStep.CallbackStep}}
 use Rattle.percpu_rwsem.specs.declared.transitions.Transition.{Transition}
-use Rattle.gate_world.specs.{traces.Found.transitions_made, Views.with_hook, declared.{config.Config.Config, operations.Op.Op, views.Traced.Traced, work.Phase.Phase}}
-use Rattle.gate_schedules.proofs.traces.TraceInvariant.{InvariantAfter, InvariantAfterStep, IsInductive, event_at}
+use Rattle.gate_world.specs.{traces.Found.transitions_made, declared.{config.Config.Config, operations.Op.Op, views.Traced.Traced, work.Phase.Phase}}
+use Rattle.gate_schedules.proofs.traces.TraceInvariant.{InvariantAfterStep, IsInductive}
 
 -- a callback of this level over so many tasks, at a step
 abbrev pub callback_on : ℕ → ℕ → CallbackStep → Callback
@@ -25,19 +24,9 @@ CallbackAt i tasks trace phase added =
     (s : CallbackStep) × (phase ≡ Phase.Callbacks (callback_on i tasks s)) × (added ≡ []) × (transitions_made i trace ≡ made_before s)
 
 module _ (c : Config) (i tasks value : ℕ) (hook : HookAnswer) (earlier : List Traced) (added : List Action) (none : added ≡ []) where
-  -- what the trace says by what comes after an event of a step
-  abbrev SaysNow : CallbackStep → Next Callback → Type 0
-  SaysNow s n =
-      InvariantAfter (CallbackAt i tasks) c (Op.Callback i) (with_hook (event_at (Phase.Callbacks (callback_on i tasks s)) value hook) hook ∷ earlier)
-      (map_next Phase.Callbacks n) added
-
   -- what the trace says after the event of a step
   abbrev TraceAfterStep : CallbackStep → Type 0
   TraceAfterStep s = InvariantAfterStep (CallbackAt i tasks) c (Op.Callback i) (Phase.Callbacks (callback_on i tasks s)) value hook earlier added
-
-  passed : (g : Grace) → transitions_made i earlier ≡ 1 →
-      SaysNow (CallbackStep.AwaitsSections g) (callback_looked (callback_on i tasks (CallbackStep.AwaitsSections g)) (passed_on g))
-  passed g h = grind arith
 
   callback_event : (s : CallbackStep) → transitions_made i earlier ≡ made_before s → TraceAfterStep s
   callback_event s h = grind arith

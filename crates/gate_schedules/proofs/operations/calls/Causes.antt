@@ -1,7 +1,7 @@
 -- The causes of the refusals of the calls at the tree, along a schedule: a snapshot keeps one, as a thaw does, and no other call does.
 use Rattle.std.proofs.{Common.{◌≡◌, ℕ, arith}, lemmas.Grind.{common_steps}}
-use Rattle.std.specs.Prelude.{Option, Some, Err, List, ◌∷◌, Bool, true, false, if◌then◌else◌}
-use Rattle.access_model.specs.{Replies.map_next, declared.{errors.GateError.GateError, replies.Next.Next}}
+use Rattle.std.specs.Prelude.{Option, Some, List, ◌∷◌}
+use Rattle.access_model.specs.{Replies.map_next, declared.{replies.Next.Next}}
 use Rattle.cpu_words.specs.Hooks.{HookAnswer}
 use Rattle.node_words.specs.Phases.{clear_after}
 use Rattle.gated_tree.specs.Phases.{create_after, remove_after, grow_after, move_after, mark_after, open_after, at_snapshot}
@@ -23,24 +23,10 @@ tree_stays c t w next earlier x e h = tt
 
 -- the task that steps: what its next phase says, in the world after the event
 module _ (c : Config) (t : ℕ) (w next : World) (earlier : List World) where
-  -- what comes of a snapshot says
-  abbrev CauseAfter : Next Snapshot → Type 0
-  CauseAfter n = CauseOf c t next (w ∷ earlier) (phase_after (map_next Phase.Trees (map_next TreePhase.Snapshot n)))
-
   -- a call that keeps no cause keeps none
   no_cause : {P : Type 0} (to : P → TreePhase) → ((p : P) → TreeCause c t next (w ∷ earlier) (to p)) → (n : Next P) →
       CauseOf c t next (w ∷ earlier) (phase_after (map_next Phase.Trees (map_next to n)))
   no_cause to none n = grind arith
-
-  either : (b : Bool) (n m : Next Snapshot) → CauseAfter n → CauseAfter m → CauseAfter (if b then n else m)
-  either true n m h k = h
-  either false n m h k = k
-
-  -- where the stage was found other than 4, it was so when the snapshot looked
-  stage_own : (x : Snapshot) → (w.views t).phase ≡ Some (Phase.Trees (TreePhase.Snapshot (at_snapshot x SnapshotStep.LoadsStage))) → (w.words.stage ≡ 4 → ⊥) →
-      (next.views t).phase ≡ Some (Phase.Trees (TreePhase.Snapshot (at_snapshot x (SnapshotStep.Releases (Err GateError.Invalid))))) →
-      SnapshotCause c t next (w ∷ earlier) (SnapshotStep.Releases (Err GateError.Invalid))
-  stage_own x e other e' = grind arith
 
   snapshot_own : (hook : HookAnswer) (x : Snapshot) (s : SnapshotStep) → (w.views t).phase ≡ Some (Phase.Trees (TreePhase.Snapshot (at_snapshot x s))) →
       let comes : Option Phase = phase_after

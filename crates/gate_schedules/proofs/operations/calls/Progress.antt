@@ -1,14 +1,14 @@
 -- The calls at the tree run out, a snapshot where it finds `umount` free.
-use Rattle.std.proofs.{Common.{◌≡◌, ℕ, ◌+◌, ◌<◌, Bool, true, false, sym, inl, inr, arith, true≢false}, lemmas.Grind.{common_steps}}
+use Rattle.std.proofs.{Common.{◌≡◌, ℕ, ◌+◌, ◌<◌, true, sym, inl, inr, arith, true≢false}, lemmas.Grind.{common_steps}}
 use Rattle.std.proofs.lemmas.Bool.{cases_Bool, ltb-true, Decides.eqb_tells}
 use Rattle.std.specs.Prelude.{◌-◌, nat_lt, is_some, option_map, Option, Some, None, Result, Ok, Err}
 use Rattle.access_model.specs.declared.{errors.GateError.GateError}
 use Rattle.cpu_words.specs.{Hooks.HookAnswer, Touches.found_by, Words.{Words, read}}
 use Rattle.node_words.specs.{Nodes.{word_of, unpacked, as_file, as_directory}, Phases.{after_look, clear_after}}
 use Rattle.node_words.specs.declared.{marks.ClearMarks.{ClearMarks}, nodes.NodeWord.{NodeWord}}
-use Rattle.gated_tree.specs.Phases.{next as tree_next, after as tree_after, create_next, create_after, create_looked}
+use Rattle.gated_tree.specs.Phases.{next as tree_next, after as tree_after, create_next, create_after}
 use Rattle.gated_tree.specs.Phases.{remove_next, remove_after, grow_next, grow_after, move_next, move_after, mark_next, mark_after, open_next, open_after}
-use Rattle.gated_tree.specs.Phases.{snapshot_next, snapshot_after, snapshot_locked_out}
+use Rattle.gated_tree.specs.Phases.{snapshot_next, snapshot_after}
 use Rattle.gated_tree.specs.declared.changes.{Create.Create, CreateStep.CreateStep, MoveStep.MoveStep, MoveTo.MoveTo, Remove.Remove, RemoveStep.RemoveStep}
 use Rattle.gated_tree.specs.declared.{growth.{Grow.{Grow}, GrowStep.{GrowStep}}, marks.{Mark.{Mark}, MarkStep.{MarkStep}}}
 use Rattle.gated_tree.specs.declared.{opens.{OpenFile.{OpenFile}, OpenStep.{OpenStep}}, phases.TreePhase.{TreePhase}}
@@ -31,11 +31,6 @@ module _ {P : Type 0} (rank_of : P → ℕ) (free : P → Type 0) (n : ℕ) (aga
 
 module _ (w : Words) where
   module _ (c : Create) where
-    create_looked_falls : (node : ℕ) (o : Option NodeWord) → is_some o ≡ true →
-        RankDecreases (λ (y : Create). create_rank y.nodes y.step) (λ (y : Create). Unit {0}) (create_rank c.nodes (CreateStep.LoadsNode node))
-        (create_looked c node o)
-    create_looked_falls node o h = grind arith
-
     create_falls : (s : CreateStep) → WordIsValid (create_next c s).0 (read w (create_next c s).0) →
         RankDecreases (λ (y : Create). create_rank y.nodes y.step) (λ (y : Create). Unit {0}) (create_rank c.nodes s)
         (create_after c s (found_by (create_next c s).1 (read w (create_next c s).0))).0
@@ -98,13 +93,6 @@ module _ (w : Words) where
       RankDecreases (λ (y : OpenFile). open_rank y.step) (λ (y : OpenFile). Unit {0}) (open_rank s)
       (open_after o s (found_by (open_next o s).1 (read w (open_next o s).0))).0
   open_falls o s h = grind (arith, common_steps)
-
-  -- a snapshot that finds `umount` free
-  locked_falls : (after : Words) (x : Snapshot) → (x.wait ≡ true → ⊥) → (b : Bool) → x.wait ≡ b →
-      RankDecreases (λ (y : Snapshot). snapshot_rank y.nodes y.step) (λ (y : Snapshot). SnapshotIsUnblocked after y.step y.wait)
-      (snapshot_rank x.nodes SnapshotStep.Locks) (snapshot_locked_out x b)
-  locked_falls after x never true e = absurd (never e)
-  locked_falls after x never false e = tt
 
   snapshot_falls : (after : Words) (x : Snapshot) (s : SnapshotStep) → SnapshotIsUnblocked w s x.wait →
       WordIsValid (snapshot_next x s).0 (read w (snapshot_next x s).0) →

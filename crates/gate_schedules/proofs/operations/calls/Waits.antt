@@ -4,8 +4,8 @@ use Rattle.std.specs.Prelude.{Some, None, Ok, Err, List, Option, Result, ◌==�
 use Rattle.access_model.specs.{Replies.map_next, declared.{errors.GateError.GateError, replies.Next.Next}}
 use Rattle.cpu_words.specs.Hooks.{HookAnswer}
 use Rattle.node_words.specs.{Nodes.{word_of, unpacked, file_in, node_after}, Phases.{clear_after, after_look, clears_at}}
-use Rattle.node_words.specs.declared.{marks.ClearMarks.{ClearMarks}, nodes.NodeWord.{NodeWord}}
-use Rattle.gated_tree.specs.Phases.{create_after, create_looked, remove_after, grow_after, move_after, mark_after, open_after}
+use Rattle.node_words.specs.declared.{marks.ClearMarks.{ClearMarks}}
+use Rattle.gated_tree.specs.Phases.{create_after, remove_after, grow_after, move_after, mark_after, open_after}
 use Rattle.gated_tree.specs.Phases.{snapshot_locked_out, at_snapshot, node_step}
 use Rattle.gated_tree.specs.declared.changes.{Create.Create, CreateStep.CreateStep, MoveStep.MoveStep, MoveTo.MoveTo, Remove.Remove, RemoveStep.RemoveStep}
 use Rattle.gated_tree.specs.declared.{growth.{Grow.{Grow}, GrowStep.{GrowStep}}, marks.{Mark.{Mark}, MarkStep.{MarkStep}}}
@@ -30,10 +30,6 @@ either false n m h k = k
 
 look_goes : {A : Type 0} {P : Type 0} (again : P) (to : A → P) (r : Option (Result A GateError)) → IsNoWait (after_look again to r)
 look_goes again to r = grind arith
-
--- or it has looked at a node
-create_seen : (x : Create) (node : ℕ) (found : Option NodeWord) → IsNoWait (create_looked x node found)
-create_seen x node found = grind arith
 
 -- so it never waits
 create_goes_on : (x : Create) (s : CreateStep) (found : ℕ) → IsNoWait (create_after x s found).0

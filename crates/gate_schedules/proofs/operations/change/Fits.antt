@@ -1,8 +1,8 @@
 -- What fits after an event of a change.
-use Rattle.std.proofs.{Common.{◌≡◌, ℕ, ◌<◌, Bool, true, false, arith}}
-use Rattle.access_model.specs.{Replies.map_next, declared.{replies.Next.Next}}
-use Rattle.cpu_words.specs.{Names.IsWord, declared.sums.Sum.Sum}
-use Rattle.mount_counts.specs.Phases.{step_between, change_summed, change_next, change_after, next}
+use Rattle.std.proofs.{Common.{ℕ, ◌<◌, arith}}
+use Rattle.access_model.specs.{Replies.map_next}
+use Rattle.cpu_words.specs.{Names.IsWord}
+use Rattle.mount_counts.specs.Phases.{change_next, change_after}
 use Rattle.mount_counts.specs.declared.phases.{Change.Change, ChangeStep.ChangeStep, MountPhase.MountPhase}
 use Rattle.gate_world.specs.{Configs.{IsWithin, extents_of}, Fits.{SumFits, MountFits, Fits, ActionFits}, Holdings.{Holdings, held_after}, Views.phase_after}
 use Rattle.gate_world.specs.declared.{config.Config.Config, work.Phase.Phase}
@@ -14,19 +14,6 @@ module _ (c : Config) (within : IsWithin c) (t : ℕ) (held : Holdings) where
   pub change_acts : (x : Change) (step : ChangeStep) (found : ℕ) → ActionFits held (change_after x step found).1
   change_acts x ChangeStep.Locks found = tt
   change_acts x step found = tt
-
-  between : (wanted found : Bool) → SumFits c (step_between wanted found)
-  between true true = tt
-  between true false = tt
-  between false true = tt
-  between false false = tt
-
-  summed : (x : Change) (sum : Sum) (word : ℕ) → x.processors ≡ c.processors → SumFits c (change_summed x sum word)
-  summed x sum word same = grind arith
-
-  -- what comes after an event fits
-  abbrev NextFits : Next Change → Type 0
-  NextFits next = Fits c t held (phase_after (map_next Phase.Mounts (map_next MountPhase.Change next)))
 
   -- what comes after each event of a change fits
   pub change_goes : (x : Change) (step : ChangeStep) (found : ℕ) → MountFits c t held (MountPhase.Change record x { step = step }) →

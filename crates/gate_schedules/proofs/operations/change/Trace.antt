@@ -1,7 +1,7 @@
 -- Traces of a change of a mount's read-only flag.
 use Rattle.std.proofs.Common.{◌≡◌, ℕ, suc, ◌+◌, ◌<◌, ◌≤◌, Bool, true, false, refl, sym, ◌∙◌, subst, inl, inr, add-one, arith}
 use Rattle.std.proofs.lemmas.Bool.{eq-eqb, ltb-true, ltb-false, cases_Bool, Decides.eqb_tells}
-use Rattle.std.specs.Prelude.{◌==◌, nat_lt, Result, Err, List, [], ◌∷◌, length}
+use Rattle.std.specs.Prelude.{nat_lt, Result, Err, List, [], ◌∷◌, length}
 use Rattle.access_model.specs.declared.{actions.Action.Action, errors.GateError.GateError, replies.Reply.Reply}
 use Rattle.cpu_words.specs.{Hooks.HookAnswer, Touches.wrap_add, declared.sums.Sum.Sum}
 use Rattle.mount_counts.specs.{Phases.{has_flag, step_between}, declared.phases.{ChangeStep.ChangeStep, MountPhase.MountPhase}}
@@ -108,10 +108,6 @@ module _ (c : Config) (lim : IsWithin c) (t m : ℕ) (ro : Bool) (value : ℕ) (
   lock_leaves : (wait : Bool) (answer : Result Reply GateError) → Answers c m ro wait answer earlier added →
       Answers c m ro wait answer (longer wait (ChangeStep.Releases answer)) added
   lock_leaves wait answer h = grind arith
-
-  lock_taken : (wait : Bool) → ChangeSays c m ro wait ChangeStep.Locks earlier added → (value == 0) ≡ false → TraceAfterStep wait ChangeStep.Locks
-  lock_taken true h f = rw f ((ChangeStep.Locks, refl, (λ q. absurd (cc), (rw f h.1.0, h.1.1))), (refl, rw f h.1.0))
-  lock_taken false h f = rw f ((h.1.1.0, (refl, rw f refl)), omega (arith, h.0 refl))
 
   locks : (wait : Bool) → ChangeSays c m ro wait ChangeStep.Locks earlier added → TraceAfterStep wait ChangeStep.Locks
   locks wait h = grind arith

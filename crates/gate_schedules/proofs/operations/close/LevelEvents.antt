@@ -93,9 +93,6 @@ module _ (c : Config) (w : World) (good : IsGood c w) (t : ℕ) (lt : t < c.task
     abbrev first_world : World
     first_world = rephased w t (Some q)
 
-    first_phase : (first_world.views t).phase ≡ Some q
-    first_phase = ap (λ (u : View). u.phase) (update_at w.views t (at_phase (w.views t) (Some q)))
-
     -- where the rule holds of that world, the law of the level's event is the law of the event after which the longer operation goes on
     abbrev PlainLaw : Type 0
     PlainLaw = IsGood c first_world → (first_world.views t).phase ≡ Some q →

@@ -1,8 +1,8 @@
 -- The closing of a level leaves the words that others are blocked by, and ends only by passing the level.
-use Rattle.std.{proofs.Common.{◌≡◌, ℕ, arith}, specs.Prelude.{Option, Some, None}}
+use Rattle.std.{proofs.Common.{◌≡◌, ℕ, arith}, specs.Prelude.{Option, Some}}
 use Rattle.access_model.specs.declared.{actions.Action.Action, replies.Next.Next}
 use Rattle.cpu_words.specs.{Words.Words}
-use Rattle.percpu_rwsem.specs.{Writers.{down_write_next, down_write_after, sections_awaited}, declared.grace.GraceNext.{GraceNext}}
+use Rattle.percpu_rwsem.specs.{Writers.{down_write_next, down_write_after}}
 use Rattle.percpu_rwsem.specs.declared.writers.{DownWrite.DownWrite, DownWriteStep.DownWriteStep}
 use Rattle.gate_schedules.proofs.operations.deadlocks.{RankDecreases.after_event, SectionExit.StaysBeside}
 
@@ -11,9 +11,6 @@ abbrev pub StaysAtLevel : DownWrite → Next DownWrite → Option Action → Typ
 StaysAtLevel d (Next.Go next) action = next.level ≡ d.level
 StaysAtLevel d (Next.Wait next) action = next.level ≡ d.level
 StaysAtLevel d (Next.Done answer) action = action ≡ Some (Action.Pass d.level)
-
-sections_stay : (d : DownWrite) (next : GraceNext) → StaysAtLevel d (sections_awaited d next) None
-sections_stay d next = grind arith
 
 pub down_stays : (d : DownWrite) (s : DownWriteStep) (found : ℕ) →
     StaysAtLevel d (down_write_after d s found).0 (down_write_after d s found).1

@@ -36,7 +36,7 @@ use Rattle.gate_schedules.specs.operations.Progress.{is_admitted, is_first_lock,
 use Rattle.freeze_laws.specs.stages.Roles.{KnowsStage, bit}
 use Rattle.std.proofs.{Common.{Bool, ap, arith, false, inl, inr, refl, subst, sym, true, true≢false, ℕ, ◌<◌, ◌∙◌, ◌≡◌, ◌≤◌}, lemmas.Bool.and_parts}
 use Rattle.std.proofs.lemmas.Bool.{cases_Bool, eqb-true, ne_eqb, Decides.eqb_tells}
-use Rattle.std.specs.Prelude.{Err, Ok, Option, Some, if◌then◌else◌, nat_lt, ◌&&◌, ◌+◌, ◌==◌}
+use Rattle.std.specs.Prelude.{Option, Some, if◌then◌else◌, nat_lt, ◌&&◌, ◌+◌, ◌==◌}
 
 far_same : (w next : Words) (s : FreezeStep) → 2 ≤ next_level w s → next_level w s ≤ 3 → next_level next s ≡ next_level w s
 far_same w next s two three = grind arith
@@ -226,11 +226,6 @@ last_goes x word packed last =
     let kind : kind_in word ≡ 1 = (packed.marked gone).0 in
     let some : (opens_in word == 0) ≡ false = ne_eqb (opens_in word) 0 (λ z. omega (arith, z, one)) in
     rw (packed_unpacks word packed, kind, some, last) refl
-
--- a hook agrees
-abbrev agrees : HookAnswer → Bool
-agrees (Ok answer) = true
-agrees (Err code) = false
 
 module _ (c : Config) (w : World) (good : IsGood c w) (t : ℕ) (lt : t < c.tasks) (hook : HookAnswer) where
   abbrev after : Phase → World

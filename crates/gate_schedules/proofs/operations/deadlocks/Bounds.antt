@@ -1,16 +1,14 @@
 -- The rank of a phase that fits is small.
 use Rattle.std.proofs.Common.{◌≡◌, ℕ, zero, suc, ◌+◌, ◌*◌, ◌<◌, ◌≤◌, Bool, true, false, refl, sym, ap, ◌∙◌, inl, inr, arith}
-use Rattle.std.proofs.{Math.Nat.{suc-mul, zero-mul, le-max_left, le-max_right, max-le}, lemmas.Bool.{cases_lt, Decides.eqb_tells}}
+use Rattle.std.proofs.{Math.Nat.{suc-mul, zero-mul, le-max_left, le-max_right, max-le}, lemmas.Bool.{cases_lt}}
 use Rattle.std.specs.Prelude.{◌-◌}
 use Rattle.cpu_words.specs.{Words.Words}
 use Rattle.gated_tree.specs.declared.{phases.TreePhase.TreePhase, snapshots.SnapshotStep.SnapshotStep}
 use Rattle.mount_counts.specs.declared.{remounts.RemountStep.RemountStep}
-use Rattle.percpu_rwsem.specs.declared.{readers.DownReadStep.DownReadStep}
-use Rattle.freeze_levels.specs.declared.{freezes.{Freeze.Freeze}}
 use Rattle.gate_world.specs.{Holdings.Holdings, Configs.IsWithin, Fits.{PhaseFits}, Remounts.RemountFits}
 use Rattle.gate_world.specs.declared.{config.Config.Config, work.Phase.Phase}
 use Rattle.gate_schedules.proofs.operations.remount.Progress.{loop_step, size_small}
-use Rattle.gate_schedules.specs.operations.Ranks.{rank, loop_rank, remount_rank, read_rank, closing_rank, closed_rank}
+use Rattle.gate_schedules.specs.operations.Ranks.{rank, loop_rank, remount_rank}
 use Rattle.gate_schedules.specs.operations.Ranks.{snapshot_rank, most_in_loop, most_beside, most_alone, most_settled}
 
 loop_mono : (p a b : ℕ) → a ≤ b → loop_rank p a ≤ loop_rank p b
@@ -33,19 +31,6 @@ module _ (c : Config) (lim : IsWithin c) where
   remount_small p mounts nodes (RemountStep.GivesUp m held) fits e = omega (arith, size_small held)
   remount_small p mounts nodes (RemountStep.ClearsMark n) fits e = omega arith
   remount_small p mounts nodes s fits e = omega arith
-
-  read_small : (wait : Bool) (s : DownReadStep) → read_rank wait s < 8
-  read_small true DownReadStep.EntersSection = omega arith
-  read_small false DownReadStep.EntersSection = omega arith
-  read_small true s = omega arith
-  read_small false s = omega arith
-
-  closed_small : (x : Freeze) (level : ℕ) → closed_rank x level ≤ closing_rank x + closing_rank x + x.nodes + 13
-  closed_small x level =
-      elim (eqb_tells level 1) [
-        | inl z ↦ rw z.0 (omega arith)
-        | inr z ↦ elim (eqb_tells level 2) [ inl y ↦ rw (z.0, y.0) (omega arith) | inr y ↦ rw (z.0, y.0) (omega arith) ]
-      ]
 
 snapshot_small : (n : ℕ) (s : SnapshotStep) → snapshot_rank n s < n + n + 7
 snapshot_small n s = grind arith

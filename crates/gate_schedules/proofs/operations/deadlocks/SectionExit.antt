@@ -6,8 +6,7 @@ use Rattle.finite_sums.proofs.Totals.{total_updated, total_place, HasPlace}
 use Rattle.access_model.specs.{declared.replies.Next.{Next, TheVariants.{Go, Wait, Done}}}
 use Rattle.cpu_words.specs.{Hooks.HookAnswer, Words.{Words}}
 use Rattle.percpu_rwsem.specs.{Readers.{down_read_next}}
-use Rattle.percpu_rwsem.specs.declared.readers.{DownRead.DownRead, DownReadStep.{DownReadStep, TheVariants.{EntersSection}}}
-use Rattle.freeze_laws.specs.levels.Operations.{down_read_inside}
+use Rattle.percpu_rwsem.specs.declared.readers.{DownRead.DownRead, DownReadStep.{DownReadStep}}
 use Rattle.composite_ops.specs.{declared.write_access.phases.WritePhase.TheVariants.Takes}
 use Rattle.composite_ops.specs.{declared.file_closes.phases.ClosePhase.TheVariants.Enters as EntersLevel}
 use Rattle.gate_world.specs.{Configs.IsWithin, traces.TraceStates.{ReadIsValid}, Levels.inside, Rules.IsGood, Views.{phase_after, view_after}, Work.next_of}
@@ -49,11 +48,6 @@ read_beside w r s = grind arith
 
 pub phase_beside : (w : Words) (phase : Phase) (hook : HookAnswer) → inside (Some phase) ≡ 1 → StaysBeside w (words_after w phase hook)
 phase_beside w phase hook h = grind arith
-
--- a down-read has few steps inside its section
-read_small : (s : DownReadStep) → down_read_inside s ≡ 1 → read_rank false s < 5
-read_small EntersSection h = absurd (omega (arith, h))
-read_small s h = omega arith
 
 leave_small : (phase : Phase) → inside (Some phase) ≡ 1 → leave_rank phase < 5
 leave_small phase h = grind arith

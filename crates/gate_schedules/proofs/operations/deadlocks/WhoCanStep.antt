@@ -1,8 +1,7 @@
 -- Who can move: a task whose way is free, who has HOLD set at a mount, and an owner of `umount` that is no freeze; and what the rule says of who
 -- holds a level.
-use Rattle.gate_world.specs.Roles.{snapshot_owns, thaw_owns}
 use Rattle.gate_world.specs.{Configs.IsWithin, Fits.{Fits, PhaseFits}, Levels.{at_level, inside, is_frozen_whole, level_role_of, sync_role_of}}
-use Rattle.gate_world.specs.{Operations.{holds_none, holds_none_from}, Remounts.remount_owns}
+use Rattle.gate_world.specs.{Operations.{holds_none, holds_none_from}}
 use Rattle.gate_world.specs.{Rules.{AtLevel, AtMount, Fitting, IsGood, LevelHoldsIn, Owner, SyncAt, SyncHoldsIn, owns, role_of}}
 use Rattle.gate_world.specs.{Views.{held_of, holds_level}, Worlds.World, declared.{config.Config.Config, work.Phase.Phase}}
 use Rattle.std.proofs.lemmas.Grind.{common_steps}
@@ -12,29 +11,16 @@ use Rattle.cpu_words.specs.Words.{Words}
 use Rattle.cpu_words.specs.gate_counts.{Gates.{BarringHolds, admitted, below, counted, unread}, Levels.{Passed, barring_of, level_as_gate, processor_of}}
 use Rattle.finite_sums.proofs.Totals.{total_at, total_none}
 use Rattle.finite_sums.specs.Sums.{total}
-use Rattle.freeze_levels.specs.declared.{freezes.{Freeze.Freeze}, thaws.ThawStep.ThawStep}
+use Rattle.freeze_levels.specs.declared.{freezes.{Freeze.Freeze}}
 use Rattle.cpu_words.proofs.gate_counts.Events.{words_sum}
 use Rattle.gate_schedules.proofs.{levels.Counts.{held_bit}, frames.Owners.{hold_owns, owns_le, who_holds}}
 use Rattle.gate_schedules.proofs.operations.deadlocks.{Bounds.{beside_small, is_beside, rank_small}, RankDecreases.runs_out}
-use Rattle.gated_tree.specs.declared.{snapshots.SnapshotStep.SnapshotStep}
 use Rattle.freeze_laws.specs.levels.{Roles.{closed}}
-use Rattle.mount_counts.specs.{Phases.{has_flag}, Roles.{has_hold}, declared.remounts.RemountStep.{RemountStep}}
+use Rattle.mount_counts.specs.{Phases.{has_flag}, Roles.{has_hold}}
 use Rattle.mount_counts.proofs.laws.Bits.{hold_set}
 use Rattle.gate_schedules.specs.operations.{Progress.{EventsKeepRule, ReplyWithin}, Ranks.{most_alone, most_beside}, Unblocked.{HoldIsClear, IsUnblocked}}
-use Rattle.gate_schedules.specs.operations.Unblocked.{NothingCounted, PhaseEnds, RemountIsUnblocked, SnapshotIsUnblocked, ThawIsUnblocked}
+use Rattle.gate_schedules.specs.operations.Unblocked.{NothingCounted, PhaseEnds}
 use Rattle.std.specs.Prelude.{None, Option, Some, if◌then◌else◌, nat_lt, not, ◌&&◌, ◌-◌, ◌||◌, ◌⊎◌}
-
-remount_owner : (w : Words) (s : RemountStep) → remount_owns s ≡ 1 → RemountIsUnblocked w s
-remount_owner w RemountStep.Locks h = absurd (omega (arith, h))
-remount_owner w s h = tt
-
-thaw_owner : (w : Words) (s : ThawStep) → thaw_owns s ≡ 1 → ThawIsUnblocked w s
-thaw_owner w ThawStep.Locks h = absurd (omega (arith, h))
-thaw_owner w s h = tt
-
-snapshot_owner : (w : Words) (wait : Bool) (s : SnapshotStep) → snapshot_owns s ≡ 1 → SnapshotIsUnblocked w s wait
-snapshot_owner w wait SnapshotStep.Locks h = absurd (omega (arith, h))
-snapshot_owner w wait s h = tt
 
 pub owner_free : (c : Config) (w : Words) (phase : Phase) → owns (Some phase) ≡ 1 → IsUnblocked c w phase ⊎ ((x : Freeze) × (phase ≡ Phase.Freezes x))
 owner_free c w phase h = grind arith

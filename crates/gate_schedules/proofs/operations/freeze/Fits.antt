@@ -5,9 +5,9 @@ use Rattle.access_model.specs.{Holders.{nobody, held_by}, Replies.map_next}
 use Rattle.access_model.specs.declared.{actions.{Action.Action, Holder.Holder, Holders.Holders}, errors.GateError.GateError, replies.{Next.Next, Reply.Reply}}
 use Rattle.cpu_words.specs.{Hooks.HookAnswer, Names.IsWord, Sums.sum_taking, declared.sums.Sum.Sum}
 use Rattle.node_words.specs.{Phases.{clear_after}, declared.marks.ClearMarks.{ClearMarks}}
-use Rattle.percpu_rwsem.specs.{Graces.{passed_on, looked}, SyncWords.{unpack, on_enter, on_callback}, Transitions.{transition_after}}
-use Rattle.percpu_rwsem.specs.Writers.{down_write_next, down_write_after, at_down_write, enter_step, callback_step, sections_awaited, passed_awaited, sum_begun}
-use Rattle.percpu_rwsem.specs.Writers.{down_write_summed, up_write_next, up_write_after}
+use Rattle.percpu_rwsem.specs.{Graces.{looked}, SyncWords.{unpack, on_enter, on_callback}, Transitions.{transition_after}}
+use Rattle.percpu_rwsem.specs.Writers.{down_write_after, at_down_write, enter_step, callback_step, sections_awaited, passed_awaited, sum_begun}
+use Rattle.percpu_rwsem.specs.Writers.{down_write_summed, up_write_after}
 use Rattle.percpu_rwsem.specs.declared.{grace.Grace.Grace, sync_word.{GpState.GpState, SyncWord.SyncWord}}
 use Rattle.percpu_rwsem.specs.declared.transitions.{TransitionNext.TransitionNext}
 use Rattle.percpu_rwsem.specs.declared.writers.{DownWrite.DownWrite, DownWriteStep.DownWriteStep, UpWrite.UpWrite, UpWriteStep.UpWriteStep}
@@ -21,15 +21,6 @@ use Rattle.gate_world.specs.Configs.{IsWithin, extents_of}
 use Rattle.gate_world.specs.{Fits.{DownWriteStepFits, DownWriteFits, UpWriteFits, FreezeFits, PhaseFits, Fits, ActionFits}, Holdings.{Holdings, held_after}}
 use Rattle.gate_world.specs.{Operations.holds_none, Views.phase_after, declared.{config.Config.Config, work.Phase.Phase}}
 use Rattle.gate_schedules.proofs.frames.{Cases.both, OperationLaws.by_bool}
-
--- the word of each event of a down-write is there
-down_write_word : (c : Config) (d : DownWrite) (s : DownWriteStep) → 1 ≤ d.level → d.level ≤ 3 → DownWriteStepFits c s →
-    IsWord (extents_of c) (down_write_next d s).0
-down_write_word c d s l1 l3 f = grind arith
-
--- and of each event of an up-write
-pub up_write_word : (c : Config) (u : UpWrite) (s : UpWriteStep) → 1 ≤ u.level → u.level ≤ 3 → IsWord (extents_of c) (up_write_next u s).0
-up_write_word c u s l1 l3 = grind arith
 
 -- so it is of each event of a freeze
 pub freeze_word : (c : Config) (x : Freeze) (s : FreezeStep) (hook : HookAnswer) → FreezeFits c x.holder s →
@@ -68,9 +59,6 @@ module _ (c : Config) (within : IsWithin c) where
     -- what comes after an event of a down-write fits
     abbrev Goes : Next DownWrite → Type 0
     Goes n = HoldsOfNext (DownWriteFits c) n
-
-    passed_goes : (g : Grace) → g.tasks ≡ c.tasks → Goes (sections_awaited d (passed_on g))
-    passed_goes g all = grind arith
 
     looked_goes : (g : Grace) (found : ℕ) → g.tasks ≡ c.tasks → g.task < c.tasks → Goes (sections_awaited d (looked g found))
     looked_goes g found all more = grind arith

@@ -30,9 +30,6 @@ module _ (w : Words) (d : DownWrite) where
 up_sections : (w : Words) (u : UpWrite) (s : UpWriteStep) → (after_event w (up_write_next u s)).section ≡ w.section
 up_sections w u s = grind arith
 
-none_left : (c : Config) (w : Words) (i : ℕ) → 4 ≤ i → i ≤ 3 → NothingCounted c w i
-none_left c w i low high = absurd (omega (arith, low, high))
-
 -- what comes after an event of a freeze, with these words
 abbrev FreezeFalls : Config → Words → ℕ → Next Freeze → Type 0
 FreezeFalls c after n next = RankDecreases (λ (y : Freeze). freeze_rank after y y.step) (λ (y : Freeze). FreezeIsUnblocked c after y.step) n next

@@ -1,5 +1,5 @@
 -- Each event of a down-read, of an up-read and of a callback is one of each level's kinds of event.
-use Rattle.access_model.specs.{Replies.map_next, declared.replies.Next.TheVariants.Go}
+use Rattle.access_model.specs.{Replies.map_next}
 use Rattle.std.proofs.{Common.{arith, ap, inl, inr, refl, subst, sym, ℕ, ◌-◌, ◌<◌, ◌∙◌, ◌≡◌, ◌≤◌}, lemmas.Bool.Decides.{eqb_tells}}
 use Rattle.cpu_words.specs.{Hooks.HookAnswer, Touches.{found_by, left, wrap_add}, Words.{put, read}, declared.events.Touch.{Touch, TheVariants.Load}}
 use Rattle.cpu_words.specs.declared.names.WordName.{WordName, TheVariants.{Block, LevelCount, Section, Sync}}
@@ -18,7 +18,7 @@ use Rattle.percpu_rwsem.specs.{Callbacks.callback_next, Readers.{at_down_read, d
 use Rattle.percpu_rwsem.specs.declared.{callbacks.Callback.Callback, readers.{DownRead.DownRead, DownReadStep.{DownReadStep, TheVariants.CountsDown}}}
 use Rattle.percpu_rwsem.specs.declared.readers.DownReadStep.TheVariants.{CountsUpFast, CountsUpSlow, EntersSection, LeavesAdmitted, LeavesBlocked, LoadsBlock}
 use Rattle.percpu_rwsem.specs.declared.readers.{DownReadStep.TheVariants.LoadsSync, UpRead.UpRead}
-use Rattle.std.specs.Prelude.{Bool, Some, false, if◌then◌else◌, true, ◌==◌}
+use Rattle.std.specs.Prelude.{Some, ◌==◌}
 
 module _ (w : World) (t : ℕ) (v : View) where
   -- a level with one of its words put, and the task's part in it, is the level of the world with these
@@ -85,12 +85,6 @@ module _ (w : World) (t : ℕ) (v : View) where
           }),
     );
   }
-
--- a down-read that has loaded `block` is inside its section
-block_inside : (r : DownRead) (b : Bool) → inside (phase_after (map_next DownReads
-    (if b then Go (at_down_read r LeavesAdmitted) else Go (at_down_read r CountsDown)))) ≡ 1
-block_inside r true = refl
-block_inside r false = refl
 
 -- an event of a down-read that changes no section word leaves it inside its section
 stays_inside : (r : DownRead) (s : DownReadStep) (found : ℕ) → IsEventAt r.level (down_read_next r s).0 (down_read_next r s).1 →

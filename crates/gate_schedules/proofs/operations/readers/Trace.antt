@@ -74,11 +74,6 @@ module _ (base i p t : ℕ) (value : ℕ) (hook : HookAnswer) (earlier : List Tr
       ReadNext base i p t wait (with_hook (event_of (down_read_next r s).0 (down_read_next r s).1 value) hook ∷ earlier)
       (actions_after (down_read_after r s found).1 added) (down_read_after r s found).0
 
-  -- it left its section, blocked
-  blocked : (wait : Bool) → ReadSays base i wait LeavesBlocked earlier added → TraceAfterStep wait LeavesBlocked
-  blocked true h = ((EntersSection, refl, (h.0, λ q. absurd (cc), tt)), refl, h.2.0)
-  blocked false h = (h.0, (refl, h.2.1), λ q. omega (arith, h.1 q))
-
   -- each event of a down-read keeps what its trace says: its sync word is one, so it is loaded once
   pub read_event : (wait : Bool) (s : DownReadStep) → WordIsValid (down_read_next (read_at i p t wait s) s).0 value →
       ReadSays base i wait s earlier added → TraceAfterStep wait s

@@ -4,7 +4,7 @@ use Rattle.std.proofs.lemmas.{Bool.{eq-eqb, ne_eqb, ltb-true, ltb-false, cases_B
 use Rattle.std.specs.Prelude.{◌==◌, nat_lt, if◌then◌else◌, Result, Ok, Err, List, [], ◌∷◌, ◌++◌}
 use Rattle.access_model.specs.declared.{actions.Action.Action, errors.GateError.GateError, replies.Reply.Reply}
 use Rattle.cpu_words.specs.{Hooks.HookAnswer, Touches.{wrap_add, event_of}, declared.{events.Touch.Touch, names.WordName.WordName, sums.Sum.Sum}}
-use Rattle.mount_counts.specs.{Phases.has_flag, Remounts.{remount_from, past_mount, let_go, leave_holds, give_up, past_node}}
+use Rattle.mount_counts.specs.{Phases.has_flag, Remounts.{past_mount, let_go, leave_holds, give_up, past_node}}
 use Rattle.mount_counts.specs.{Sets.{with_mount, without_lowest}, declared.{remounts.RemountStep.RemountStep, sets.MountSet.MountSet}}
 use Rattle.gate_world.specs.{Configs.IsWithin, traces.Found.{found_sealed, counts_loaded, sum_loaded, IsEachCount, each_event, finds_taken, cleans}}
 use Rattle.gate_world.specs.{traces.Traces.{actions_of, IsHonestAnswer}, Views.with_hook}
@@ -83,14 +83,6 @@ lock_leaves c true (Err (GateError.Hook code)) value hook earlier added h = (h.0
 lock_leaves c false (Err (GateError.Hook code)) value hook earlier added h = (h.0, inr h.1)
 lock_leaves c true answer value hook earlier added h = h
 lock_leaves c false answer value hook earlier added h = h
-
--- the state was found, as it was asked for or not
-state_found : (c : Config) (ro b : Bool) (trace : List Traced) (added : List Action) → added ≡ [] → found_sealed trace ≡ b →
-    cleans trace ≡ [] → ((m : ℕ) → counts_loaded m trace ≡ []) → StepSays c ro (remount_from ro b) trace added
-state_found c true true trace added none e clean loads = (rw e none, tt)
-state_found c true false trace added none e clean loads = ((none, refl, e, clean), loads)
-state_found c false true trace added none e clean loads = (none, refl, e)
-state_found c false false trace added none e clean loads = (rw e none, tt)
 
 -- the loop goes on, or is done
 past_says : (c : Config) (ro : Bool) (m : ℕ) (held : MountSet) (trace : List Traced) (added : List Action) → IsOnItsWay ro trace added →

@@ -3,7 +3,7 @@ use Rattle.std.proofs.Common.{◌≡◌, ℕ, ◌+◌, ◌*◌, ◌<◌, ◌≤�
 use Rattle.std.specs.Prelude.{List, [], ◌∷◌, length}
 use Rattle.access_model.specs.declared.{actions.Action.Action, replies.{Next.Next, Reply.Reply}}
 use Rattle.cpu_words.specs.{Hooks.HookAnswer, Touches.found_by, declared.events.Event.Event}
-use Rattle.gated_tree.specs.Phases.{at_snapshot, snapshot_after, snapshot_locked_out, snapshot_next}
+use Rattle.gated_tree.specs.Phases.{at_snapshot, snapshot_after, snapshot_next}
 use Rattle.gated_tree.specs.{Refusals.SnapshotHonest, declared.{phases.TreePhase.TreePhase, snapshots.{Snapshot.Snapshot, SnapshotStep.SnapshotStep}}}
 use Rattle.gate_schedules.{proofs.trees.Ends.snapshot_ends, specs.trees.Ends.{IsReply, SnapshotKnows}}
 use Rattle.gate_schedules.proofs.operations.calls.Trace.{Answers, CallAt, GoesOnOrEnds, call_says, sees}
@@ -59,12 +59,6 @@ module _ (c : Config) (t : ℕ) (wait : Bool) where
   abbrev NextInvariant : List Traced → ℕ → Next Snapshot → Type 0
   NextInvariant = GoesOnOrEnds Snapshot SnapshotStep TreePhase.Snapshot snapshot_of KnowsAtStep so_far (StepInvariant c) (events_before c) (2 * c.nodes + 4) wait c
       (Op.Snapshot wait)
-
-  -- `umount` was found taken, as it was before: a snapshot waits, or is refused
-  taken : (waits : Bool) → wait ≡ waits → (trace : List Traced) → each_event finds_taken trace ≡ true →
-      NextInvariant trace 0 (snapshot_locked_out (snapshot_of SnapshotStep.Locks) waits)
-  taken true is trace each = (SnapshotStep.Locks, refl, each, is, (is, each))
-  taken false is trace each = λ q. omega arith
 
   -- each event of a snapshot is followed by a later step of it, or by its end
   snapshot_goes : IsWithin c → (earlier : List Traced) (s : SnapshotStep) (value : ℕ) (hook : HookAnswer) → StepInvariant c earlier s →

@@ -23,7 +23,7 @@ use Rattle.access_model.specs.declared.{errors.GateError.GateError, replies.{Nex
 use Rattle.cpu_words.specs.{Hooks.HookAnswer, Touches.{found_by, left}, Words.{Words, put, read}, declared.events.{Event.Event, Touch.Touch}}
 use Rattle.cpu_words.specs.declared.names.WordName.{WordName}
 use Rattle.finite_sums.specs.Sums.{total, update}
-use Rattle.freeze_levels.specs.{Holders.{holders_in, word_of}, Levels.reopening, Thaws.{after_opening, at_thaw, thaw_opens}, declared.thaws.Thaw.Thaw}
+use Rattle.freeze_levels.specs.{Holders.{holders_in, word_of}, Levels.reopening, Thaws.{after_opening, at_thaw}, declared.thaws.Thaw.Thaw}
 use Rattle.freeze_levels.specs.declared.thaws.ThawStep.{ThawStep}
 use Rattle.freeze_levels.specs.holder_laws.Events.{Finds, Leaves as LeavesOthers, LeavesLast as LeavesNobody, LetsGo as LetsHoldersGo, Thaws as ThawsHolders}
 use Rattle.freeze_levels.specs.holder_laws.Roles.{Apart, Empties, Found, between, minds}
@@ -54,10 +54,6 @@ module _ (x : Thaw) where
   pub opening_stands : (level : ℕ) (n : Next UpWrite) →
       HasPosition (phase_after (map_next Phase.Thaws (after_opening x level n))) (position_after_opening level n)
   opening_stands level n = grind arith
-
-  -- it owns `umount`, with the levels up to one still closed
-  opens_own : (level : ℕ) → thaw_owns (thaw_opens level) ≡ 1
-  opens_own level = grind arith
 
   opening_owns : (level : ℕ) (n : Next UpWrite) → owns (phase_after (map_next Phase.Thaws (after_opening x level n))) ≡ 1
   opening_owns level n = grind arith

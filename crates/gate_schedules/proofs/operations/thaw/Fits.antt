@@ -2,7 +2,7 @@
 use Rattle.std.proofs.{Common.{false, ◌≡◌, ℕ, true, arith}}
 use Rattle.std.specs.Prelude.{if◌then◌else◌, Err}
 use Rattle.access_model.specs.{Holders.{held_by, with_holder, is_unheld}, Replies.map_next}
-use Rattle.access_model.specs.declared.{actions.{Holders.Holders}, errors.GateError.GateError, replies.Next.Next}
+use Rattle.access_model.specs.declared.{actions.{Holders.Holders}, errors.GateError.GateError}
 use Rattle.cpu_words.specs.{Hooks.HookAnswer, Names.IsWord}
 use Rattle.freeze_levels.specs.{Thaws.{thaw_next, thaw_after, at_thaw, thaw_finds}, declared.thaws.{Thaw.{Thaw}, ThawStep.{ThawStep}}}
 use Rattle.gate_world.specs.{Configs.extents_of, Fits.{ThawFits, PhaseFits, Fits, ActionFits}}
@@ -31,10 +31,6 @@ pub thaw_acts : (held : Holdings) (x : Thaw) (s : ThawStep) (found : ℕ) (hook 
 thaw_acts held x s found hook = grind arith
 
 module _ (c : Config) (t : ℕ) (held : Holdings) (x : Thaw) (same : x.task ≡ t) (none : holds_none held.levels ≡ true) where
-  -- what comes after an event fits
-  abbrev NextFits : Next Thaw → Type 0
-  NextFits next = Fits c t held (phase_after (map_next Phase.Thaws next))
-
   -- after an event of a thaw, what comes fits the accesses that its action leaves
   abbrev FitsAfterStep : ThawStep → ℕ → HookAnswer → Type 0
   FitsAfterStep s found hook =

@@ -1,13 +1,12 @@
 -- Traces of a thaw.
-use Rattle.std.proofs.{Common.{◌≡◌, ℕ, zero, suc, ◌≤◌, true, false, refl, ap, inl, inr, arith}}
-use Rattle.std.specs.Prelude.{◌-◌, Result, Ok, Err, List, [], ◌∷◌}
+use Rattle.std.proofs.{Common.{◌≡◌, ℕ, zero, suc, ◌≤◌, true, false, arith}}
+use Rattle.std.specs.Prelude.{◌-◌, Result, List, [], ◌∷◌}
 use Rattle.access_model.specs.declared.{actions.{Action.Action, Holder.Holder}, errors.GateError.GateError, replies.Reply.Reply}
-use Rattle.cpu_words.specs.{Hooks.HookAnswer, Touches.event_of, declared.{events.Touch.Touch, names.WordName.WordName}}
 use Rattle.percpu_rwsem.specs.declared.{writers.UpWriteStep.UpWriteStep}
 use Rattle.freeze_levels.specs.{declared.thaws.{Thaw.Thaw, ThawStep.ThawStep}}
-use Rattle.gate_world.specs.{traces.Found.{found_sealed, found_shared, each_event, finds_taken}, traces.Traces.{actions_of, IsHonestAnswer}, Views.with_hook}
+use Rattle.gate_world.specs.{traces.Found.{found_sealed, found_shared, each_event, finds_taken}, traces.Traces.{actions_of, IsHonestAnswer}}
 use Rattle.gate_world.specs.declared.{config.Config.Config, operations.Op.Op, views.Traced.Traced, work.Phase.Phase}
-use Rattle.gate_schedules.proofs.{traces.TraceInvariant.{InvariantAfterStep, IsInductive, event_at}}
+use Rattle.gate_schedules.proofs.{traces.TraceInvariant.{IsInductive}}
 
 -- a thaw by a task, at this step
 abbrev thaw_of : ℕ → Holder → ThawStep → Thaw
@@ -51,45 +50,6 @@ StepSays c holder other trace added = FoundNothing holder trace added
 -- what a thaw's trace says at a phase
 abbrev pub ThawAt : Config → ℕ → Holder → List Traced → Phase → List Action → Type 0
 ThawAt c t holder trace phase added = (step : ThawStep) × (phase ≡ Phase.Thaws (thaw_of t holder step)) × StepSays c holder step trace added
-
--- an event that gives `umount` back leaves what is told
-lock_leaves : (c : Config) (holder : Holder) (answer : Result Reply GateError) (value : ℕ) (hook : HookAnswer) (earlier : List Traced) (added : List Action) →
-    Answers c holder answer earlier added → Answers c holder answer (with_hook (event_of WordName.Umount (Touch.Store 0) value) hook ∷ earlier) added
-lock_leaves c holder (Err (GateError.Hook code)) value hook earlier added h = (h.0, inr h.1)
-lock_leaves c holder answer value hook earlier added h = h
-
-module _ (c : Config) (t : ℕ) (holder : Holder) (value : ℕ) (earlier : List Traced) (added : List Action) where
-  -- the trace after the event of a step
-  abbrev longer : HookAnswer → ThawStep → List Traced
-  longer hook step = with_hook (event_at (Phase.Thaws (thaw_of t holder step)) value hook) hook ∷ earlier
-
-  -- what the trace says after the event of a step
-  abbrev TraceAfterStep : HookAnswer → ThawStep → Type 0
-  TraceAfterStep hook step = InvariantAfterStep (ThawAt c t holder) c (Op.Thaw holder) (Phase.Thaws (thaw_of t holder step)) value hook earlier added
-
-  locks : (hook : HookAnswer) → StepSays c holder ThawStep.Locks earlier added → TraceAfterStep hook ThawStep.Locks
-  locks hook h = grind arith
-
-  loads_stage : (hook : HookAnswer) → StepSays c holder ThawStep.LoadsStage earlier added → TraceAfterStep hook ThawStep.LoadsStage
-  loads_stage hook h = grind arith
-
-  loads_holders : (hook : HookAnswer) → StepSays c holder ThawStep.LoadsHolders earlier added → TraceAfterStep hook ThawStep.LoadsHolders
-  loads_holders hook h = grind arith
-
-  loads_superblock : (hook : HookAnswer) → StepSays c holder ThawStep.LoadsSuperblock earlier added → TraceAfterStep hook ThawStep.LoadsSuperblock
-  loads_superblock hook h = grind arith
-
-  leaves_last : (hook : HookAnswer) → StepSays c holder ThawStep.LeavesLast earlier added → TraceAfterStep hook ThawStep.LeavesLast
-  leaves_last (Ok answer) h = (ThawStep.SetsUnfrozen, refl, (ap (λ (l : List Action). Action.Leave holder ∷ l) h.0, h.1, h.2))
-  leaves_last (Err code) h = ((h.0, inl (refl, refl, refl)), tt)
-
-  -- each event of an up-write
-  reopens : (hook : HookAnswer) (level : ℕ) (s : UpWriteStep) → StepSays c holder (ThawStep.Reopens (record { level = level; step = s })) earlier added →
-      TraceAfterStep hook (ThawStep.Reopens (record { level = level; step = s }))
-  reopens hook level s h = grind arith
-
-  thaw_event : (hook : HookAnswer) (step : ThawStep) → StepSays c holder step earlier added → TraceAfterStep hook step
-  thaw_event hook step h = grind arith
 
 pub thaw_inductive : (c : Config) (t : ℕ) (holder : Holder) → IsInductive (ThawAt c t holder) c t (Op.Thaw holder)
 thaw_inductive c t holder = grind arith

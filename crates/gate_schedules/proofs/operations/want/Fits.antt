@@ -1,8 +1,8 @@
 -- What fits after an event of a want.
 use Rattle.std.proofs.Common.{ℕ, ◌<◌, arith}
-use Rattle.access_model.specs.{Replies.map_next, declared.{replies.{Next.Next}}}
+use Rattle.access_model.specs.{Replies.map_next}
 use Rattle.cpu_words.specs.Names.{IsWord}
-use Rattle.mount_counts.specs.Phases.{want_next, want_after, next}
+use Rattle.mount_counts.specs.Phases.{want_next, want_after}
 use Rattle.mount_counts.specs.declared.phases.{MountPhase.MountPhase, Want.Want, WantStep.WantStep}
 use Rattle.gate_world.specs.{Configs.{IsWithin, extents_of}, Fits.{MountFits, Fits, ActionFits}, Holdings.{Holdings, held_after}, Views.phase_after}
 use Rattle.gate_world.specs.declared.{config.Config.Config, work.Phase.Phase}
@@ -14,10 +14,6 @@ want_there c w step m p = grind arith
 module _ (c : Config) (within : IsWithin c) (t : ℕ) (held : Holdings) where
   pub want_acts : (w : Want) (step : WantStep) (found : ℕ) → w.mount < 8 → held.mounts w.mount < 1024 → ActionFits held (want_after w step found).1
   want_acts w step found m room = grind arith
-
-  -- what comes after an event that adds nothing fits
-  abbrev NextFits : Next Want → Type 0
-  NextFits next = Fits c t held (phase_after (map_next Phase.Mounts (map_next MountPhase.Want next)))
 
   -- what comes after each event of a want fits
   pub want_goes : (w : Want) (step : WantStep) (found : ℕ) → MountFits c t held (MountPhase.Want w) →

@@ -30,10 +30,6 @@ IsOther (Next.Go x) = is_snapshot x ≡ false
 IsOther (Next.Wait x) = is_snapshot x ≡ false
 IsOther (Next.Done answer) = Unit {0}
 
--- what comes after an event of a call is of the same call
-stays_other : {P : Type 0} (to : P → TreePhase) → ((y : P) → is_snapshot (to y) ≡ false) → (n : Next P) → IsOther (map_next to n)
-stays_other to other n = grind arith
-
 -- so none that is no snapshot becomes one
 other_after : (x : TreePhase) (found : ℕ) (hook : HookAnswer) → is_snapshot x ≡ false → IsOther (after x found hook).0
 other_after x found hook other = grind arith
@@ -41,11 +37,6 @@ other_after x found hook other = grind arith
 -- and what comes after it is plain
 plain_after : (n : Next TreePhase) → IsOther n → IsPlain (phase_after (map_next Phase.Trees n))
 plain_after n other = grind arith
-
--- its role at the tree is the same whatever was noted
-role_same : (x : TreePhase) (noted other : ℕ → ℕ) → is_snapshot x ≡ false → phase_role noted x ≡ phase_role other x
-role_same (TreePhase.Snapshot x) noted values other = absurd (true≢false other)
-role_same x noted values other = refl
 
 role_comes : (n : Next TreePhase) (noted : ℕ → ℕ) (trace : List Traced) → IsOther n →
     role_after (phase_role noted) n ≡ tree_role_of trace (phase_after (map_next Phase.Trees n))

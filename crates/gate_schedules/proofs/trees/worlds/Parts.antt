@@ -22,11 +22,11 @@ use Rattle.gate_world.specs.{Views.{has_open, held_at, held_of, holds_level, pha
 use Rattle.gate_world.specs.{Worlds.{World, after_step, found_at, value_at, words_after}, declared.{config.Config.Config, views.View.View, work.Phase.Phase}}
 use Rattle.node_words.specs.Nodes.{node_shown}
 use Rattle.gated_tree.specs.{Calls.{NextFits, TreePhaseFits, phase_role, role_after}, Phases.{after}}
-use Rattle.gated_tree.specs.Phases.{create_after, create_next, grow_after, grow_next, mark_after, mark_next}
-use Rattle.gated_tree.specs.Phases.{move_after, move_next, next, open_after, open_next, remove_after, remove_next, snapshot_after, snapshot_next}
-use Rattle.gated_tree.specs.{Roles.{Role, TreeHolds}, declared.changes.{Create.Create, CreateStep.CreateStep, MoveStep.MoveStep, MoveTo.MoveTo}}
-use Rattle.gated_tree.specs.declared.{changes.{Remove.{Remove}, RemoveStep.{RemoveStep}}, growth.{Grow.{Grow}, GrowStep.{GrowStep}}}
-use Rattle.gated_tree.specs.declared.{marks.{Mark.Mark, MarkStep.MarkStep}, opens.{OpenFile.OpenFile, OpenStep.OpenStep}, phases.TreePhase.TreePhase}
+use Rattle.gated_tree.specs.Phases.{create_after, grow_after, mark_after}
+use Rattle.gated_tree.specs.Phases.{move_after, next, open_after, remove_after, snapshot_after, snapshot_next}
+use Rattle.gated_tree.specs.{Roles.{Role, TreeHolds}, declared.changes.{Create.Create, MoveTo.MoveTo}}
+use Rattle.gated_tree.specs.declared.{changes.{Remove.{Remove}}, growth.{Grow.{Grow}}}
+use Rattle.gated_tree.specs.declared.{marks.{Mark.Mark, MarkStep.MarkStep}, opens.{OpenFile.OpenFile}, phases.TreePhase.TreePhase}
 use Rattle.gated_tree.specs.declared.snapshots.{Snapshot.Snapshot, SnapshotStep.SnapshotStep}
 use Rattle.mount_counts.specs.Roles.{ro_bit}
 use Rattle.freeze_laws.specs.stages.Roles.{Aside}
@@ -52,31 +52,6 @@ is_call_word word = false
 
 pub node_call : (word : WordName) → is_node_word word ≡ true → is_call_word word ≡ true
 node_call word h = grind (arith, h)
-
--- each event of a call but a snapshot is on a word of the tree
-create_word : (x : Create) (s : CreateStep) → is_node_word (create_next x s).0 ≡ true
-create_word x CreateStep.LoadsDirectory = refl
-create_word x other = refl
-
-remove_word : (x : Remove) (s : RemoveStep) → is_node_word (remove_next x s).0 ≡ true
-remove_word x RemoveStep.LoadsFile = refl
-remove_word x other = refl
-
-grow_word : (x : Grow) (s : GrowStep) → is_node_word (grow_next x s).0 ≡ true
-grow_word x GrowStep.LoadsFile = refl
-grow_word x other = refl
-
-move_word : (x : MoveTo) (s : MoveStep) → is_node_word (move_next x s).0 ≡ true
-move_word x MoveStep.LoadsFile = refl
-move_word x other = refl
-
-mark_word : (x : Mark) (s : MarkStep) → is_node_word (mark_next x s).0 ≡ true
-mark_word x MarkStep.LoadsFile = refl
-mark_word x (MarkStep.MarksFile file) = refl
-
-open_word : (x : OpenFile) (s : OpenStep) → is_node_word (open_next x s).0 ≡ true
-open_word x OpenStep.LoadsFile = refl
-open_word x (OpenStep.OpensFile file) = refl
 
 -- the call is a snapshot
 abbrev pub is_snapshot : TreePhase → Bool

@@ -1,22 +1,10 @@
 -- What the phases of each operation are not at the tree.
-use Rattle.std.proofs.Common.{◌≡◌, ℕ, refl, Bool, true, false, arith}
-use Rattle.gated_tree.specs.{Calls.{snapshot_role}, Roles.{cleared, is_bare, words_read, frees}}
-use Rattle.gated_tree.specs.declared.{phases.TreePhase.TreePhase, snapshots.SnapshotStep.SnapshotStep}
+use Rattle.std.proofs.Common.{◌≡◌, ℕ, refl, arith}
+use Rattle.gated_tree.specs.{Roles.{cleared, is_bare, words_read, frees}}
 use Rattle.mount_counts.specs.declared.remounts.RemountStep.{RemountStep}
 use Rattle.freeze_levels.specs.declared.freezes.FreezeStep.{FreezeStep}
 use Rattle.composite_ops.specs.declared.file_closes.phases.ClosePhase.{ClosePhase}
 use Rattle.gate_world.specs.Roles.{close_tree_role, remount_tree_role, freeze_tree_role}
-
-abbrev pub is_plain : TreePhase → Bool
-is_plain (TreePhase.Snapshot x) = false
-is_plain (TreePhase.ClearMarks x) = false
-is_plain x = true
-
--- of a snapshot, but that it has loaded words
-pub snapshot_apart : (nodes : ℕ) (values : ℕ → ℕ) (s : SnapshotStep) →
-    (cleared (snapshot_role nodes values s) ≡ 0) × (is_bare (snapshot_role nodes values s) ≡ 0) ×
-    ((n : ℕ) → frees n (snapshot_role nodes values s) ≡ 0)
-snapshot_apart nodes values s = grind arith
 
 -- of a close, but that it frees its node
 pub close_apart : (x : ClosePhase) → (cleared (close_tree_role x) ≡ 0) × (is_bare (close_tree_role x) ≡ 0) × (words_read (close_tree_role x) ≡ 0)

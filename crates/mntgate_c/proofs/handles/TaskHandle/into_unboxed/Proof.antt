@@ -1,0 +1,43 @@
+-- `into_unboxed` makes a unboxed box box of the pointer again.
+use Rattle.std.proofs.{Common.{◌≡◌, List, [], ◌∷◌, ◌++◌, refl, sym, subst}, raw_atomic.Walks.{proved_at, leaves}}
+use mathlib.Core.Bool.{Bool, true}
+use mir.{Raw.{raw as bare}, Val.{Val, vptr}}
+use base.Logic.{SProp, ent, emp, never, id⊢, fst∗}
+use prog.Wp.{WpFn}
+use types.{Logic.{sem}, Kit.{‵, raw, ◌⊛◌, ◌$◌, ◌∵◌, !, qed, by, move, keep, split, fsplit, fjoin, use0, rewrite, suffices}}
+use types.{Run.{stop, fld, of_opd, no_more, and_then, returns, enter}, ByLocal.{alloc_all, pass_all, free_all, look_at, get, get_in, sets}}
+use types.Part.{agg, sub, whole}
+use contract.{Monad.{fact, fact_i}, Running.{tables}}
+use denote.{Exit.{yes}, Memory.{lone}, RattleType.{owns}, RawPtr.{Ptr, block_ptr, null_ptr, in_a_block}, Signature.{types_at, plain}}
+use denote.{Steps.{nothing, heard}, Triple.{Entry.{alive}, Walked.{Stays, stay_dropped, walk_of, Goes-dropped}}}
+use Rattle.core.proofs.alloc.Calls.{handle_tells}
+use Rattle.std_alloc.specs.Box.Ownership.{box_owns}
+use Rattle.std_heap.specs.contracts.Global as global
+use Rattle.std_heap.proofs.Global.TheLaws as heap_laws
+use Rattle.std_heap.specs.contracts.GlobalAllocator.TheImpl.{ghosts}
+use Rattle.mntgate_c.specs.{Handles.{holds, heap}, contracts.handles.TaskHandle.into_unboxed.{ended, clauses, Key.{name as #self}}}
+use Rattle.mntgate_c.specs.contracts.members.Member as member
+use Rattle.mntgate_c.proofs.{Unboxing.{pair, pair_fits, put_together, heap_of}, HandleSteps.{H', word, handle_out}}
+use Rattle.mntgate_c.proofs.handles.TaskHandle.into_unboxed.Statement.{statement}
+use Rattle.mntgate_c.proofs.handles.TaskHandle.into_unboxed.Code as code
+
+pub into_unboxed_spec : {M : Type 1} → statement M
+into_unboxed_spec 𝓤 𝓛 𝓜 𝓡 wired =
+    let H = 𝓛.H in let 𝓣 = tables 𝓤 H 𝓜 𝓡 𝓡.env in let c = clauses 𝓛 𝓜.mem 𝓡.returns in
+    let hs : Stays ended.signature.params ended.kept = (stay_dropped (plain (λ _. H')) yes, (stay_dropped (plain (λ _. global.the_row)) yes, tt)) in
+    proved_at 𝓛 ended hs c 𝓜 𝓡 (Goes-dropped 𝓛 0 (plain (λ _. H')) yes (λ κs x f. refl), (Goes-dropped 𝓛 0 (plain (λ _. global.the_row)) yes (λ κs x f. refl), tt)) #self code.function (code.unfolded 𝓤 H 𝓜 𝓡 wired) (λ z are.
+    let v = z.0.3.0 in let a = z.0.3.1.0 in let Post : Val → SProp 𝓤 = (walk_of 𝓛 ended hs c).post z in let Run : List Val → SProp 𝓤 = λ ws. WpFn 𝓤 H 𝓣.C 𝓣.Λ code.function ws Post in
+    qed 𝓛 ((raw (alive 𝓛 ended.signature z.0.0 z.0.1) ⊛ ‵ (owns (types_at ended.signature.params z.0.0) z.0.3 z.0.4)) ∷ raw ((c z.0.0 z.0.3).requires z.1) ∷ []) ∵
+    move ! (1 ∷ []) $ heard ! (v.full ≡ true) (λ full. split ! $ move ! (1 ∷ []) $ fsplit ! $ move ! (1 ∷ []) $ fsplit ! $
+    handle_tells (heap_of member.the_row global.the_row heap_laws.the_row_laws ghosts) ! a z.0.4.1.0 (λ h eh fits. move ! (2 ∷ []) $
+    handle_out ! v z.0.4.0 (λ ws. rewrite ! 0 (λ (y : Bool). ‵ (holds y v.at v.state)) full refl $
+    in_a_block ! v.at (λ p. box_owns (ghosts.dealloc_token heap) member.the_row p v.state) (fst∗ 𝓤 (never 𝓤) (sem 𝓛 (ghosts.dealloc_token heap (bare (lone member.the_row.mir)) null_ptr))) (λ b o e.
+    put_together member.the_row global.the_row heap_laws.the_row_laws ghosts ! b o h a v.state $ keep ! (0 ∷ 2 ∷ []) $
+    let w : Val = pair (vptr b o) h in let made = pair_fits member.the_row global.the_row heap_laws.the_row_laws ghosts b o h fits in
+    let told : z.0.4.0 ≡ word (block_ptr b o) ∷ [] = subst (λ (p : Ptr). z.0.4.0 ≡ word p ∷ []) e ws in let Start : SProp 𝓤 = Run (word (block_ptr b o) ∷ h ∷ []) in
+    suffices ! Start (subst (λ (us : List Val). ent 𝓤 Start (Run us)) (sym (λ i. told i ++ (eh i ++ []))) (id⊢ 𝓤 Start)) $
+    enter ! 𝓣.C 𝓣.Λ code.function (word (block_ptr b o) ∷ h ∷ []) Post $ alloc_all ! (λ l. pass_all ! refl ((tt, (tt, tt)), (fits, tt)) $
+    sets ! (of_opd ! (get_in ! (fld ! refl (stop !)) (sub ! 0 refl (whole !)))) refl (tt, tt) $ sets ! (of_opd ! (get ! refl)) refl (tt, tt) $
+    sets ! (agg ! (and_then ! (get ! refl) (and_then ! (get ! refl) (no_more !)))) refl made $
+    use0 𝓛 (raw (fact 𝓤 (v.state ≡ v.state))) (fact_i 𝓤 (v.state ≡ v.state) (emp 𝓤) refl) $ nothing ! $ nothing ! $ fjoin ! $ nothing ! $ fjoin ! $
+    returns ! (look_at ! 0 refl) $ free_all ! refl $ keep ! (3 ∷ 0 ∷ 2 ∷ 1 ∷ []) $ by ! (leaves 𝓛 ended hs c z w (record { at = block_ptr b o; alloc = a; value = v.state }) (tt, (tt, tt)) (tt, (tt, tt)))))))))

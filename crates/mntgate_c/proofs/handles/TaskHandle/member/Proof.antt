@@ -1,0 +1,75 @@
+-- `member` lends what the pointer of a handle points at, and the handle follows it.
+use Rattle.std.proofs.{Common.{◌≡◌, ℕ, List, [], ◌∷◌, refl, sym, ap, ◌∙◌}, VecSteps.Shapes.{after}, raw_atomic.Walks.{proved}}
+use mathlib.Core.Bool.{Bool, true}
+use seplogic.Ra.Ura.{Ura}
+use base.{Fraction.{full_share}, Logic.{ent, sep, never, fst∗}, Fml.{Fml, GName, ftrue, fsep, flft}}
+use contract.{Monad.{fact}, Running.{tables}}
+use denote.{Exit.{no}, Follow.{Part, lends_Part, follows}, Memory.{cell_at, lone, mem, part_at, part_of}}
+use denote.{RawPtr.{Ptr, block_ptr, null_ptr, in_a_block}, RattleType.{RattleType}, Ref.{MutRef, mut_vals, mut_Tells}}
+use denote.{Signature.{plain, mut_ref_to}, Steps.{nothing, opens, heard}}
+use denote.Triple.Walked.{Stays, walk_of, says, stay_dropped, Goes-spent_ref, ends_at}
+use mir.{Raw.{raw as bare}, Syntax.{named}, Val.{Val, vptr}}
+use types.Kit.{‵, raw, ◌⊛◌, some, later, at_ret, ◌$◌, ◌∵◌, !, qed, done, move, keep, use1, split, join, fsplit, fsplit3, fjoin, fpack, pick, await, rewrite, suffices, frame, group}
+use types.{Logic.{Logic, sem}, Part.{whole, sub, look_in}, Run.{stop, fld, load, of_opd, first, blocks, exec, returns, enter, addr}}
+use types.ByLocal.{alloc_all, pass_all, free_all, look_at, get, through, sets, sets_last, env}
+use Rattle.std_alloc.specs.Box.Ownership.{box_owns}
+use Rattle.std_heap.specs.contracts.GlobalAllocator.TheImpl.{ghosts}
+use Rattle.mntgate_c.specs.{Handles.{holds, heap}, Follows.{with_state}}
+use Rattle.mntgate_c.specs.contracts.members.Member as task
+use Rattle.mntgate_c.proofs.{HandleSteps.{H', word, handle_out, handle_in}, handles.TaskHandle.member.Statement.{statement}}
+use Rattle.mntgate_c.specs.contracts.handles.TaskHandle.member as f
+use Rattle.mntgate_c.proofs.handles.TaskHandle.member.Code as code
+
+abbrev R : RattleType
+R = task.the_row
+
+abbrev frees : Ptr → Fml
+frees p = ghosts.dealloc_token heap (bare (lone R.mir)) p
+
+abbrev stayed : Stays f.ended.signature.params f.ended.kept
+stayed = (stay_dropped (mut_ref_to (0 ∷ []) tt (plain (λ _. H'))) no, tt)
+
+module _ {M : Type 1} {𝓤 : Ura M} (𝓛 : Logic 𝓤) (h : H'.Denot) (rb ro b o : ℕ) where
+  -- what is left of the handle while its task is lent
+  abbrev Rest : Fml
+  Rest = fsep (frees (block_ptr b o)) (cell_at full_share H'.mir (word (block_ptr b o) ∷ []) rb ro)
+
+  back : h.at ≡ block_ptr b o → (w : R.Denot) → ent 𝓤 (sep 𝓤 (sem 𝓛 ((mem R).own_at w b o)) (sem 𝓛 Rest)) (sem 𝓛 ((mem H').own_at (with_state h w) rb ro))
+  unfolding part_of
+  back e w =
+      qed 𝓛 (‵ (part_at R full_share w b o) ∷ ‵ Rest ∷ []) ∵ move ! (1 ∷ []) $ fsplit ! $ move ! (2 ∷ 0 ∷ []) $ fjoin ! $
+      rewrite ! 0 (λ (p : Ptr). ‵ (box_owns (ghosts.dealloc_token heap) R p w)) (sym e) refl $
+      handle_in ! true h.at w $ rewrite ! 1 (λ (p : Ptr). ‵ (cell_at full_share H'.mir (word p ∷ []) rb ro)) (sym e) refl $
+      move ! (1 ∷ 0 ∷ []) $ fjoin ! $
+      fpack ! (List Val) (λ us. fsep (cell_at full_share H'.mir us rb ro) (H'.own_val (with_state h w) us)) (word h.at ∷ []) $ done !
+
+pub member_spec : {M : Type 1} → statement M
+member_spec 𝓤 𝓛 𝓜 𝓡 wired =
+    let c = f.clauses 𝓛 𝓜.mem 𝓡.returns in let W = walk_of 𝓛 f.ended stayed c in let 𝓣 = tables 𝓤 𝓛.H 𝓜 𝓡 𝓡.env in
+    proved 𝓛 f.ended stayed c 𝓜 𝓡 (Goes-spent_ref 𝓛 1 (0 ∷ []) tt (plain (λ _. H')), tt)
+    f.Key.name code.function (code.unfolded 𝓤 𝓛.H 𝓜 𝓡 wired)
+    (λ κs. (mut_vals, tt)) (λ κs. (mut_Tells (named 0) κs.0 H', tt)) (λ κs qs bounds a gh are.
+    let κ = κs.0 in let q = qs.0 in let r = a.0 in let rb = r.ref_ptr.0 in let ro = r.ref_ptr.1 in let h = r.now in let γ = r.ghost_name in let vs = mut_vals r in
+    let y : W.Ghost = ((κs, qs, bounds, a, (vs, tt)), gh) in
+    qed 𝓛 (((‵ (flft κ q) ⊛ ‵ ftrue) ⊛ ‵ ((MutRef (named 0) κ H').own_val r vs) ⊛ ‵ ftrue) ∷ raw (fact 𝓤 (h.full ≡ true)) ∷ []) ∵
+    move ! (1 ∷ []) $ heard ! (h.full ≡ true) (λ full. split ! $ split ! $ move ! (2 ∷ []) $ split ! $ keep ! (0 ∷ 2 ∷ []) $
+    enter ! _ _ _ _ _ $ alloc_all ! (λ l. pass_all ! refl ((tt, tt), tt) $
+    fsplit3 ! $ move ! (1 ∷ 2 ∷ 3 ∷ []) $ opens ! tt H' rb ro (λ us.
+    move ! (1 ∷ []) $ handle_out ! h us (λ ws. rewrite ! 0 (λ (x : Bool). ‵ (holds x h.at h.state)) full refl $
+    in_a_block ! h.at (λ p. box_owns (ghosts.dealloc_token heap) R p h.state) (fst∗ 𝓤 (never 𝓤) (sem 𝓛 (frees null_ptr))) (λ b o e. fsplit ! $
+    -- [the task; the right to free it; the handle's cell; the open borrow, in three entries]
+    rewrite ! 2 (λ (xs : List Val). ‵ (cell_at full_share H'.mir xs rb ro)) (ws ∙ ap (λ (p : Ptr). word p ∷ []) e) refl $
+    first ! $ blocks ! $
+    sets ! (of_opd ! (load ! (through ! refl (fld ! refl (stop !))) (look_in ! 2 (sub ! 0 refl (whole !))))) refl (tt, tt) $
+    sets ! (of_opd ! (get ! refl)) refl (tt, tt) $
+    sets_last ! (addr ! (through ! refl (stop !))) refl (tt, tt) $
+    exec ! 𝓣.C 𝓣.Λ (env code.Mir.locals l) (after 1 (code.function).body) (at_ret _ (W.post y)) $
+    sets ! (of_opd ! (get ! refl)) refl (tt, tt) $
+    move ! (1 ∷ 2 ∷ []) $ fjoin ! $ move ! (2 ∷ 3 ∷ 4 ∷ 1 ∷ 0 ∷ []) $ group ! 5 $
+    use1 𝓛 (later (some (λ (γ' : GName). raw (Part 𝓛 H' R (with_state h) (named 0) κ q rb ro b o γ (sem 𝓛 (Rest 𝓛 h rb ro b o)) (back 𝓛 h rb ro b o e) h.state γ'))))
+    (lends_Part 𝓛 H' R (with_state h) (named 0) κ q rb ro b o γ (sem 𝓛 (Rest 𝓛 h rb ro b o)) (back 𝓛 h rb ro b o e) (H'.coded.code h) (H'.coded.code h) h.state) $ await ! tt $ pick ! (λ γ'.
+    returns ! (look_at ! 0 refl) $ free_all ! refl $ keep ! (0 ∷ []) $
+    use1 𝓛 (‵ ((MutRef (named 0) κ R).own_val (record { ref_ptr = (b, o); ghost_name = γ'; now = h.state }) (vptr b o ∷ [])) ⊛ ‵ (flft κ q) ⊛ ‵ (follows H' R γ γ' (with_state h))) (base.Logic.id⊢ 𝓤 _) $
+    split ! $ move ! (1 ∷ []) $ split ! $ move ! (2 ∷ 0 ∷ 1 ∷ []) $
+    suffices ! _ (ends_at 𝓛 f.ended stayed c y (vptr b o) (record { ref_ptr = (b, o); ghost_name = γ'; now = h.state }) (tt, tt) (tt, tt)) $
+    nothing ! $ nothing ! $ fjoin ! $ join ! $ nothing ! $ move ! (2 ∷ 0 ∷ []) $ join ! $ join ! $ frame ! $ says ! refl $ done !)))))))

@@ -1,0 +1,124 @@
+//! A task with the gates that it came from.
+
+ghost use Rattle.std.specs.Prelude.{◌≡◌, ◌++◌, IfOk, IfErr};
+ghost use Rattle.gate_world.specs.Configs.{IsWithin};
+ghost use Rattle.vfs_gates.specs.Held.{Rests};
+ghost use Rattle.vfs_gates.specs.Ended.{HasAll, EndedWith, HasOpeningWords};
+ghost use Rattle.vfs_gates.specs.Parts.{SplitOf};
+ghost use Rattle.mntgate_c.specs.Openings.{SplitIsRefused};
+ghost use Rattle.access_model.specs.declared.errors.GateError.TheVariants.{Invalid, NoMemory, Order};
+
+use std::alloc::Global;
+use std::marker::Model;
+use std::sync::Arc;
+use vfs_gates::{Closed, Config, GateError, Gates, Task};
+
+/// A task with a share of its gates, which go when the last of their tasks does. Contracts see the task.
+#[derive(Drop)]
+pub struct Member {
+    /// The gates that the task came from.
+    pub gates: Arc<Gates, Global>,
+    pub task: Task,
+}
+
+impl Model for Member {
+    ghost use Rattle.vfs_gates.specs.TaskStates.{SeatedTask, IsFrom};
+    ghost use Rattle.std.specs.Arc.{arc_value};
+
+    ghost Value = { SeatedTask };
+
+    ghost view = { λ m. m.task };
+
+    ghost invariant = { λ m. IsFrom m.task (arc_value m.gates) };
+}
+
+/// A member on the heap.
+fn boxed(alloc: Global, member: Member) -> Result<Box<Member, Global>, GateError>
+    ensures made { IfOk result (λ b. b.value ≡ member) }
+    ensures memory { IfErr result (λ e. e ≡ NoMemory) }
+{
+    match Box::new(alloc, member) {
+        Ok(boxed) => Ok(boxed),
+        Err(_) => Err(GateError::NoMemory),
+    }
+}
+
+impl Member {
+    /// Opens gates, with the task that has all other numbers to give.
+    ///
+    /// # Errors
+    ///
+    /// Invalid where a number of the configuration is out of its limits, NoMemory where a growth was refused.
+    pub(crate) fn open(alloc: Global, config: Config) -> Result<Box<Member, Global>, GateError>
+        ensures config { IfOk result (λ b. b.value.config ≡ config) }
+        ensures rests { IfOk result (λ b. Rests b.value) }
+        ensures words { IfOk result (λ b. HasOpeningWords b.value.config b.value.items) }
+        ensures invalid { ¬ IsWithin config → result ≡ Err Invalid }
+        ensures memory { IsWithin config → IfErr result (λ e. e ≡ NoMemory) }
+    {
+        let (gates, task) = Gates::new(alloc, config)?;
+        let Ok(gates) = Arc::new(alloc, gates) else {
+            return Err(GateError::NoMemory);
+        };
+        boxed(alloc, Member { gates, task })
+    }
+
+    /// Splits off a task with the lowest number that this one has to give.
+    ///
+    /// # Errors
+    ///
+    /// Order unless this task rests: so it can take the number back, where there is no memory for the new one's block. TooMany where no
+    /// number is left, NoMemory where a growth was refused.
+    pub(crate) fn split(&mut self, alloc: Global) -> Result<Box<Member, Global>, GateError>
+        ensures made { IfOk result (λ b. SplitOf self.old self.new b.value) }
+        ensures rests { IfOk result (λ b. Rests b.value × Rests self.new) }
+        ensures order { result ≡ Err Order → self.new ≡ self.old }
+        ensures refused { IfErr result (SplitIsRefused self.old) }
+    {
+        if !self.task.rests() {
+            return Err(GateError::Order);
+        }
+        let Ok(gates) = Arc::try_clone(&self.gates) else {
+            return Err(GateError::NoMemory);
+        };
+        let task = self.task.split(alloc, &self.gates)?;
+        match Box::new(alloc, Member { gates, task }) {
+            Ok(boxed) => Ok(boxed),
+            Err(failed) => {
+                self.absorb(failed.value);
+                Err(GateError::NoMemory)
+            }
+        }
+    }
+
+    /// Takes the numbers of a task that rests, as this one does.
+    pub(crate) fn absorb(&mut self, other: Member)
+        requires same { (other.table ≡ self.old.table) × (other.config ≡ self.old.config) }
+        requires this { Rests self.old }
+        requires that { Rests other }
+        ensures { self.new ≡ record self.old { items = self.old.items ++ other.items; seen = self.old.seen ++ other.seen } }
+    {
+        let Member { gates: _, task } = other;
+        let Ok(()) = self.task.join(&self.gates, task) else {
+            unreachable!()
+        };
+    }
+
+    /// Closes the gates, where no other task has them any more; else the member comes back.
+    pub(crate) fn close(self) -> Result<Closed, Member>
+        requires { HasAll self }
+        ensures closed { IfOk result (λ c. (c.config ≡ self.config) × EndedWith c.config c.words self.items self.seen) }
+        ensures back { IfErr result (λ m. m ≡ self) }
+    {
+        let Member { gates, task } = self;
+        match Arc::try_unwrap(gates) {
+            Ok(gates) => {
+                let Ok(closed) = gates.close(task) else {
+                    unreachable!()
+                };
+                Ok(closed)
+            }
+            Err(gates) => Err(Member { gates, task }),
+        }
+    }
+}
