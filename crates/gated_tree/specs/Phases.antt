@@ -1,13 +1,13 @@
 -- The orders of events of the calls at the tree: which word an event touches and how, and what comes after it.
-use Rattle.std.specs.Prelude.{ℕ, ◌+◌, ◌==◌, Bool, true, false, if◌then◌else◌, nat_lt, Option, Some, None, Result, Ok, Err, is_some}
+use Rattle.std.specs.Prelude.{ℕ, ◌+◌, ◌==◌, Bool, true, false, if◌then◌else◌, nat_lt, Option, Some, None, Ok, Err, is_some}
 use Rattle.access_model.specs.declared.actions.Action.{Action}
 use Rattle.access_model.specs.declared.actions.Action.TheVariants.{Create as CreateAction, Remove as RemoveAction, Grow as GrowAction, MoveTo as MoveToAction, Dirty, Clean, Open as OpenAction}
-use Rattle.access_model.specs.declared.{errors.GateError.{GateError, TheVariants.{Again, Invalid, NoSpace}}, replies.Next.{Next}}
+use Rattle.access_model.specs.declared.{errors.GateError.{TheVariants.{Again, Invalid, NoSpace}}, replies.Next.{Next}}
 use Rattle.access_model.specs.declared.replies.Next.TheVariants.{Go, Wait, Done}
 use Rattle.access_model.specs.declared.replies.Reply.TheVariants.{Unit as UnitReply, Node as NodeReply, Tree as TreeReply}
 use Rattle.access_model.specs.Replies.{map_next}
 use Rattle.cpu_words.specs.declared.names.WordName.{WordName, TheVariants.{Umount, Stage, Removed, Used, Node, Kids}}
-use Rattle.cpu_words.specs.{declared.events.Touch.{Touch, TheVariants.{Load, Store, Add, Sub, And, Cas}}, Hooks.{HookAnswer}}
+use Rattle.cpu_words.specs.{declared.events.Touch.{Touch, TheVariants.{Load, Store, Add, Sub, Cas}}, Hooks.{HookAnswer}}
 use Rattle.gated_tree.specs.declared.changes.{Create.{Create}, CreateStep.{CreateStep}}
 use Rattle.gated_tree.specs.declared.changes.CreateStep.TheVariants.{LoadsDirectory, LoadsNode, ChargesChild, TakesNode, RefundsChild}
 use Rattle.gated_tree.specs.declared.changes.{Remove.{Remove}, RemoveStep.{RemoveStep}}
@@ -23,7 +23,7 @@ use Rattle.gated_tree.specs.declared.snapshots.SnapshotStep.TheVariants.{Locks, 
 use Rattle.gated_tree.specs.declared.phases.TreePhase.{TreePhase}
 use Rattle.gated_tree.specs.declared.phases.TreePhase.TheVariants.{Create as Creates, Remove as Removes, Grow as Grows, MoveTo as Moves, Mark as Marks, OpenFile as OpensOne, Snapshot as Snapshots, ClearMarks as Clears}
 use Rattle.node_words.specs.{declared.nodes.NodeWord.{NodeWord}, Phases.{after_look, clear_next, clear_after}}
-use Rattle.node_words.specs.Nodes.{word_of, unpacked, dirty_in, new_node, grown_node, moved_node, marked_node, opened_node, unlinked_node, file_in, directory_in, node_after}
+use Rattle.node_words.specs.Nodes.{word_of, unpacked, new_node, grown_node, moved_node, marked_node, opened_node, unlinked_node, file_in, directory_in, node_after}
 
 -- Create: find the directory, and a free node; charge a child to the directory, and take the node. Where it was taken meanwhile, the
 -- child is subtracted again.

@@ -1,9 +1,9 @@
 use Rattle.std.proofs.{Common.{◌≡◌, sym, ap, ◌∙◌, refl, codes, true, false, Some}, lemmas.Bool.{false≢true}}
-use Rattle.std.specs.Prelude.{Option, is_some, not, option_map}
-use Rattle.clap.specs.Words.{first_of, found_of, rows_of}
+use Rattle.std.specs.Prelude.{Option, option_map}
+use Rattle.clap.specs.Words.{found_of, rows_of}
 use Rattle.clap.proofs.WalkLemmas.{first_value-rows}
-use Rattle.command_line.specs.{CommandLine.{is_off}, declared.words.{ReplayForm.{ReplayForm}, Replay.{Replay}}}
-use Rattle.command_line.proofs.Parsing.{PlainRows, and_left, and_right, is_none, plain_rows, unmapped, same_replay, same_form}
+use Rattle.command_line.specs.{declared.words.{ReplayForm.{ReplayForm}, Replay.{Replay}}}
+use Rattle.command_line.proofs.Parsing.{plain_rows, unmapped, same_replay, same_form}
 use Rattle.command_line.proofs.words.replay_of.Goals as goal
 
 pub returns-in_default-clause-plain : goal.returns-in_default-clause-plain

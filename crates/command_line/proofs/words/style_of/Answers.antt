@@ -1,4 +1,4 @@
-use Rattle.std.proofs.Common.{◌≡◌, ◌∙◌, ap₂, false, sym, Bool, Option, Some}
+use Rattle.std.proofs.Common.{◌∙◌, ap₂, sym, Bool, Option, Some}
 use Rattle.command_line.specs.declared.words.Style.{Style}
 use Rattle.command_line.proofs.Parsing.{same_flag}
 use Rattle.command_line.proofs.words.style_of.Goals as goal

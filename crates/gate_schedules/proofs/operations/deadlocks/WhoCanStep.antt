@@ -20,7 +20,7 @@ use Rattle.mount_counts.specs.{Phases.{has_flag}, Roles.{has_hold}}
 use Rattle.mount_counts.proofs.laws.Bits.{hold_set}
 use Rattle.gate_schedules.specs.operations.{Progress.{EventsKeepRule, ReplyWithin}, Ranks.{most_alone, most_beside}, Unblocked.{HoldIsClear, IsUnblocked}}
 use Rattle.gate_schedules.specs.operations.Unblocked.{NothingCounted, PhaseEnds}
-use Rattle.std.specs.Prelude.{None, Option, Some, if◌then◌else◌, nat_lt, not, ◌&&◌, ◌-◌, ◌||◌, ◌⊎◌}
+use Rattle.std.specs.Prelude.{None, Option, Some, nat_lt, not, ◌&&◌, ◌-◌, ◌||◌, ◌⊎◌}
 
 pub owner_free : (c : Config) (w : Words) (phase : Phase) → owns (Some phase) ≡ 1 → IsUnblocked c w phase ⊎ ((x : Freeze) × (phase ≡ Phase.Freezes x))
 owner_free c w phase h = grind arith

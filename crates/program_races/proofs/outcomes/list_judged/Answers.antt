@@ -1,4 +1,4 @@
-use Rattle.std.proofs.Common.{sym, subst, ap, ◌∙◌, ◌++◌, List, ℕ}
+use Rattle.std.proofs.Common.{ap, ◌∙◌}
 use Rattle.program_races.proofs.Listed.{tells_as}
 use Rattle.schedule_lines.specs.declared.output.Output.{Output}
 use Rattle.program_races.proofs.outcomes.list_judged.Goals as goal
