@@ -17,17 +17,11 @@ some_held User kernel false none own = false≢true own
 
 -- who holds a freeze holds it beside one more
 held_beside : (h other : Holder) (held : Holders) → held_by held h ≡ true → held_by (with_holder other true held) h ≡ true
-held_beside Kernel Kernel held own = refl
-held_beside Kernel User held own = own
-held_beside User Kernel held own = own
-held_beside User User held own = refl
+held_beside a0 a1 held own = grind arith
 
 -- and where another one has left
 held_without : (h other : Holder) (held : Holders) → (other ≡ h → ⊥) → held_by held h ≡ true → held_by (with_holder other false held) h ≡ true
-held_without Kernel Kernel held ne own = absurd (ne refl)
-held_without Kernel User held ne own = own
-held_without User Kernel held ne own = own
-held_without User User held ne own = absurd (ne refl)
+held_without a0 a1 held ne own = grind arith
 
 module _ (l : Limits) (s : State) (t : ℕ) (h : Holder) (frozen : IsFrozenFor s h) where
   -- after this action all is frozen for this one, as before
@@ -47,25 +41,7 @@ module _ (l : Limits) (s : State) (t : ℕ) (h : Holder) (frozen : IsFrozenFor s
   staged (suc (suc (suc (suc (suc n))))) may = absurd may
 
   left : (a : Action) → MayDo l s t a → (a ≡ Leave h → ⊥) → IsLeft a
-  left (Grant gate) may ne = (frozen, refl)
-  left (Return gate) may ne = (frozen, refl)
-  left (MountRo m) may ne = (frozen, refl)
-  left (MountRw m) may ne = (frozen, refl)
-  left SbRo may ne = (frozen, refl)
-  left SbRw may ne = (frozen, refl)
-  left (Stage n) may ne = staged n may
-  left (Hold other) may ne = ((frozen.0, held_beside h other s.holders frozen.1), refl)
-  left (Leave other) may ne = ((frozen.0, held_without h other s.holders (λ q. ne (ap Leave q)) frozen.1), refl)
-  left (Pass i) may ne = absurd (omega (arith, frozen.0, may.0.1, may.1))
-  left (Reopen i) may ne = absurd (omega (arith, frozen.0, may.1))
-  left (Create n d kind) may ne = (frozen, refl)
-  left (Remove n) may ne = (frozen, refl)
-  left (Grow n blocks) may ne = (frozen, refl)
-  left (MoveTo n d) may ne = (frozen, refl)
-  left (Dirty n) may ne = (frozen, refl)
-  left (Clean n) may ne = (frozen, refl)
-  left (Open n) may ne = (frozen, refl)
-  left (Close n) may ne = (frozen, refl)
+  left a0 may ne = grind arith
 
 pub stays_frozen : (l : Limits) (s : State) (t : ℕ) (a : Action) (h : Holder) → StaysFrozen l s t a h
 stays_frozen l s t a h allowed frozen ne = left l s t h frozen a allowed.1 ne

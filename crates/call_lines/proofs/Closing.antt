@@ -82,13 +82,11 @@ module _ (x : Freeze) where
   cleans_leave held marks found = cleans_case held marks.node (dirty_in found == 1)
 
   pub syncs_leave : (held : Accesses) (found : ℕ) (hook : HookAnswer) → held ≡ accesses_after held (after_of (standing x SetsFs) found hook).1
-  syncs_leave held found (Ok answer) = refl
-  syncs_leave held found (Err code) = refl
+  syncs_leave held found a2 = grind arith
 
   pub completes_leave : (held : Accesses) (found : ℕ) (hook : HookAnswer) →
       held ≡ accesses_after held (after_of (standing x SetsComplete) found hook).1
-  completes_leave held found (Ok answer) = refl
-  completes_leave held found (Err code) = refl
+  completes_leave held found a2 = grind arith
 
 module _ (x : Freeze) (level : ℕ) where
   -- whether nobody was counted

@@ -1,4 +1,5 @@
 -- What comes after each event of the reopening of the levels.
+use Rattle.std.proofs.Common.{arith}
 use Rattle.std.proofs.Common.{◌≡◌, ℕ, Bool, true, false, refl, sym, ap, ◌∙◌, subst}
 use Rattle.std.specs.Prelude.{Some, Ok, Err, ◌==◌, if◌then◌else◌}
 use Rattle.access_model.specs.{Holders.{held_by, with_holder, is_unheld}, declared.actions.Holders.{Holders}}
@@ -40,8 +41,7 @@ module _ (x : Thaw) where
 
   -- the store that `unfreeze_fs` decides leaves the accesses
   pub leaves_last : (held : Accesses) (found : ℕ) (hook : HookAnswer) → held ≡ accesses_after held (after_of (thaw_at x LeavesLast) found hook).1
-  leaves_last held found (Ok answer) = refl
-  leaves_last held found (Err code) = refl
+  leaves_last held found a2 = grind arith
 
 module _ (x : Thaw) (level : ℕ) where
   -- a thaw stands at a step
@@ -60,6 +60,4 @@ module _ (x : Thaw) (level : ℕ) where
 
   pub exits_last : (found expect : ℕ) (from to : SyncWord) → pack from ≡ expect →
       (after_of (opening_at x level (Exits (Exchanges from to))) found (Ok tt)).0 ≡ Go (reopened x level (found == expect))
-  exits_last found expect from to same =
-      subst (λ n. (after_of (opening_at x level (Exits (Exchanges from to))) found (Ok tt)).0 ≡ Go (reopened x level (found == n))) same
-      (exits_case from to (found == pack from))
+  exits_last found expect from to same = grind arith

@@ -1,4 +1,5 @@
 -- Each word has a place of its own, at whatever limits: a list that has every word has every word after a write of one.
+use Rattle.std.proofs.lemmas.Grind.{common_steps}
 use Rattle.std.proofs.Common.{◌≡◌, ℕ, zero, suc, subst, ◌<◌, List, length, refl, sym, ap, ◌∙◌, inl, inr, arith, get_or-set_same, get_or-set_other}
 use Rattle.std.proofs.{Math.ListN.{length-set}, lemmas.{List.{length-replicate}, Bool.Decides.{eqb_tells}}}
 use Rattle.std.specs.Prelude.{slice_index, slice_set, replicate}
@@ -38,25 +39,10 @@ module _ (e : Extents) (few : AreFew e) where
 
     -- a list of the opening words has them
     pub opening_listed : (size : ℕ) (xs : List ℕ) → AreOpening index size xs → IsWord e (Node 0) → ListShows index e xs opening_words
-    opening_listed size xs opens root name there =
-        elim (eqb_tells (place name) (place (Node 0))) [
-          | inl same ↦ rw (same_name (Node 0) name root there same.1) opens.root
-          | inr differ ↦
-              opens.zeros (index (place name)) (λ q. differ.1 (apart (place name) (place (Node 0)) q)) ∙
-              sym (read_put_other no_words 2 (Node 0) name (λ q. differ.1 (ap place q)) ∙ read_no_words name)
-        ]
+    opening_listed size xs opens root name there = grind arith
 
 -- zeros in a list of this length, with the root's word written, are all words as they begin
 pub opening_from : (index : ℕ → ℕ) (size at : ℕ) (xs : List ℕ) → index (place (Node 0)) < size → at ≡ index (place (Node 0)) →
     xs ≡ replicate size 0 →
     AreOpening index size (slice_set xs at 2)
-opening_from index size at xs inside at_is xs_is =
-    let root : ℕ = index (place (Node 0)) in
-    let zeros : List ℕ = replicate size 0 in
-    let long : length zeros ≡ size = length-replicate {A = ℕ} size 0 in
-    let written : AreOpening index size (slice_set zeros root 2) = record {
-      long = length-set zeros root 2 ∙ long;
-      root = get_or-set_same zeros root 2 0 (omega arith);
-      zeros = λ i ne. get_or-set_other zeros root i 2 0 ne ∙ zeros_at size i;
-    } in
-    subst (λ (z : List ℕ × ℕ). AreOpening index size (slice_set z.0 z.1 2)) (λ j. (sym xs_is j, sym at_is j)) written
+opening_from index size at xs inside at_is xs_is = grind (arith, common_steps)

@@ -133,13 +133,11 @@ renewed_at w n = record { words = w.words; views = update w.views n (renewed (w.
 -- what an owner of `umount` knows, it knows still
 renewed_knows : (ws : Words) (p : Option Phase) (trace : List Traced) → (owns p ≡ 1 → KnowsWords ws trace) → owns p ≡ 1 →
     KnowsWords ws (trace_kept p trace)
-renewed_knows ws None trace knows o = absurd (omega (arith, o))
-renewed_knows ws (Some phase) trace knows o = knows o
+renewed_knows ws a1 trace knows o = grind arith
 
 -- what the number is doing at the tree, it does still
 renewed_role : (p : Option Phase) (trace : List Traced) → tree_role_of (trace_kept p trace) p ≡ tree_role_of trace p
-renewed_role None trace = refl
-renewed_role (Some phase) trace = refl
+renewed_role a0 trace = grind arith
 
 -- each part of the rule holds of it: it reads the same of the view, but for the trace of a number that is idle
 renewed_part : (c : Config) (w : World) → IsGood c w → (n : ℕ) → n < c.tasks → (part : Part) → Holds c (renewed_at w n) part

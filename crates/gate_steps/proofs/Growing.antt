@@ -1,4 +1,5 @@
 -- The schedule goes on from what each seat has seen.
+use Rattle.std.proofs.lemmas.Grind.{common_steps}
 use Rattle.std.proofs.Common.{◌≡◌, ℕ, zero, suc, ◌≤◌, List, [], ◌∷◌, ◌++◌, map, set, sym, refl, ap, ◌∙◌, subst, ⊎_elim, arith}
 use Rattle.std.proofs.lemmas.List.{append_assoc, append-nil}
 use Rattle.std.specs.Prelude.{Option, Some, None}
@@ -22,28 +23,15 @@ added_by t (Some op) hook = Begins t op ∷ (Steps t hook ∷ [])
 
 added_is : (t : ℕ) (begins : Option Op) (hook : HookAnswer) (past : List Entry) →
     then_steps t hook (then_begins t begins past) ≡ past ++ added_by t begins hook
-added_is t None hook past = refl
-added_is t (Some op) hook past = append_assoc past (Begins t op ∷ []) (Steps t hook ∷ [])
+added_is t a1 hook past = grind (arith, common_steps)
 
 none_added : (t n : ℕ) → (t ≡ n → ⊥) → (begins : Option Op) (hook : HookAnswer) → NoneOf n (added_by t begins hook)
-none_added t n ne None hook = (ne, tt)
-none_added t n ne (Some op) hook = (ne, (ne, tt))
+none_added t n ne a3 hook = grind arith
 
 -- what a seat has seen, it has seen still after an event of a number that it has not
 pub seen_on : (past more now : List Entry) → now ≡ past ++ more → (items : DealtNumbers) (seen : List (List Entry)) →
     ((n : ℕ) → 1 ≤ times n items → NoneOf n more) → HaveSeen past items seen → HaveSeen now items seen
-seen_on past more now is items seen others have = record {
-  goes_on = λ k earlier at. let g = have.goes_on k earlier at in
-      (g.0 ++ more, is ∙ (ap (λ (l : List Entry). l ++ more) g.1 ∙ append_assoc earlier g.0 more));
-  rested = λ n here. let r = have.rested n here in record {
-    place = r.place;
-    earlier = r.earlier;
-    there = r.there;
-    since = r.since ++ more;
-    is = is ∙ (ap (λ (l : List Entry). l ++ more) r.is ∙ append_assoc r.earlier r.since more);
-    none = none_append n r.since more r.none (others n here);
-  };
-}
+seen_on past more now is items seen others have = grind (arith, common_steps, append_assoc, none_append)
 
 -- of the schedule that stands, all is seen
 goes_now : (now : List Entry) (k : ℕ) (earlier : List Entry) → get_elem? (now ∷ []) k ≡ some earlier → IsPrefix earlier now

@@ -35,31 +35,22 @@ IsNoStore (Sync i, Store value) = ⊥
 IsNoStore event = Unit {0}
 
 want_word : (x : Want) (s : WantStep) → IsNoStore (want_next x s)
-want_word x CountsUp = tt
-want_word x other = tt
+want_word x other = grind arith
 
 change_word : (x : Change) (s : ChangeStep) → IsNoStore (change_next x s)
-change_word x Locks = tt
-change_word x other = tt
+change_word x other = grind arith
 
 remount_word : (x : Remount) (s : RemountStep) (hook : HookAnswer) → IsNoStore (remount_next x s hook)
-remount_word x SetsWritable (Ok answer) = tt
-remount_word x SetsWritable (Err code) = tt
-remount_word x RSetsReadOnly (Ok answer) = tt
-remount_word x RSetsReadOnly (Err code) = tt
-remount_word x other hook = tt
+remount_word x other hook = grind arith
 
 read_word : (x : DownRead) (s : DownReadStep) → IsNoStore (down_read_next x s)
-read_word x EntersSection = tt
-read_word x other = tt
+read_word x other = grind arith
 
 callback_word : (x : Callback) (s : CallbackStep) → IsNoStore (callback_next x s)
 callback_word x s = grind arith
 
 write_word : (x : WritePhase) → IsNoStore (write_next x)
-write_word (Takes m r) = read_word r r.step
-write_word (WWants w) = want_word w w.step
-write_word other = tt
+write_word other = grind arith
 
 freeze_word : (x : Freeze) (s : FreezeStep) (hook : HookAnswer) → IsNoStore (freeze_next x s hook)
 freeze_word x other hook = grind arith
@@ -71,58 +62,21 @@ tree_word : (x : TreePhase) (hook : HookAnswer) → IsNoStore (tree_next x hook)
 tree_word x hook = grind arith
 
 close_word : (x : ClosePhase) → IsNoStore (close_next x)
-close_word (EntersLevel file node r) = read_word r r.step
-close_word other = tt
+close_word other = grind arith
 
 -- by no phase's next event
 pub no_store : (phase : Phase) (hook : HookAnswer) → IsNoStore (next_of phase hook)
-no_store (Mounts (MWants x)) hook = want_word x x.step
-no_store (Mounts (MChanges x)) hook = change_word x x.step
-no_store (Remounts x) hook = remount_word x x.step hook
-no_store (DownReads r) hook = read_word r r.step
-no_store (Callbacks b) hook = callback_word b b.step
-no_store (Writes x) hook = write_word x
-no_store (Freezes x) hook = freeze_word x x.step hook
-no_store (Thaws x) hook = thaw_word x x.step hook
-no_store (Trees x) hook = tree_word x hook
-no_store (Closes x) hook = close_word x
-no_store other hook = tt
+no_store other hook = grind arith
 
 -- so what an event finds in a word is what the word held, where that is a node's or a sync word
 held_found : (word : WordName) (touch : Touch) (value : ℕ) → IsNoStore (word, touch) → WordIsValid word value →
     WordIsValid word (found_by touch value)
-held_found (Node n) (Store new) value none may = absurd none
-held_found (Node n) Load value none may = may
-held_found (Node n) (Add by) value none may = may
-held_found (Node n) (Sub by) value none may = may
-held_found (Node n) (Or bits) value none may = may
-held_found (Node n) (And bits) value none may = may
-held_found (Node n) (Swap new) value none may = may
-held_found (Node n) (Cas expect put) value none may = may
-held_found (Sync i) (Store new) value none may = absurd none
-held_found (Sync i) Load value none may = may
-held_found (Sync i) (Add by) value none may = may
-held_found (Sync i) (Sub by) value none may = may
-held_found (Sync i) (Or bits) value none may = may
-held_found (Sync i) (And bits) value none may = may
-held_found (Sync i) (Swap new) value none may = may
-held_found (Sync i) (Cas expect put) value none may = may
-held_found other touch value none may = tt
+held_found other touch value none may = grind arith
 
 -- the same of what a phase asks of its word
 open_found : (x : OpenFile) (s : OpenStep) (value : ℕ) → OpenReadIsValid s value → OpenReadIsValid s (found_by (open_next x s).1 value)
-open_found x LoadsFileToOpen value may = may
-open_found x (OpensFile file) value may = may
+open_found x a1 value may = grind arith
 
 pub there_found : (phase : Phase) (hook : HookAnswer) (value : ℕ) → ReadIsValid phase (next_of phase hook).0 value →
     ReadIsValid phase (next_of phase hook).0 (found_by (next_of phase hook).1 value)
-there_found (Closes (LoadsFileToClose x)) hook value may = may
-there_found (Closes (LowersCount x node)) hook value may = may
-there_found (Closes (EntersLevel file node r)) hook value may =
-    held_found (down_read_next r r.step).0 (down_read_next r r.step).1 value (read_word r r.step) may
-there_found (Closes (FreesFile file p node)) hook value may = may
-there_found (Closes (RefundsFile p blocks)) hook value may = tt
-there_found (Closes (Uncounts p)) hook value may = tt
-there_found (Closes (LeavesLevel p)) hook value may = tt
-there_found (Trees (OpensOne x)) hook value may = open_found x x.step value may
-there_found phase hook value may = held_found (next_of phase hook).0 (next_of phase hook).1 value (no_store phase hook) may
+there_found phase hook value may = grind arith

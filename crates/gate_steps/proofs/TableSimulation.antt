@@ -39,14 +39,11 @@ view_same : (v : View) (word : WordName) (touch : Touch) (n : ℕ) (hook : HookA
       snapshot = last (found_by touch (found_by touch n));
     } ≡
     record (view_with v (word, touch) n hook (after (found_by touch n))) { snapshot = last (found_by touch n) }
-view_same v word Load n hook after last = refl
-view_same v word other n hook after last = refl
+view_same v word other n hook after last = grind arith
 
 pub found_serves : (others : List (ℕ × ℕ)) (v : View) (phase : Phase) (n : ℕ) (hook : HookAnswer) →
     view_after_with_others others v phase (found_by (next_of phase hook).1 n) hook ≡ view_after_with_others others v phase n hook
-found_serves others v phase n hook =
-    view_same v (next_of phase hook).0 (next_of phase hook).1 n hook (λ k. after_of phase k hook)
-    (λ k. last_snapshot (completes phase v.trace k) v.actions others v.snapshot)
+found_serves others v phase n hook = grind arith
 
 -- the numbers that a seat has to give have done what it knows of them
 have_done : (views : ℕ → View) (log : List Done) → IsMerge (λ t. (views t).actions) log → (l : DealtNumbers) → HaveViews views l →

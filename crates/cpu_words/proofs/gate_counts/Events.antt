@@ -20,19 +20,13 @@ words_sum {tasks} {processors} {count} {at} net =
     omega (arith, words, own, parts, total_swap tasks processors (λ t. (at t).taken), total_swap tasks processors (λ t. (at t).added))
 
 pub apart_holds : (processors : ℕ) (count : ℕ → ℕ) (a : ℕ) (u : ℕ → ℕ) (b : Barring) → bars b ≡ 0 → BarringHolds processors count a u b
-apart_holds processors count a u Apart h = tt
-apart_holds processors count a u (Reading k sum) h = absurd (omega arith)
-apart_holds processors count a u ReadZero h = absurd (omega arith)
-apart_holds processors count a u Silent h = absurd (omega arith)
+apart_holds processors count a u a4 h = grind arith
 
 -- only a sum in progress and one that was 0 say something
 pub barring_kept : (processors : ℕ) (count count' : ℕ → ℕ) (a a' : ℕ) (u u' : ℕ → ℕ) →
     ((k sum : ℕ) → BarringHolds processors count a u (Reading k sum) → BarringHolds processors count' a' u' (Reading k sum)) →
     (a ≡ 0 → a' ≡ 0) → (b : Barring) → BarringHolds processors count a u b → BarringHolds processors count' a' u' b
-barring_kept processors count count' a a' u u' f g Apart h = tt
-barring_kept processors count count' a a' u u' f g (Reading k sum) h = f k sum h
-barring_kept processors count count' a a' u u' f g ReadZero h = g h
-barring_kept processors count count' a a' u u' f g Silent h = tt
+barring_kept processors count count' a a' u u' f g a9 h = grind arith
 
 -- the counts follow where one task's view and the words change alike
 pub counts_follow : (tasks processors : ℕ) (count count' : ℕ → ℕ) (at : ℕ → GateView) (t : ℕ) (v : GateView) →

@@ -1,4 +1,5 @@
 -- Each event of a task that bars a gate keeps what holds there: it sets the flag, reads the words, shuts what may be shut, clears the flag.
+use Rattle.std.proofs.lemmas.Grind.{common_steps}
 use Rattle.std.proofs.Common.{◌≡◌, ℕ, suc, ◌+◌, ◌*◌, ◌%◌, ◌<◌, ◌≤◌, ap, subst, arith}
 use Rattle.finite_sums.{proofs.Totals.{total_le, total_bound, total_add, total_at, total_none, total_zero}, specs.Sums.{update, total}}
 use Rattle.cpu_words.specs.{Sums.ahead, Touches.wrap_add}
@@ -51,10 +52,7 @@ module _ {tasks processors bit unowned : ℕ} {shut : ℕ → Type 0} {count : �
         (more, omega (arith, d), omega (arith, d))
 
     pub sum_ends : (k sum : ℕ) → suc k ≡ processors → wrap_add sum (count k) ≡ 0 → MaySay (Reading k sum) → MaySay ReadZero
-    sum_ends k sum last zero_sum d =
-        let s : ahead processors count k ≡ count k + ahead processors count (suc k) = ahead_step processors k count d.0 in
-        let e : ahead processors count (suc k) ≡ 0 = ahead_past processors (suc k) count (omega arith) in
-        omega (arith, d)
+    sum_ends k sum last zero_sum d = grind (arith, common_steps, ahead, ahead_step, ahead_past)
 
   module _ (t : ℕ) (lt : t < tasks) where
     -- the gate after an event of the task that bars it
@@ -103,14 +101,4 @@ module _ {tasks processors bit unowned : ℕ} {shut : ℕ → Type 0} {count : �
 pub gate_begins : (tasks processors : ℕ) (shut : ℕ → Type 0) →
     GateHolds tasks processors 0 0 shut (λ p. 0)
     (λ t. record { held = 0; added = λ p. 0; taken = λ p. 0; questions = 0; sought_on = 0; barring = Apart })
-gate_begins tasks processors shut = record {
-  counts = record {
-    fits = λ p lp. omega arith;
-    words = λ p lp. omega (arith, total_zero tasks);
-    own = λ t lt. omega (arith, total_zero processors);
-  };
-  room = λ t lt. omega arith;
-  flag = omega (arith, total_zero tasks);
-  sums = λ t lt. tt;
-  open_to = λ i s. total_none tasks _ (λ t lt. omega arith);
-}
+gate_begins tasks processors shut = grind (arith, common_steps, total_zero, total_none)

@@ -1,4 +1,5 @@
 -- The 0/1 numbers of a gate's view, and the words ahead of a sum.
+use Rattle.std.proofs.lemmas.Grind.{common_steps}
 use Rattle.std.proofs.{Common.{◌≡◌, ℕ, zero, suc, ◌+◌, ◌<◌, ◌≤◌, refl, ap, inl, inr, arith}, lemmas.Bool.{le-leb, lt-leb, Decides.eqb_tells}}
 use Rattle.std.specs.Prelude.{nat_le, if◌then◌else◌, ◌⊎◌}
 use Rattle.finite_sums.{proofs.Totals.{total_same, total_changed_by, total_none}, specs.Sums.{update, total}}
@@ -22,11 +23,7 @@ pub below_first : (i n : ℕ) → below i n ≤ below 0 n
 below_first i n = grind (arith, below_tells i n, below_tells 0 n)
 
 pub one_more : (q i : ℕ) → (i ≡ q → ⊥) → below i (suc q) ≤ below i q
-one_more q i ne =
-    elim (below_tells i q) [
-      | inl h ↦ omega (arith, h.0, below_le i (suc q))
-      | inr h ↦ elim (below_tells i (suc q)) [ inl k ↦ absurd (ne (omega (arith, h.1, k.1))) | inr k ↦ omega (arith, k.0) ]
-    ]
+one_more q i ne = grind (arith, common_steps, below_tells, below_le)
 
 pub ahead_none : (processors : ℕ) (count : ℕ → ℕ) → ahead processors count 0 ≡ total processors count
 ahead_none processors count = total_same processors _ _ (λ q lq. rw (le-leb 0 q (omega arith)))

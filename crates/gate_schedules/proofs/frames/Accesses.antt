@@ -8,8 +8,7 @@ use Rattle.gate_world.specs.{Accesses.{held_in, accesses_after}, Fits.ActionFits
 use Rattle.gate_world.specs.declared.{accesses.Accesses.Accesses, config.Config.Config}
 
 pub holdings_of_after : (a : Option Action) (actions : List Action) → holdings_of (actions_after a actions) ≡ held_after a (holdings_of actions)
-holdings_of_after None actions = refl
-holdings_of_after (Some a) actions = refl
+holdings_of_after a0 actions = grind arith
 
 pub long_after : (held : Accesses) (a : Option Action) → length (accesses_after held a).mounts ≡ length held.mounts
 long_after held a = grind (arith, common_steps)
@@ -23,45 +22,9 @@ deep_after held a = grind (arith, common_steps)
 -- one slot of a list is written as it is in what it agrees with
 slot_set : {A : Type 0} (xs : List A) (d : A) (seen : ℕ → A) (n : ℕ) (v u : A) → n < length xs → (i : ℕ) → (i ≡ n → v ≡ u) →
     slice_index_or xs i d ≡ seen i → slice_index_or (slice_set xs n v) i d ≡ update seen n u i
-slot_set xs d seen n v u lt i same h =
-    elim (eqb_tells i n) [
-      | inl e ↦ rw (e.1, update_at seen n u) (get_or-set_same xs n v d lt ∙ same e.1)
-      | inr e ↦ get_or-set_other xs n i v d e.1 ∙ (h ∙ sym (update_off seen n u i e.1))
-    ]
+slot_set xs d seen n v u lt i same h = grind (arith, common_steps)
 
 -- what an action leaves agrees, where what it finds does
 pub agree_after : (c : Config) (held : Accesses) → length held.mounts ≡ 8 → length held.levels ≡ 4 → length held.files ≡ 64 → (seen : Holdings) →
     (a : Option Action) → ActionFits (held_in held) a → Agree c (held_in held) seen → Agree c (held_in (accesses_after held a)) (held_after a seen)
-agree_after c held long wide deep seen (Some (Action.Grant (Gate.Mount n))) f h = record {
-  mounts = λ m lt. slot_set held.mounts 0 seen.mounts n (slice_index held.mounts n + 1) (seen.mounts n + 1) (omega (arith, f.0, long)) m
-      (λ e. ap (λ y. y + 1) (h.mounts n (omega (arith, e, lt)))) (h.mounts m lt);
-  levels = h.levels;
-  files = h.files;
-}
-agree_after c held long wide deep seen (Some (Action.Return (Gate.Mount n))) f h = record {
-  mounts = λ m lt. slot_set held.mounts 0 seen.mounts n (slice_index held.mounts n - 1) (seen.mounts n - 1) (omega (arith, f.0, long)) m
-      (λ e. ap (λ y. y - 1) (h.mounts n (omega (arith, e, lt)))) (h.mounts m lt);
-  levels = h.levels;
-  files = h.files;
-}
-agree_after c held long wide deep seen (Some (Action.Grant (Gate.Level n))) f h = record {
-  mounts = h.mounts;
-  levels = λ i one three. slot_set held.levels false seen.levels n true true (omega (arith, f.1, wide)) i (λ e. refl) (h.levels i one three);
-  files = h.files;
-}
-agree_after c held long wide deep seen (Some (Action.Return (Gate.Level n))) f h = record {
-  mounts = h.mounts;
-  levels = λ i one three. slot_set held.levels false seen.levels n false false (omega (arith, f.1, wide)) i (λ e. refl) (h.levels i one three);
-  files = h.files;
-}
-agree_after c held long wide deep seen (Some (Action.Open n)) f h = record {
-  mounts = h.mounts;
-  levels = h.levels;
-  files = λ i. slot_set held.files false seen.files n true true (omega (arith, f, deep)) i (λ e. refl) (h.files i);
-}
-agree_after c held long wide deep seen (Some (Action.Close n)) f h = record {
-  mounts = h.mounts;
-  levels = h.levels;
-  files = λ i. slot_set held.files false seen.files n false false (omega (arith, f, deep)) i (λ e. refl) (h.files i);
-}
-agree_after c held long wide deep seen other f h = h
+agree_after c held long wide deep seen other f h = grind (arith, common_steps)

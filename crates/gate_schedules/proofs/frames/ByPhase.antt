@@ -12,21 +12,17 @@ use Rattle.gate_world.specs.{Roles.{thaw_owns, thaw_stage_role}, Rules.{stage_ro
 use Rattle.gate_world.specs.{Headline.{freezing_at}, Worlds.World, declared.{config.Config.Config, work.Phase.Phase}}
 
 reopening_owner : (level : ℕ) (s : UpWriteStep) → stage_owns (reopening_role level s) ≡ 1
-reopening_owner level UpWriteStep.ClearsBlock = refl
-reopening_owner level (UpWriteStep.Exits transition) = refl
+reopening_owner level a1 = grind arith
 
 -- a freeze, a thaw and a snapshot own `umount` exactly where their roles with the stage say so
 pub freeze_owner : (nodes : ℕ) (s : FreezeStep) → stage_owns (freeze_stage_role nodes s) ≡ freeze_owns s
-freeze_owner nodes (FreezeStep.Reopens u code) = reopening_owner u.level u.step
-freeze_owner nodes s = refl
+freeze_owner nodes s = grind arith
 
 pub thaw_owner : (s : ThawStep) → stage_owns (thaw_stage_role s) ≡ thaw_owns s
-thaw_owner (ThawStep.Reopens u) = reopening_owner u.level u.step
-thaw_owner s = refl
+thaw_owner s = grind arith
 
 pub snapshot_owner : (s : SnapshotStep) → stage_owns (snapshot_stage_role s) ≡ snapshot_owns s
-snapshot_owner SnapshotStep.Locks = refl
-snapshot_owner s = refl
+snapshot_owner s = grind arith
 
 pub closing_is : (i : ℕ) (p : Option Phase) → closing i p ≡ sums i (stage_role_of p)
 closing_is i p = grind arith
@@ -48,8 +44,7 @@ stage_of (Freezing stage place owner) = Some stage
 stage_of r = None
 
 pub apart_stage : (r : StageRole) → freezes r ≡ 0 → stage_of r ≡ None
-apart_stage (Freezing stage place owner) none = absurd (omega (arith, none))
-apart_stage r none = refl
+apart_stage r none = grind arith
 
 -- is the one that it stored last by its phase
 pub freezing_is : (p : Option Phase) → freezing_at p ≡ stage_of (stage_role_of p)

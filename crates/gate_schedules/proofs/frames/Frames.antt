@@ -1,4 +1,5 @@
 -- What an event leaves alone.
+use Rattle.std.proofs.lemmas.Grind.{common_steps}
 use Rattle.access_model.specs.States.{openers}
 use Rattle.cpu_words.specs.{Words.Words, declared.{events.Touch.Touch, names.WordName.WordName}}
 use Rattle.cpu_words.specs.gate_counts.Levels.{LevelHolds, LevelRole, LevelView, Out as CountsNot}
@@ -22,12 +23,10 @@ use Rattle.std.proofs.lemmas.Bool.Decides.{eqb_tells}
 use Rattle.std.specs.Prelude.{Option, false, if◌then◌else◌, true, ◌%◌, ◌&&◌, ◌==◌, ◌||◌}
 
 pub added_load : (name : WordName) (added : ℕ → ℕ → ℕ) → added_after name Touch.Load added ≡ added
-added_load WordName.Umount added = refl
-added_load other added = refl
+added_load other added = grind arith
 
 pub taken_load : (name : WordName) (taken : ℕ → ℕ → ℕ) → taken_after name Touch.Load taken ≡ taken
-taken_load WordName.Umount taken = refl
-taken_load other taken = refl
+taken_load other taken = grind arith
 
 pub role_on : (m : ℕ) (r : Role) → role_if (m == m) r ≡ r
 role_on m r = rw (eq-eqb m m refl)
@@ -101,10 +100,7 @@ module _ (c : Config) (w : World) (t : ℕ) (lt : t < c.tasks) where
   -- a level is passed as before, where neither its word nor the task's part in its closing changes
   pub passed_same : (ws : Words) (v : View) (i : ℕ) → ws.block i ≡ w.words.block i → closing i v.phase ≡ closing i (w.views t).phase →
       is_passed c (record { words = ws; views = update w.views t v }) i ≡ is_passed c w i
-  passed_same ws v i eb ec =
-      let sums : total c.tasks (λ x. closing i (update w.views t v x).phase) ≡ total c.tasks (λ x. closing i (w.views x).phase) =
-      omega (arith, ec, total_updated (λ (u : View). closing i u.phase) c.tasks t w.views v lt) in
-      λ j. if (eb j == 1) && (sums j == 0) then 1 else 0
+  passed_same ws v i eb ec = grind (arith, common_steps)
 
   -- the shown model after an event that is no event of a freeze
   pub shown_as : (ws : Words) (v : View) → ws.block ≡ w.words.block → ((i : ℕ) → closing i v.phase ≡ closing i (w.views t).phase) →

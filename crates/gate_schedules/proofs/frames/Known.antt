@@ -28,8 +28,7 @@ put_other w word other value h k = grind (arith, h, k)
 
 load_leaves : (w : Words) (word other : WordName) (touch : Touch) → is_load touch ≡ true →
     read (put w other (left touch (read w other))) word ≡ read w word
-load_leaves w word other Touch.Load h = ap (λ ws. read ws word) (load_same w other)
-load_leaves w word other touch h = absurd (true≢false (sym h))
+load_leaves w word other touch h = grind arith
 
 -- only an owned word is known
 known_owned : (word : WordName) (trace : List Traced) (value : ℕ) → last_left word trace ≡ Some value → is_owned word ≡ true

@@ -20,12 +20,10 @@ pub hold_owns : (m : ℕ) (p : Option Phase) → has_hold (role_of m p) + skips 
 hold_owns m p = grind arith
 
 remount_sets_owns : (s : RemountStep) → remount_sets s ≤ remount_owns s
-remount_sets_owns RemountStep.Locks = omega arith
-remount_sets_owns step = omega arith
+remount_sets_owns step = grind arith
 
 pub remounts_owns : (p : Option Phase) → remounts p ≤ owns p
-remounts_owns (Some (Phase.Remounts x)) = remount_sets_owns x.step
-remounts_owns other = omega arith
+remounts_owns other = grind arith
 
 module _ (c : Config) (w : World) (good : IsGood c w) (t : ℕ) (lt : t < c.tasks) where
   pub alone : (x : ℕ) → x < c.tasks → (x ≡ t → ⊥) → owns (w.views t).phase ≡ 1 → owns (w.views x).phase ≡ 0

@@ -113,21 +113,7 @@ module _ (c : Config) (w : World) (t : ℕ) (lt : t < c.tasks) (p : Option Phase
     (a b : Next Phase) (action : Option Action) where
   -- the event of the first, done again at the second's phases, is the event of the second
   pub made_again : rephased (made (rephased w t p) t n hook a action) t (phase_after b) ≡ made w t n hook b action
-  made_again =
-      let v : View = at_phase (w.views t) p in
-      let u : View = view_with v n (read w.words n.0) hook (a, action) in
-      let there : update w.views t v t ≡ v = update_at w.views t v in
-      let once : update (update w.views t v) t (view_with (update w.views t v t) n (read w.words n.0) hook (a, action)) ≡ update w.views t u
-      =
-      ap (λ x. update (update w.views t v) t (view_with x n (read w.words n.0) hook (a, action))) there ∙ update_twice w.views t v u in
-      let again : update (update w.views t u) t (at_phase (update w.views t u t) (phase_after b)) ≡ update w.views t
-      (at_phase u (phase_after b)) =
-      ap (λ x. update (update w.views t u) t (at_phase x (phase_after b))) (update_at w.views t u) ∙
-      update_twice w.views t u (at_phase u (phase_after b)) in
-      λ j. record {
-        words = put w.words n.0 (left n.1 (read w.words n.0));
-        views = (ap (λ f. update f t (at_phase (f t) (phase_after b))) once ∙ again) j;
-      }
+  made_again  = grind arith
 
   -- so what the law of the first says of the rule and of the shown model, it says of the second, where the tree and the open files hold with the
   -- first phase before the event, and with the second's after it

@@ -1,4 +1,5 @@
 -- The rule and the shown model read no snapshot.
+use Rattle.std.proofs.Common.{arith}
 use Rattle.std.proofs.{Common.{◌≡◌, ℕ, ap, subst, refl, inl, inr, sym, ◌∙◌}, Math.Path.fun_ext, lemmas.Bool.{true≢false, Decides.eqb_tells}}
 use Rattle.std.specs.Prelude.{None, is_some, List}
 use Rattle.finite_sums.specs.Sums.{update}
@@ -16,8 +17,7 @@ abbrev bare : World → World
 bare w = record { words = w.words; views = λ t. view_without_snapshot (w.views t) }
 
 bare_part : (c : Config) (w : World) (part : Part) → Holds c (bare w) part ≡ Holds c w part
-bare_part c w Owner = refl
-bare_part c w other = refl
+bare_part c w other = grind arith
 
 bare_views : (f : ℕ → View) (t : ℕ) (u v : View) → view_without_snapshot u ≡ view_without_snapshot v → (x : ℕ) →
     view_without_snapshot (update f t u x) ≡ view_without_snapshot (update f t v x)

@@ -63,8 +63,7 @@ enter_counts tasks n = grind arith
 
 -- or ends its grace period
 call_counts : (n : TransitionNext) → down_count_role (callback_step n) ≡ CountsNot
-call_counts (TransitionNext.More x) = refl
-call_counts other = refl
+call_counts other = grind arith
 
 -- or is in it
 grace_counts : (d : DownWrite) (n : GraceNext) →
@@ -80,8 +79,7 @@ state_counts d false = counts_as d DownWriteStep.AwaitsPassed
 -- whatever number it found
 passed_counts : (d : DownWrite) (o : Option SyncWord) →
     position_count d.level (position_after_closing d.level (passed_awaited d o)) ≡ CountsNot
-passed_counts d None = counts_as d DownWriteStep.AwaitsPassed
-passed_counts d (Some word) = state_counts d (is_passed word.state)
+passed_counts d a1 = grind arith
 
 -- by its swap of a clear `block` it begins a sum
 swap_counts : (d : DownWrite) (b : Bool) → b ≡ true → position_count d.level (position_after_closing d.level
@@ -97,10 +95,7 @@ IsTaken k sum processors (Taken.Total n) = (n ≡ sum) × (processors ≤ suc k)
 -- each word that is taken leaves one of them
 is_taken : (sum : Sum) (word processors : ℕ) →
     IsTaken sum.words (wrap_add sum.total word) processors (sum_taking sum word processors)
-is_taken sum word processors = elim (cases_lt (sum.words + 1) processors) [
-  | inl l ↦ rw (lt-ltb (sum.words + 1) processors l) (omega arith, refl, omega (arith, l))
-  | inr l ↦ rw (le-ltb (sum.words + 1) processors l) (refl, omega (arith, l))
-]
+is_taken sum word processors = grind arith
 
 -- what a down-write is doing at the counts once it has its total: the level is passed where it is 0
 abbrev total_role : Bool → LevelRole
@@ -121,8 +116,7 @@ total_counts d false = counts_as d sum_begun
 -- and so after one word more
 taken_counts : (d : DownWrite) (taken : Taken) →
     position_count d.level (position_after_closing d.level (down_write_summed d taken).0) ≡ taken_role taken
-taken_counts d (Taken.More sum) = counts_as d (DownWriteStep.Sums sum)
-taken_counts d (Taken.Total n) = total_counts d (n == 0)
+taken_counts d a1 = grind arith
 
 -- a level is passed by a total of 0
 total_passes : (i j : ℕ) (b : Bool) → (if b then Some (Action.Pass i) else None) ≡ Some (Action.Pass j) → b ≡ true
@@ -131,8 +125,7 @@ total_passes i j false e = absurd (none-some (Action.Pass j) e)
 
 -- so the event that passes a level leaves it passed
 taken_passes : (d : DownWrite) (j : ℕ) (taken : Taken) → (down_write_summed d taken).1 ≡ Some (Action.Pass j) → taken_role taken ≡ CountsPassed
-taken_passes d j (Taken.More sum) e = absurd (none-some (Action.Pass j) e)
-taken_passes d j (Taken.Total n) e = ap total_role (total_passes d.level j (n == 0) e)
+taken_passes d j a2 e = grind arith
 
 pub queued_passed : (s : GpState) → is_queued s ≡ true → is_passed s ≡ true
 queued_passed s e = grind arith

@@ -22,44 +22,32 @@ ExchangeFalls sync n undefined (TransitionNext.Made state) = Unit {0}
 
 pub defined_falls : (sync n : ℕ) (undefined : Type 0) → (undefined → ⊥) → (next : TransitionNext) → ExchangeFalls sync n undefined next →
     ExchangeFalls sync n ⊥ next
-defined_falls sync n undefined never (TransitionNext.More x) h = h
-defined_falls sync n undefined never TransitionNext.Undefined h = never h
-defined_falls sync n undefined never (TransitionNext.Made state) h = tt
+defined_falls sync n undefined never a4 h = grind arith
 
 module _ (makes : SyncWord → Option SyncWord) (sync after level : ℕ) (word : SyncWord) (packed : unpack sync ≡ Some word) where
   loaded_falls : after ≡ sync → (o : Option SyncWord) → makes word ≡ o →
       ExchangeFalls after 1 (makes word ≡ None) (exchange_for word o)
-  loaded_falls is None e = e
-  loaded_falls is (Some to) e =
-      let same : (after == pack word) ≡ true = eq-eqb after (pack word) (is ∙ sym (pack_unpack sync word packed)) in
-      rw same (omega arith)
+  loaded_falls is a1 e = grind arith
 
   -- each event of a transition: a word that was changed since it was loaded is loaded again, once
   pub exchange_falls : (x : Transition) → after ≡ left (transition_next level x).1 sync →
       ExchangeFalls after (exchange_rank sync x) (makes word ≡ None)
       (transition_after makes x (found_by (transition_next level x).1 sync))
-  exchange_falls Transition.Loads is = rw packed (loaded_falls is (makes word) refl)
-  exchange_falls (Transition.Exchanges from to) is =
-      elim (eqb_tells sync (pack from)) [ inl h ↦ rw h.0 tt | inr h ↦ rw h.0 (omega arith) ]
+  exchange_falls a0 is = grind arith
 
 entering_le : (r : SyncRole) → entering r ≤ entered r
-entering_le Out = omega arith
-entering_le r = omega arith
+entering_le r = grind arith
 
 -- only one that has entered has the block set
 closed_le : (r : SyncRole) → closed r ≤ entered r
-closed_le Out = omega arith
-closed_le r = omega arith
+closed_le r = grind arith
 
 -- with a writer that has entered and none in its grace period, the state is at least GP_PASSED
 passed_state : (s : GpState) (taken : Bool) (count : ℕ) → is_lawful s taken count ≡ true → 1 ≤ count → enter_bit s ≡ 0 → is_passed s ≡ true
-passed_state GpState.Idle taken count h some none = absurd (omega (arith, eqb-true count 0 (and_parts (not taken) (count == 0) h).1))
-passed_state GpState.Enter taken count h some none = absurd (omega (arith, none))
-passed_state other taken count h some none = refl
+passed_state other taken count h some none = grind arith
 
 awaited_enter : (s : GpState) (taken : Bool) → 1 ≤ enter_bit s → is_awaited s taken ≡ true
-awaited_enter GpState.Enter taken h = refl
-awaited_enter other taken h = absurd (omega (arith, h))
+awaited_enter other taken h = grind arith
 
 awaited_taken : (s : GpState) (taken : Bool) (count : ℕ) → is_lawful s taken count ≡ true → 1 ≤ bit taken → is_awaited s taken ≡ true
 awaited_taken s false count h some = absurd (omega (arith, some))
@@ -122,8 +110,7 @@ module _ (tasks : ℕ) (word : SyncWord) (block full : ℕ) (section : ℕ → �
       not_none _ (rw a at e)
 
 slow_state : (s : GpState) (taken : Bool) (count : ℕ) → is_lawful s taken count ≡ true → 1 ≤ count → step_in s ≡ DownReadStep.CountsUpSlow
-slow_state GpState.Idle taken count h some = absurd (omega (arith, some, eqb-true count 0 (and_parts (not taken) (count == 0) h).1))
-slow_state other taken count h some = refl
+slow_state other taken count h some = grind arith
 
 pub blocked_slow : (tasks : ℕ) (word : SyncWord) (block full : ℕ) (section : ℕ → ℕ) (at : ℕ → SyncRole) →
     SyncHolds tasks word block full section at → block ≡ 1 → step_in word.state ≡ DownReadStep.CountsUpSlow

@@ -1,4 +1,6 @@
 -- The store of stage 4 that leaves all levels closed and no task's own, and the store of stage 0 that takes them over.
+use Rattle.std.proofs.Common.{arith}
+use Rattle.std.proofs.lemmas.Grind.{common_steps}
 use Rattle.std.{proofs.Common.{◌≡◌, ℕ, ◌<◌, refl, sym, ap, ◌∙◌, subst}, specs.Prelude.{Some, None}}
 use Rattle.finite_sums.{proofs.Totals.update_same, specs.Sums.update}
 use Rattle.cpu_words.specs.Words.{Words}
@@ -22,17 +24,7 @@ module _ (c : Config) (lim : IsWithin c) (w : World) (good : IsGood c w) (t : �
   whole_after : (i full : ℕ) (r : SyncRole) → is_frozen_whole ws ≡ full → inside v.phase ≡ inside (w.views t).phase →
       sync_role_of i v.phase ≡ r →
       record (level_in w i) { full = full; at = update (level_in w i).at t r } ≡ level_in (left_world w t ws v) i
-  whole_after i full r whole outside now =
-      let same : update (level_in w i).inside t (inside v.phase) ≡ (level_in w i).inside =
-      ap (update (level_in w i).inside t) outside ∙ update_same (level_in w i).inside t in
-      sym (level_moves c w good t lt ws v i ∙ (λ q. record {
-        sync = words.sync_same q i;
-        block = words.block_same q i;
-        full = whole q;
-        section = words.section_same q;
-        inside = same q;
-        at = update (level_in w i).at t (now q);
-      }))
+  whole_after i full r whole outside now = grind (arith, common_steps)
 
   -- where the task has all levels closed, and the file system is frozen as a whole from here on, each level is left to no task
   pub freezes_runs : HasPosition (w.views t).phase (Some (closed_to 3)) → HasPosition v.phase None → is_frozen_whole ws ≡ 1 →

@@ -60,22 +60,7 @@ pub record SayBeside (level : ℕ) (s z : Option LevelPosition) : Type 0 where
 
 -- with the levels up to this one closed, a level more is one whose stand has no role there yet
 same_next : (n : ℕ) (z : LevelPosition) → z.level ≡ suc n → z.count ≡ CountsNot → z.sync ≡ IsApart → SaySame (Some (closed_to n)) (Some z)
-same_next n z e count sync = record {
-  counts = λ i one three. elim (eqb_tells i (suc n)) [
-    | inl q ↦ count_at i z (q.1 ∙ sym e) ∙ (count ∙ sym (count_above i (closed_to n) (omega (arith, q.1))))
-    | inr q ↦ elim (cases_lt i (suc n)) [
-      | inl l ↦ count_below i z (omega (arith, l, e)) ∙ sym (count_closed i n (omega (arith, l)))
-      | inr l ↦ count_above i z (omega (arith, l, q.1, e)) ∙ sym (count_above i (closed_to n) (omega (arith, l, q.1)))
-    ]
-  ];
-  syncs = λ i one three. elim (eqb_tells i (suc n)) [
-    | inl q ↦ sync_at i z (q.1 ∙ sym e) ∙ (sync ∙ sym (sync_above i (closed_to n) (omega (arith, q.1))))
-    | inr q ↦ elim (cases_lt i (suc n)) [
-      | inl l ↦ sync_below i z (omega (arith, l, e)) ∙ sym (sync_closed i n (omega (arith, l)))
-      | inr l ↦ sync_above i z (omega (arith, l, q.1, e)) ∙ sym (sync_above i (closed_to n) (omega (arith, l, q.1)))
-    ]
-  ];
-}
+same_next n z e count sync = grind arith
 
 -- the closing of a level more that begins says no more than that those below it are closed
 pub closing_says : (n tasks processors : ℕ) → 1 ≤ n → SaySame (Some (closed_to n)) (Some (closing_position (closing (suc n) tasks processors)))
@@ -83,16 +68,7 @@ closing_says n tasks processors some = same_next n (closing_position (closing (s
 
 -- and the closing of level 1 that begins says nothing
 pub closing_says_none : (tasks processors : ℕ) → SaySame None (Some (closing_position (closing 1 tasks processors)))
-closing_says_none tasks processors = record {
-  counts = λ i one three. elim (eqb_tells i 1) [
-    | inl q ↦ count_at i (closing_position (closing 1 tasks processors)) q.1
-    | inr q ↦ count_above i (closing_position (closing 1 tasks processors)) (omega (arith, q.1, one))
-  ];
-  syncs = λ i one three. elim (eqb_tells i 1) [
-    | inl q ↦ sync_at i (closing_position (closing 1 tasks processors)) q.1
-    | inr q ↦ sync_above i (closing_position (closing 1 tasks processors)) (omega (arith, q.1, one))
-  ];
-}
+closing_says_none tasks processors = grind arith
 
 -- the other way round
 pub closing_next : (p : Option Phase) (n tasks processors : ℕ) → 1 ≤ n →
@@ -118,8 +94,7 @@ pub touched_sync : (w : Words) (i j : ℕ) → (j ≡ i → ⊥) → (name : Wor
 touched_sync w i j ne name touch e = grind arith
 
 pub put_inside : (l : SyncLevel) (name : WordName) (n : ℕ) → (put_at l name n).inside ≡ l.inside
-put_inside l (WordName.Sync i) n = refl
-put_inside l name n = refl
+put_inside l name n = grind arith
 
 -- An event of a task that stood so with the levels, stands so after it, and holds and has added at them what it had.
 module _ (c : Config) (w : World) (good : IsGood c w) (t : ℕ) (lt : t < c.tasks) (v : View) (s z : Option LevelPosition)

@@ -1,4 +1,5 @@
 -- What each event of a freeze or a thaw is of each level: one of the level's own kinds of event, or one that leaves it.
+use Rattle.std.proofs.lemmas.Grind.{common_steps}
 use Rattle.std.proofs.{Common.{ℕ, ◌<◌, ◌≤◌, ◌≡◌, sym, ap, ◌∙◌, inl, subst, arith, inr, ◌+◌}, lemmas.Bool.Decides.eqb_tells}
 use Rattle.std.specs.Prelude.{Option, Some}
 use Rattle.finite_sums.{proofs.Totals.{update_same}, specs.Sums.{update, total}}
@@ -35,24 +36,12 @@ module _ (c : Config) (w : World) (t : ℕ) (lt : t < c.tasks) (v : View) (s z :
   -- what the level's own event leaves of it is the level then
   own_level : 1 ≤ i → i ≤ 3 →
       left_by (level_in w i) t (name, touch) (read w.words name) (position_sync i z) ≡ level_in (left_world w t words_touched v) i
-  own_level one three =
-      let n : ℕ = left touch (read w.words name) in
-      let out : (put_at (level_in w i) name n).inside ≡ update (level_in w i).inside t (inside v.phase) =
-      put_inside (level_in w i) name n ∙
-      (sym (update_same (level_in w i).inside t) ∙ ap (update (level_in w i).inside t) (was.outside ∙ sym now.outside)) in
-      (λ q. record (left_by (level_in w i) t (name, touch) (read w.words name) (sym (now.syncs i one three) q)) { inside = out q }) ∙
-      ((λ q. record (put_level w i name touch is n q) {
-        inside = update (level_in w i).inside t (inside v.phase);
-        at = update (level_in w i).at t (sync_role_of i v.phase);
-      }) ∙ sym (level_moved w t i words_touched v))
+  own_level one three = grind (arith, common_steps)
 
   -- another level is left, where what the task says of it is
   other_level : (j : ℕ) → (j ≡ i → ⊥) → position_sync j z ≡ position_sync j s → 1 ≤ j → j ≤ 3 →
       level_in (left_world w t words_touched v) j ≡ level_in w j
-  other_level j ne same one three =
-      level_kept w t j words_touched v (touched_sync w.words i j ne name touch is) (touched_block w.words i j ne name touch is)
-      (touched_whole w.words i name touch is) (section_kept w.words i name touch is) (now.outside ∙ sym was.outside)
-      (now.syncs j one three ∙ (same ∙ sym (was.syncs j one three)))
+  other_level j ne same one three = grind (arith, common_steps)
 
   -- so it is an event of each level, where it is one of its own
   pub levels_move_runs : SayBeside i s z → (1 ≤ i → i ≤ 3 → SyncStep c.tasks (level_in w i)

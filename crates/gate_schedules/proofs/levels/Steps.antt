@@ -1,4 +1,5 @@
 -- Events as steps of a level.
+use Rattle.std.proofs.lemmas.Grind.{common_steps}
 use Rattle.std.proofs.Common.{◌≡◌, ℕ, ◌<◌, ap, ◌∙◌, arith}
 use Rattle.finite_sums.{proofs.Totals.{update_same}, specs.Sums.update}
 use Rattle.cpu_words.specs.Words.{Words}
@@ -25,13 +26,4 @@ pub level_kept : (w : World) (t i : ℕ) (ws : Words) (v : View) → ws.sync i �
     is_frozen_whole ws ≡ is_frozen_whole w.words → ws.section ≡ w.words.section → inside v.phase ≡ inside (w.views t).phase →
     sync_role_of i v.phase ≡ sync_role_of i (w.views t).phase →
     level_in (record { words = ws; views = update w.views t v }) i ≡ level_in w i
-level_kept w t i ws v es eb ef ec ei er =
-    level_moved w t i ws v ∙
-    (λ j. record {
-      sync = es j;
-      block = eb j;
-      full = ef j;
-      section = ec j;
-      inside = (ap (update (λ x. inside (w.views x).phase) t) ei ∙ update_same (λ x. inside (w.views x).phase) t) j;
-      at = (ap (update (λ x. sync_role_of i (w.views x).phase) t) er ∙ update_same (λ x. sync_role_of i (w.views x).phase) t) j;
-    })
+level_kept w t i ws v es eb ef ec ei er = grind (arith, common_steps)

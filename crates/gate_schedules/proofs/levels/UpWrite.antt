@@ -31,8 +31,7 @@ exit_level u n = grind arith
 -- after each of its events
 pub up_write_level : (u : UpWrite) (s : UpWriteStep) (found : ℕ) →
     HoldsOfNext (λ (x : UpWrite). x.level ≡ u.level) (up_write_after u s found).0
-up_write_level u UpWriteStep.ClearsBlock found = refl
-up_write_level u (UpWriteStep.Exits x) found = exit_level u (transition_after on_exit x found)
+up_write_level u a1 found = grind arith
 
 -- what comes after its event says what it said of the other levels
 opening_beside : (level : ℕ) (s : LevelPosition) → 1 ≤ level → s.level ≡ level → (n : Next UpWrite) →
@@ -78,9 +77,7 @@ module _ (c : Config) (lim : IsWithin c) (w : World) (good : IsGood c w) (t : �
   -- what comes after it says what it said of the other levels
   pub opening_others : (s : UpWriteStep) → UpWriteFits (opening_at u s) →
       SayBeside u.level (Some (opening_position (opening_at u s))) (position_after_opening u.level (next_opening s))
-  opening_others s fits =
-      opening_beside u.level (opening_position (opening_at u s)) fits.0 refl (next_opening s)
-      (up_write_level u s (found_by (up_write_next u s).1 (read w.words (up_write_next u s).0)))
+  opening_others s fits = grind arith
 
   module _ (v : View) (counts : SameLevelCounts (w.views t) v) where
     -- the counts of its level after its event: its store opens the level

@@ -125,10 +125,7 @@ module _ (c : Config) (w : World) (good : IsGood c w) where
           inside = update (level_in w i).inside t (inside v.phase);
           at = update (level_in w i).at t (sync_role_of i v.phase);
         }
-    level_moves ws v i = λ q. record (level_in (record { words = ws; views = w.views }) i) {
-      inside = update_map (λ (u : View). inside u.phase) w.views t v q;
-      at = update_map (λ (u : View). sync_role_of i u.phase) w.views t v q;
-    }
+    level_moves ws v i = grind arith
 
     -- an event of a level leaves what holds there
     pub level_steps : (ws : Words) (v : View) (i : ℕ) → 1 ≤ i → i ≤ 3 →

@@ -32,8 +32,7 @@ is_known_part Known = true
 is_known_part part = false
 
 pub known_is : (part : Part) → is_known_part part ≡ true → part ≡ Known
-known_is Known h = refl
-known_is part h = absurd (true≢false (sym h))
+known_is part h = grind arith
 
 -- the words but for these
 abbrev pub off_gates : Words → Words
@@ -41,8 +40,7 @@ off_gates w = record w { umount = 0; flags = λ m. 0; count = λ m p. 0 }
 
 -- a load leaves all words
 pub load_left : (w : Words) (word : WordName) (touch : Touch) → is_load touch ≡ true → put w word (left touch (read w word)) ≡ w
-load_left w word Touch.Load h = load_same w word
-load_left w word touch h = absurd (true≢false (sym h))
+load_left w word touch h = grind arith
 
 -- so they are as they were
 gate_words_left : (w : Words) (x : WordName × Touch) → IsGateTouch x → off_gates (put w x.0 (left x.1 (read w x.0))) ≡ off_gates w
@@ -78,13 +76,11 @@ unseen part h k old new same = absurd (true≢false h)
 -- an event on a word of want, drop and change counts at no level
 level_added_gate : (word : WordName) → is_gate_word word ≡ true → (touch : Touch) (added : ℕ → ℕ → ℕ) →
     level_added_after word touch added ≡ added
-level_added_gate (WordName.LevelCount i p) q touch added = absurd (true≢false (sym q))
-level_added_gate word q touch added = refl
+level_added_gate word q touch added = grind arith
 
 level_taken_gate : (word : WordName) → is_gate_word word ≡ true → (touch : Touch) (taken : ℕ → ℕ → ℕ) →
     level_taken_after word touch taken ≡ taken
-level_taken_gate (WordName.LevelCount i p) q touch taken = absurd (true≢false (sym q))
-level_taken_gate word q touch taken = refl
+level_taken_gate word q touch taken = grind arith
 
 pub level_added_load : (word : WordName) (touch : Touch) (added : ℕ → ℕ → ℕ) → is_load touch ≡ true →
     level_added_after word touch added ≡ added
@@ -96,8 +92,7 @@ level_taken_load word touch taken h = grind arith
 
 -- want, drop and change have no role but at mounts, and own `umount` or not
 pub mounts_roles : (next : Next MountPhase) → off_mounts (roles_of (phase_after (map_next Phase.Mounts next))) ≡ no_roles
-mounts_roles (Next.Go x) = refl
-mounts_roles other = refl
+mounts_roles other = grind arith
 
 -- so owned words change only under `umount`
 mounts_work : (w : World) (x : MountPhase) (hook : HookAnswer) → IsOwnersWork w (Phase.Mounts x) hook
@@ -114,28 +109,7 @@ mounts_opens x found hook actions = grind arith
 -- so their events are unseen at the levels
 mounts_unseen : (v : View) (x : MountPhase) (value : ℕ) (hook : HookAnswer) → v.phase ≡ Some (Phase.Mounts x) →
     IsUnseen v (view_after v (Phase.Mounts x) value hook)
-mounts_unseen v x value hook e =
-    let found : ℕ = found_by (next x hook).1 value in
-    let here : off_mounts (roles_of v.phase) ≡ no_roles = ap (λ p. off_mounts (roles_of p)) e in
-    let there : off_mounts (roles_of (phase_after (map_next Phase.Mounts (after x found hook).0))) ≡ no_roles = mounts_roles (after x found hook).0 in
-    let added : level_added_after (next x hook).0 (next x hook).1 (level_added_by v.events) ≡ level_added_by v.events =
-    elim (mounts_touch x hook) [
-      | inl h ↦ level_added_load (next x hook).0 (next x hook).1 (level_added_by v.events) h
-      | inr h ↦ level_added_gate (next x hook).0 h (next x hook).1 (level_added_by v.events)
-    ] in
-    let taken : level_taken_after (next x hook).0 (next x hook).1 (level_taken_by v.events) ≡ level_taken_by v.events =
-    elim (mounts_touch x hook) [
-      | inl h ↦ level_taken_load (next x hook).0 (next x hook).1 (level_taken_by v.events) h
-      | inr h ↦ level_taken_gate (next x hook).0 h (next x hook).1 (level_taken_by v.events)
-    ] in
-    record {
-      roles_same = there ∙ sym here;
-      tree_same = (λ j. (there j).tree (view_after v (Phase.Mounts x) value hook).trace) ∙ sym (λ j. (here j).tree v.trace);
-      level_same = λ i. level_view_as
-          (ap (λ (f : ℕ → Bool). if f i then 1 else 0) (mounts_levels x found hook v.actions))
-          (ap (λ f. f i) added) (ap (λ f. f i) taken) ((λ j. (there j).count i) ∙ sym (λ j. (here j).count i));
-      open_same = mounts_opens x found hook v.actions;
-    }
+mounts_unseen v x value hook e = grind arith
 
 -- what an event of want, drop or change leaves of the other parts
 others_hold : (c : Config) (w : World) (t : ℕ) → t < c.tasks → IsGood c w → (hook : HookAnswer) (x : MountPhase) →

@@ -27,27 +27,10 @@ module _ (w : Words) (x : Change) where
   change_falls after s free = grind arith
 
 pub want_ends : (c : Config) (x : Want) → PhaseEnds c (Phase.Mounts (MountPhase.Want x))
-want_ends c x = record {
-  falls = λ lim w good t lt hook at clear.
-      let after : Words = words_after w.words (Phase.Mounts (MountPhase.Want x)) hook in
-      let stays : HoldIsClear after x.mount = ap (λ f. has_flag f 2) (want_flags w.words x x.step) ∙ clear in
-      falls_as Phase.Mounts (rank after) (IsUnblocked c after) (want_rank x.step)
-      (map_next MountPhase.Want (want_after x x.step (found_at w.words (Phase.Mounts (MountPhase.Want x)) hook)).0)
-      (falls_as MountPhase.Want mount_rank (MountIsUnblocked after) (want_rank x.step)
-      (want_after x x.step (found_at w.words (Phase.Mounts (MountPhase.Want x)) hook)).0
-      (want_falls w.words x after stays clear x.step));
-}
+want_ends c x = grind arith
 
 pub drop_ends : (c : Config) (m p : ℕ) → PhaseEnds c (Phase.Mounts (MountPhase.Drop m p))
 drop_ends c m p = record { falls = λ lim w good t lt hook at free. tt }
 
 pub change_ends : (c : Config) (x : Change) → PhaseEnds c (Phase.Mounts (MountPhase.Change x))
-change_ends c x = record {
-  falls = λ lim w good t lt hook at free.
-      let after : Words = words_after w.words (Phase.Mounts (MountPhase.Change x)) hook in
-      falls_as Phase.Mounts (rank after) (IsUnblocked c after) (change_rank x.processors x.step)
-      (map_next MountPhase.Change (change_after x x.step (found_at w.words (Phase.Mounts (MountPhase.Change x)) hook)).0)
-      (falls_as MountPhase.Change mount_rank (MountIsUnblocked after) (change_rank x.processors x.step)
-      (change_after x x.step (found_at w.words (Phase.Mounts (MountPhase.Change x)) hook)).0
-      (change_falls w.words x after x.step free));
-}
+change_ends c x = grind arith

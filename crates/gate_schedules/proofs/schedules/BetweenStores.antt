@@ -42,15 +42,13 @@ Spares w n =
     (stores_stage 4 n.0 n.1 ≡ false) × (stores_nobody n.0 n.1 ≡ false)
 
 transition_spares : (w : Words) (level : ℕ) (transition : Transition) → Spares w (transition_next level transition)
-transition_spares w level Transition.Loads = (refl, refl, refl, refl)
-transition_spares w level (Transition.Exchanges from to) = (refl, refl, refl, refl)
+transition_spares w level a2 = grind arith
 
 down_write_spares : (w : Words) (d : DownWrite) (s : DownWriteStep) → Spares w (down_write_next d s)
 down_write_spares w d s = grind arith
 
 up_write_spares : (w : Words) (u : UpWrite) (s : UpWriteStep) → Spares w (up_write_next u s)
-up_write_spares w u UpWriteStep.ClearsBlock = (refl, refl, refl, refl)
-up_write_spares w u (UpWriteStep.Exits transition) = transition_spares w u.level transition
+up_write_spares w u a2 = grind arith
 
 -- a freeze, or a thaw, that is not between two stores after an event that is the first of none
 freeze_unstored : (next : Next Freeze) (e : Traced) (trace : List Traced) → stores_stage 4 e.event.word e.event.touch ≡ false →
@@ -58,12 +56,7 @@ freeze_unstored : (next : Next Freeze) (e : Traced) (trace : List Traced) → st
 freeze_unstored next e trace none zero_is = grind arith
 
 not_nobody : (word : ℕ) → is_held word ≡ 1 → (word == 0) ≡ false
-not_nobody word some = elim (eqb_tells word 0) [
-  | inl q ↦
-      let none : is_held word ≡ 0 = rw q.0 refl in
-      absurd (omega (arith, none, some))
-  | inr q ↦ q.0
-]
+not_nobody word some = grind arith
 
 module _ (c : Config) (w : World) (good : IsGood c w) (t : ℕ) (lt : t < c.tasks) where
   -- of the view after the next event of a phase, the role and the newest event say the same

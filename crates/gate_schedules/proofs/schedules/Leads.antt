@@ -8,8 +8,7 @@ use Rattle.gate_world.specs.declared.config.Config.{Config}
 use Rattle.gate_schedules.proofs.levels.Worlds.{fast_finds_open}
 
 not_fast : (r : SyncRole) → (r ≡ Fast → ⊥) → fast r ≡ 0
-not_fast Fast h = absurd (h refl)
-not_fast r h = refl
+not_fast r h = grind arith
 
 pub levels_lead : (c : Config) (w : World) → IsGood c w → LevelsLead c w
 levels_lead c w good t i read sum lt one three e =

@@ -20,8 +20,7 @@ beside_lists others w earlier t hook phase m x = grind arith
 
 step_lists : (w : World) (earlier : List Done) (t : ℕ) (hook : HookAnswer) (p : Option Phase) → IsMerge (lists w) earlier →
     IsMerge (lists (step_of w t hook p)) (with_action t (phase_action w hook p) earlier)
-step_lists w earlier t hook None m x = m x
-step_lists w earlier t hook (Some phase) m x = beside_lists [] w earlier t hook phase m x
+step_lists w earlier t hook a4 m x = grind arith
 
 pub begin_lists : (c : Config) (w : World) (earlier : List Done) (t : ℕ) (op : Op) (r : Option GateError) → IsMerge (lists w) earlier →
     IsMerge (lists (begin_of c w t op r)) earlier

@@ -26,8 +26,7 @@ use Rattle.std.proofs.lemmas.Bool.{cases_Bool, ltb-true, Decides.eqb_tells}
 use Rattle.std.specs.Prelude.{List, None, Option, Some, [], is_some, nat_lt, ◌∷◌}
 
 pub idle_is : (p : Option Phase) → is_some p ≡ false → p ≡ None
-idle_is None h = refl
-idle_is (Some phase) h = absurd (true≢false h)
+idle_is a0 h = grind arith
 
 -- a task with this view may begin the operation
 abbrev pub MayBeginAt : Config → View → Op → Type 0
@@ -89,11 +88,7 @@ module _ (c : Config) (lim : IsWithin c) where
   pub legal_more : (old new : State) (t : ℕ) (a : Option Action) (earlier : List Done) → Moves c old t a new →
       IsLegal (model_limits c) earlier → end_of earlier ≡ old →
       IsLegal (model_limits c) (with_action t a earlier) × (end_of (with_action t a earlier) ≡ new)
-  legal_more old new t None earlier m legal ends = (legal, ends ∙ sym m)
-  legal_more old new t (Some a) earlier m legal ends = (
-    (subst (λ s. IsAllowed (model_limits c) s t a) (sym ends) m.0, legal),
-    ap (λ s. after_action s t a) ends ∙ sym m.1,
-  )
+  legal_more old new t a3 earlier m legal ends = grind arith
 
   pub run_keeps : (es : List Entry) (w : World) (earlier : List Done) → IsGood c w → IsLegal (model_limits c) earlier →
       end_of earlier ≡ shown c w →

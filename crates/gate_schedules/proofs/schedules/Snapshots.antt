@@ -19,8 +19,7 @@ use Rattle.gate_schedules.proofs.trees.worlds.Frozen.{frozen_whole}
 -- the parent of a node is a directory also in a tree that shows the same nodes
 directory_as : (nodes : ℕ) (old new : ℕ → Option NodeInfo) → ((n : ℕ) → n < nodes → old n ≡ new n) → (node : Option NodeInfo) →
     HasDirectory nodes old node → HasDirectory nodes new node
-directory_as nodes old new same None h = tt
-directory_as nodes old new same (Some node) h = (h.0, subst IsDirectory (same node.parent h.0) h.1)
+directory_as nodes old new same a4 h = grind arith
 
 -- and such a tree is as sound
 pub sound_as : (nodes used used' : ℕ) (old new : ℕ → Option NodeInfo) (kids kids' : ℕ → ℕ) → used ≡ used' →

@@ -15,25 +15,13 @@ use Rattle.gate_schedules.specs.trees.Events.{turned, with_node, cleared_word, t
 
 parent_there : (nodes : ℕ) (node : ℕ → ℕ) (entry : Option NodeInfo) → HasParent nodes node entry →
     HasDirectory nodes (tree_shown node) entry
-parent_there nodes node None h = tt
-parent_there nodes node (Some info) h = h
+parent_there nodes node a2 h = grind arith
 
 module _ (c : Bounds) (s : TreeState) (good : TreeHolds c s) where
   -- with other flags, where these have what they ask for
   with_flags : (sealed bare : ℕ) → (sealed ≡ 1 → IsClean c.nodes (tree_shown s.node)) → (bare ≡ 1 → s.removed ≡ 0) →
       TreeHolds c (record s { sealed = sealed; bare = bare })
-  with_flags sealed bare clean none = record {
-    words = good.words;
-    root = good.root;
-    parents = good.parents;
-    blocks = good.blocks;
-    room = good.room;
-    children = good.children;
-    removals = good.removals;
-    none = none;
-    roles = good.roles;
-    clean = clean;
-  }
+  with_flags sealed bare clean none = grind arith
 
   -- the tree is sealed where every node is clean, and may be opened at any time
   pub seals : IsClean c.nodes (tree_shown s.node) → TreeHolds c (record s { sealed = 1 })

@@ -41,16 +41,7 @@ module _ (c : Bounds) (within : AreWithin c) (t : ℕ) where
 
   move_fits : (x : MoveTo) (step : MoveStep) (found : ℕ) → x.file < c.nodes → x.dir < c.nodes → MoveStepFits step →
       NextFits c t (map_next TreePhase.MoveTo (move_after x step found).0)
-  move_fits x MoveStep.LoadsFile found n d fits =
-      looked_fits TreePhase.MoveTo (at_move x MoveStep.LoadsFile) (λ file. at_move x (MoveStep.LoadsDirectory file)) (file_in found) (n, d, tt)
-      (λ file e. (n, d, file_narrow found file e))
-  move_fits x (MoveStep.LoadsDirectory file) found n d fits =
-      looked_fits TreePhase.MoveTo (at_move x (MoveStep.LoadsDirectory file)) (λ dir. at_move x (MoveStep.ChargesChild file)) (directory_in found) (n, d, fits)
-      (λ dir e. (n, d, fits))
-  move_fits x (MoveStep.ChargesChild file) found n d fits = (n, d, fits)
-  move_fits x (MoveStep.MovesFile file) found n d fits =
-      either TreePhase.MoveTo (found == word_of file) _ _ (n, d, (fits, tt)) (n, d, (omega (arith, d, within.nodes), tt))
-  move_fits x (MoveStep.RefundsChild dir answer) found n d fits = tt
+  move_fits x a1 found n d fits = grind (arith, common_steps)
 
   mark_fits : (x : Mark) (step : MarkStep) (found : ℕ) → x.file < c.nodes → NextFits c t (map_next TreePhase.Mark (mark_after x step found).0)
   mark_fits x step found n = grind (arith, common_steps)

@@ -53,8 +53,7 @@ freeing_is c used removed node kids n r e h = grind arith
 -- a node with this entry still has its parent where directories stay directories
 parent_kept : (nodes : ℕ) (node node' : ℕ → ℕ) → ((d : ℕ) → IsDirectory (node_shown (node d)) → IsDirectory (node_shown (node' d))) →
     (entry : Option NodeInfo) → HasParent nodes node entry → HasParent nodes node' entry
-parent_kept nodes node node' dirs None h = tt
-parent_kept nodes node node' dirs (Some info) h = (h.0, dirs info.parent h.1)
+parent_kept nodes node node' dirs a4 h = grind arith
 
 -- any node but the root is a child of its parent
 pub child_is : (d n : ℕ) (entry : Option NodeInfo) → 0 < n → is_child d n entry ≡ has_parent d entry

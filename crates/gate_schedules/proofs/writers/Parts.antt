@@ -1,4 +1,5 @@
 -- What an event of a freeze or a thaw may leave: each part of the rule, and the shown model.
+use Rattle.std.proofs.lemmas.Grind.{common_steps}
 use Rattle.access_model.specs.{Replies.map_next, States.{Limits, State, openers}, declared.actions.{Action.Action, Holders.Holders, NodeInfo.NodeInfo}}
 use Rattle.access_model.specs.declared.replies.{Next.Next, Reply.Reply}
 use Rattle.cpu_words.specs.{Hooks.HookAnswer, Touches.{event_of, found_by}, Words.Words}
@@ -176,10 +177,7 @@ freeze_comes_to : (c : Config) (x : Freeze) (s : FreezeStep) (hook : HookAnswer)
 freeze_comes_to c x s hook value f h = grind arith
 
 pub freeze_work : (c : Config) (w : World) (x : Freeze) (hook : HookAnswer) → FreezeFits c x.holder x.step → IsOwnersWork w (Phase.Freezes x) hook
-freeze_work c w x hook f = record {
-  changes = freeze_changes x x.step hook;
-  comes_to_own = freeze_comes_to c x x.step hook (value_at w.words (Phase.Freezes x) hook) f;
-}
+freeze_work c w x hook f = grind (arith, common_steps)
 
 pub thaw_work : (w : World) (x : Thaw) (hook : HookAnswer) → IsOwnersWork w (Phase.Thaws x) hook
 thaw_work w x hook = grind arith

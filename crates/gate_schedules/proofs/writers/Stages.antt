@@ -1,4 +1,5 @@
 -- Events of a freeze or a thaw that leave the words of the levels: on `umount`, loads by the owner, and stores of the stage.
+use Rattle.std.proofs.lemmas.Grind.{common_steps}
 use Rattle.std.{proofs.{Common.{◌≡◌, ℕ, ◌<◌, refl, sym, ap, ◌∙◌, subst, inl, inr, arith}, lemmas.Bool.Decides.eqb_tells}, specs.Prelude.{Option, Some, None}}
 use Rattle.finite_sums.{proofs.Totals.update_same, specs.Sums.update}
 use Rattle.access_model.specs.{Actions.after_action, declared.actions.Action.Action}
@@ -27,14 +28,7 @@ module _ (c : Config) (w : World) (good : IsGood c w) (t : ℕ) (lt : t < c.task
   -- an event that is about other words
   pub stays_there : (ws : Words) (v : View) → SameStageWords w.words ws → stage_role_of v.phase ≡ stage_role_of (w.views t).phase →
       IsStageEvent c w good t lt ws v Stays
-  stays_there ws v words same = λ j. record {
-    stage = words.stage_same j;
-    sb = words.sb_same j;
-    remount = words.remount_same j;
-    block = words.block_same j;
-    dirty = λ n. dirty_in (words.node_same j n);
-    at = (ap (update (stage_roles w) t) same ∙ update_same (stage_roles w) t) j;
-  }
+  stays_there ws v words same = grind (arith, common_steps)
 
   pub still_plays : {r : StageRole} → r ≡ stage_role_of (w.views t).phase → playing (stages_in w) t r ≡ stages_in w
   still_plays same = λ j. record (stages_in w) { at = (ap (update (stage_roles w) t) same ∙ update_same (stage_roles w) t) j }

@@ -50,19 +50,16 @@ up_write_counts_none u s f = grind arith
 -- What an event of a down-write adds: nothing, or that its level is passed.
 module _ (d : DownWrite) (P : Option Action → Type 0) (none : P None) (pass : P (Some (Action.Pass d.level))) where
   summed_adds : (n : Taken) → P (down_write_summed d n).1
-  summed_adds (Taken.More sum) = none
-  summed_adds (Taken.Total total) = by_bool (total == 0) (λ b. P (if b then Some (Action.Pass d.level) else None)) pass none
+  summed_adds a0 = grind arith
 
   -- each event
   pub down_write_adds : (s : DownWriteStep) (found : ℕ) → P (down_write_after d s found).1
-  down_write_adds (DownWriteStep.Sums sum) found = summed_adds (sum_taking sum found d.processors)
-  down_write_adds s found = none
+  down_write_adds s found = grind arith
 
 -- and what one of an up-write adds: nothing, or that its level is reopened
 pub up_write_adds : (u : UpWrite) (P : Option Action → Type 0) → P None → P (Some (Action.Reopen u.level)) → (s : UpWriteStep) (found : ℕ) →
     P (up_write_after u s found).1
-up_write_adds u P none opens UpWriteStep.ClearsBlock found = opens
-up_write_adds u P none opens (UpWriteStep.Exits transition) found = none
+up_write_adds u a1 none opens a4 found = grind arith
 
 pub pass_leaves : (s : State) (t i : ℕ) → LeavesRest s (after_action s t (Action.Pass i)) s.tree s.holders
 pass_leaves s t i = record { mounts_same = refl; levels_same = refl; opens_same = refl; ro_same = refl; tree_same = refl; holders_same = refl }

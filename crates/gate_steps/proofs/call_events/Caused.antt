@@ -1,4 +1,5 @@
 -- A refused call has its cause at a moment of a schedule, between call and return.
+use Rattle.std.proofs.Common.{arith}
 use Rattle.std.proofs.Common.{◌≡◌, ℕ, List, [], ◌∷◌, ◌++◌, refl, sym, ap, ◌∙◌, subst}
 use Rattle.std.specs.Prelude.{Some, Err}
 use Rattle.access_model.specs.declared.{errors.GateError.{GateError}, replies.Next.TheVariants.{Done}}
@@ -15,8 +16,7 @@ use Rattle.gate_steps.proofs.call_events.{Running.{course_is, completed_is}, Spa
 
 -- what an event says that it found, it finds again
 found_again : (touch : Touch) (n : ℕ) → found_by touch (found_by touch n) ≡ found_by touch n
-found_again Load n = refl
-found_again other n = refl
+found_again other n = grind arith
 
 -- what an event says that it found, it finds in the world of its moment
 says : (c : Config) (n : ℕ) (op : Op) (earlier : List Traced) (e : Traced) (entries : List Entry)
@@ -48,19 +48,7 @@ module _ (c : Config) (items : DealtNumbers) (op : Op) (earlier : List Traced) (
 
   -- so the same in a schedule alone
   alone : IsCausedDuring c items op earlier e refusal seen gone → IsCausedBy c n op earlier e refusal
-  alone caused =
-      let during : IsEventDuring c items op earlier e seen gone = caused.during in record {
-        within = during.within;
-        task = during.task;
-        entries = during.entries;
-        phase = during.happens.phase;
-        at = during.happens.at;
-        under_way = during.happens.under_way;
-        events = during.happens.events;
-        finds = during.happens.finds;
-        ends = caused.ends;
-        cause = subst (λ (worlds : List World). HasCause c n worlds during.happens.phase refusal) (sym during.moments) caused.cause;
-      }
+  alone caused = grind arith
 
 trace_caused : (c : Config) (items : DealtNumbers) (op : Op) (refusal : GateError) (seen gone : List (List Entry)) (trace : List Traced) →
     (state_of_trace c (own_number items) op trace).comes ≡ Done (Err refusal) → AreMoves c op items seen trace gone →
@@ -72,8 +60,7 @@ trace_caused c items op refusal seen gone (e ∷ earlier) ends moves =
 
 all_alone : (c : Config) (items : DealtNumbers) (op : Op) (refusal : GateError) (seen gone : List (List Entry)) (trace : List Traced) →
     HasItsCauseDuring c items op trace refusal seen gone → HasItsCause c (own_number items) op trace refusal
-all_alone c items op refusal seen gone [] h = h
-all_alone c items op refusal seen gone (e ∷ earlier) h = alone c items op earlier e refusal seen gone h
+all_alone c items op refusal seen gone a6 h = grind arith
 
 -- so a refused call has it
 pub call_caused_during : (op : Op) (old left : SeatedTask) (refusal : GateError) (called : Called op old left (Err refusal)) →

@@ -16,8 +16,7 @@ use Rattle.gate_steps.proofs.call_events.{Running.{events_left, falls}, Turning.
 -- the phase that the operation stands at, where it goes on
 pub stands_at : {A : Type 0} (as_phase : A → Phase) (next : Next A) (x : A) → (next ≡ Go x) ⊎ (next ≡ Wait x) →
     phase_after (map_next as_phase next) ≡ Some (as_phase x)
-stands_at as_phase next x (inl is) = ap (λ n. phase_after (map_next as_phase n)) is
-stands_at as_phase next x (inr is) = ap (λ n. phase_after (map_next as_phase n)) is
+stands_at as_phase next x a3 = grind arith
 
 -- and what comes next, where it replied
 pub done_at : {A : Type 0} (as_phase : A → Phase) (next : Next A) (answer : Result Reply GateError) → next ≡ Done answer →

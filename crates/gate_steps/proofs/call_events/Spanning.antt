@@ -1,4 +1,5 @@
 -- Each event of a call has its moment between call and return.
+use Rattle.std.proofs.Common.{arith}
 use Rattle.std.proofs.{Common.{◌≡◌, ℕ, List, [], ◌∷◌, ◌++◌, refl, sym, ap, ◌∙◌, subst}, lemmas.List.{append_assoc, append-nil}}
 use Rattle.std.specs.Prelude.{is_some, false, Option, Some, None}
 use mathlib.Core.Option.{some}
@@ -20,13 +21,11 @@ use Rattle.gate_steps.proofs.call_events.Moments.{own_more, own_none, own_one, r
 
 -- a beginning changes no word
 entered_words : (c : Config) (w : World) (t : ℕ) (begins : Option Op) → (world_entered c w t begins).words ≡ w.words
-entered_words c w t None = refl
-entered_words c w t (Some op) = refl
+entered_words c w t a3 = grind arith
 
 -- what isn't under way has no phase
 none_of : (o : Option Phase) → is_some o ≡ false → o ≡ None
-none_of None is = refl
-none_of (Some phase) is = absurd (let no : ⊥ = cc in no)
+none_of a0 is = grind arith
 
 -- the moment of an event that was a move of a phase, of an operation that was under way with these earlier events
 happens_after : (c : Config) (op : Op) (earlier : List Traced) (e : Traced) (begins : Option Op) (phase : Phase) (x : Numbered)
@@ -36,21 +35,7 @@ happens_after : (c : Config) (op : Op) (earlier : List Traced) (e : Traced) (beg
     (move : StepWitness c begins phase e.hook x xs found seen gone) → (entered x.view begins phase).phase ≡ Some phase →
     (entered x.view begins phase).op ≡ Some op → (entered x.view begins phase).trace ≡ earlier →
     HappensAfter c x.number op earlier e move.reached.entries
-happens_after c op earlier e begins phase x xs found seen gone comes is move at under_way events =
-    let t : ℕ = x.number in
-    let w : World = world_after c move.reached.entries in
-    let like : IsLike (w.views t) ((world_entered c move.world t begins).views t) = move.reached.views t in
-    let words : w.words ≡ move.world.words = move.reached.words ∙ entered_words c move.world t begins in
-    let hook : HookAnswer = e.hook in
-    let same = like.same op (ap (λ (v : View). v.op) move.stands ∙ under_way) in
-    let here : found ≡ found_at w.words phase hook = move.found ∙ ap (λ (l : Words). found_at l phase hook) (sym words) in record {
-      phase = phase;
-      comes = comes;
-      at = like.phase ∙ (ap (λ (v : View). v.phase) move.stands ∙ at);
-      under_way = same.0;
-      events = same.1 ∙ (ap (λ (v : View). v.trace) move.stands ∙ events);
-      finds = is ∙ ap (λ n. with_hook (event_of (next_of phase hook).0 (next_of phase hook).1 n) hook) here;
-    }
+happens_after c op earlier e begins phase x xs found seen gone comes is move at under_way events = grind arith
 
 -- the schedule that an event leaves
 leaves_so : (c : Config) (begins : Option Op) (phase : Phase) (hook : HookAnswer) (x : Numbered) (xs : DealtNumbers) (found : ℕ)

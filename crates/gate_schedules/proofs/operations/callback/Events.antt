@@ -1,4 +1,5 @@
 -- Events of a callback: each keeps the rule, and leaves the shown model.
+use Rattle.std.proofs.lemmas.Grind.{common_steps}
 use Rattle.access_model.specs.{Histories.{levels_of}, Replies.{map_next}, declared.replies.Next.{Next}}
 use Rattle.cpu_words.specs.{Hooks.{HookAnswer}, Touches.{found_by, left}, Words.{Words, put, read}, declared.events.Touch.{Touch}}
 use Rattle.cpu_words.specs.{declared.names.WordName.{WordName}, gate_counts.Levels.{Out as CountsNot}}
@@ -48,20 +49,16 @@ module _ (b : Callback) (counted : ℕ → ℕ → ℕ) where
   level_taken_same s = grind arith
 
 no_action : (b : Callback) (s : CallbackStep) (found : ℕ) → (callback_after b s found).1 ≡ None
-no_action b (CallbackStep.Claims x) found = refl
-no_action b other found = refl
+no_action b other found = grind arith
 
 after_at_levels : (n : Next Callback) → IsAtLevels (phase_after (map_next Phase.Callbacks n))
-after_at_levels (Next.Go x) = refl
-after_at_levels other = refl
+after_at_levels other = grind arith
 
 after_counts : (i : ℕ) (n : Next Callback) → level_role_of i (phase_after (map_next Phase.Callbacks n)) ≡ CountsNot
-after_counts i (Next.Go x) = refl
-after_counts i other = refl
+after_counts i other = grind arith
 
 after_outside : (n : Next Callback) → inside (phase_after (map_next Phase.Callbacks n)) ≡ 0
-after_outside (Next.Go x) = refl
-after_outside other = refl
+after_outside other = grind arith
 
 -- what stays of a callback from event to event: its level, and that its grace period is among all tasks
 abbrev SameCallback : ℕ → ℕ → Callback → Type 0
@@ -135,9 +132,7 @@ module _ (c : Config) (w : World) (good : IsGood c w) (t : ℕ) (lt : t < c.task
 
   -- what comes after it knows what is to come
   knows_next : HoldsOfNext (λ (x : Callback). (x.tasks ≡ b.tasks) × KnowsCallback x.step) coming
-  knows_next =
-      subst (λ value. HoldsOfNext (λ (x : Callback). (x.tasks ≡ b.tasks) × KnowsCallback x.step)
-      (callback_after b s (found_by touch value)).0) found is_there.1
+  knows_next  = grind (arith, common_steps)
 
   -- it is inside no section before its event and after it
   pub stays_outside : inside seen_after.phase ≡ inside (w.views t).phase

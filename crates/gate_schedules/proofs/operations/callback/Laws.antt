@@ -1,4 +1,5 @@
 -- All that is proved of a callback.
+use Rattle.std.proofs.Common.{arith}
 use Rattle.access_model.specs.{Replies.map_next, declared.{actions.Action.Action, replies.Next.Next}}
 use Rattle.gate_schedules.proofs.frames.{Frames.sync_none, OperationLaws.{OpLaws, PhaseLaws, word_among}, Snapshots.completes_none}
 use Rattle.gate_schedules.proofs.operations.callback.{Events.callback_keeps, Trace.{CallbackAt, callback_inductive}}
@@ -13,8 +14,7 @@ use Rattle.std.specs.Prelude.{List, Option, Some, ◌∷◌}
 -- what comes after an event of a callback has no cause
 callback_cause : (c : Config) (t : ℕ) (w : World) (earlier : List World) (n : Next Callback) →
     CauseOf c t w earlier (phase_after (map_next Phase.Callbacks n))
-callback_cause c t w earlier (Next.Go x) = tt
-callback_cause c t w earlier other = tt
+callback_cause c t w earlier other = grind arith
 
 pub callback_phase : (c : Config) (b : Callback) → PhaseLaws c (Phase.Callbacks b)
 callback_phase c b = record {

@@ -1,4 +1,5 @@
 -- Traces of a callback.
+use Rattle.std.proofs.lemmas.Grind.{common_steps}
 use Rattle.std.proofs.Common.{◌≡◌, ℕ, refl, sym, subst, arith}
 use Rattle.std.specs.Prelude.{List, []}
 use Rattle.access_model.specs.{declared.{actions.Action.Action}}
@@ -32,10 +33,4 @@ module _ (c : Config) (i tasks value : ℕ) (hook : HookAnswer) (earlier : List 
   callback_event s h = grind arith
 
 pub callback_inductive : (c : Config) (t i : ℕ) → IsInductive (CallbackAt i c.tasks) c t (Op.Callback i)
-callback_inductive c t i = record {
-  first = (CallbackStep.Claims Transition.Loads, refl, refl, refl);
-  more = λ phase value hook earlier added here.
-      subst (λ (x : Phase). InvariantAfterStep (CallbackAt i c.tasks) c (Op.Callback i) x value hook earlier added) (sym here.1)
-      (callback_event c i c.tasks value hook earlier added here.2 here.0 here.3);
-  short = λ trace phase added here. tt;
-}
+callback_inductive c t i = grind (arith, common_steps)

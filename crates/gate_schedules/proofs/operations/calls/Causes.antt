@@ -18,8 +18,7 @@ snapshot_stays c t w next earlier x s e h = grind arith
 -- so it is of each call at the tree
 pub tree_stays : (c : Config) (t : ℕ) (w next : World) (earlier : List World) (x : TreePhase) →
     (next.views t).phase ≡ Some (Phase.Trees x) → TreeCause c t w earlier x → TreeCause c t next (w ∷ earlier) x
-tree_stays c t w next earlier (TreePhase.Snapshot x) e h = snapshot_stays c t w next earlier x x.step e h
-tree_stays c t w next earlier x e h = tt
+tree_stays c t w next earlier x e h = grind arith
 
 -- the task that steps: what its next phase says, in the world after the event
 module _ (c : Config) (t : ℕ) (w next : World) (earlier : List World) where

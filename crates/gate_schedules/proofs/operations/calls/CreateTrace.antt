@@ -1,4 +1,5 @@
 -- Traces of a create.
+use Rattle.std.proofs.lemmas.Grind.{common_steps}
 use Rattle.std.proofs.{Common.{◌≡◌, ℕ, ◌+◌, ◌<◌, ◌≤◌, Bool, true, false, refl, sym, subst, inl, inr, arith}, lemmas.Bool.{cases_Bool}}
 use Rattle.std.specs.Prelude.{◌==◌, Option, List, [], ◌∷◌, length, is_some}
 use Rattle.access_model.specs.declared.{actions.{Action.Action, Kind.Kind}, replies.{Next.Next}}
@@ -55,23 +56,12 @@ module _ (c : Config) (d : ℕ) (kind : Kind) where
   create_goes : IsWithin c → (earlier : List Traced) (s : CreateStep) (value : ℕ) → StepInvariant c earlier s →
       (trace : List Traced) → WordIsValid (create_next (create_of s) s).0 value →
       NextInvariant trace (events_before c s) (create_after (create_of s) s (found_by (create_next (create_of s) s).1 value)).0
-  create_goes lim earlier CreateStep.LoadsDirectory value there trace may =
-      looked (NextInvariant trace 0) (create_of CreateStep.LoadsDirectory) (λ dir. create_of (CreateStep.LoadsNode 1)) (directory_in value)
-      (made_some (λ node. as_directory node node.kind) (unpacked value) may)
-      (λ dir. (CreateStep.LoadsNode 1, refl, lim.some_node, λ q. omega arith)) (λ refusal q. omega arith)
-  create_goes lim earlier (CreateStep.LoadsNode node) value there trace may = node_looked trace node (unpacked value) there may
-  create_goes lim earlier (CreateStep.ChargesChild node) value there trace may = (CreateStep.TakesNode node, refl, tt, λ q. omega arith)
-  create_goes lim earlier (CreateStep.TakesNode node) value there trace may = elim (cases_Bool (value == 0)) [
-    | inl e ↦ rw e (λ q. omega arith)
-    | inr e ↦ rw e (CreateStep.RefundsChild, refl, tt, λ q. omega arith)
-  ]
-  create_goes lim earlier CreateStep.RefundsChild value there trace may = λ q. omega arith
+  create_goes lim earlier a2 value there trace may = grind (arith, common_steps)
 
   -- a step comes after at most that many events
   create_within : (s : CreateStep) (trace : List Traced) → StepInvariant c trace s → length trace ≤ events_before c s →
       length trace ≤ c.nodes + 3
-  create_within (CreateStep.LoadsNode node) trace there h = omega (arith, there, h)
-  create_within s trace there h = omega (arith, h)
+  create_within s trace there h = grind arith
 
   -- so the trace of a create says what its row asks for
   create_answers : (s : CreateStep) (trace : List Traced) →
@@ -81,25 +71,7 @@ module _ (c : Config) (d : ℕ) (kind : Kind) where
 
   -- and keeps it along
   create_inductive : IsWithin c → (t : ℕ) → IsInductiveGivenReads CreateAt c t (Op.Create d kind)
-  create_inductive lim t = record {
-    first = (CreateStep.LoadsDirectory, refl, (tt, tt, refl, λ q. omega arith));
-    more = λ phase value hook earlier added may here.
-        let s : CreateStep = here.0 in
-        let x : Phase = Phase.Trees (TreePhase.Create (create_of s)) in
-        let e : Traced = with_hook (event_at x value hook) hook in
-        subst (λ (p : Phase). ReadIsValid p (next_of p hook).0 value → InvariantAfterStep CreateAt c (Op.Create d kind) p value hook earlier added)
-        (sym here.1)
-        (λ holds.
-        call_says Create CreateStep TreePhase.Create create_of KnowsAtStep so_far (StepInvariant c) (events_before c) (c.nodes + 3) false c (Op.Create d kind)
-        IsNodeReply (CreateHonest (SeenIn (e ∷ earlier)) (create_of s)) (create_adds (create_of s)) e earlier
-        (create_answers s (e ∷ earlier)) (events_before c s) here.2.3
-        (create_after (create_of s) s (found_by (create_next (create_of s) s).1 value)).0
-        (create_after (create_of s) s (found_by (create_next (create_of s) s).1 value)).1 [] added here.2.2
-        (create_ends (SeenIn earlier) (SeenIn (e ∷ earlier)) (create_of s) s value here.2.1 (sees e earlier))
-        (create_goes lim earlier s value here.2.0 (e ∷ earlier) holds))
-        may;
-    short = λ trace phase added here. create_within here.0 trace here.2.0 (here.2.3 refl);
-  }
+  create_inductive lim t = grind (arith, common_steps)
 
 pub create_tells : (d : ℕ) (kind : Kind) (c : Config) → IsWithin c → (t : ℕ) (trace : List Traced) → IsTrace c t (Op.Create d kind) trace →
     Tells c (Op.Create d kind) trace (state_of_trace c t (Op.Create d kind) trace).comes (state_of_trace c t (Op.Create d kind) trace).added

@@ -1,4 +1,5 @@
 -- Traces of a grow.
+use Rattle.std.proofs.lemmas.Grind.{common_steps}
 use Rattle.std.proofs.{Common.{◌≡◌, ℕ, ◌≤◌, Bool, false, refl, sym, subst, arith}}
 use Rattle.std.specs.Prelude.{Result, Ok, Err, List, [], ◌∷◌, length}
 use Rattle.access_model.specs.declared.{actions.Action.Action, errors.GateError.GateError, replies.{Next.Next, Reply.Reply}}
@@ -57,46 +58,21 @@ module _ (c : Config) (file blocks : ℕ) where
   -- what it has added, said both ways
   grow_actions : (trace : List Traced) (answer : Result Reply GateError) →
       action_if_done (Action.Grow file blocks) answer ≡ actions_of (Op.Grow file blocks) answer trace
-  grow_actions trace (Ok reply) = refl
-  grow_actions trace (Err refusal) = refl
+  grow_actions trace a1 = grind arith
 
   -- so the trace of a grow says what its row asks for
   grow_answers : (s : GrowStep) (trace : List Traced) →
       Answers Grow GrowStep TreePhase.Grow grow_of KnowsAtStep so_far StepInvariant events_before 5 false c (Op.Grow file blocks)
       (IsReply Reply.Unit) (GrowHonest (SeenIn trace) (grow_of s)) (action_if_done (Action.Grow file blocks)) trace
-  grow_answers s trace = record {
-    told = λ reply h. h;
-    honest = grow_cause s trace;
-    actions = grow_actions trace;
-    short = λ h. h refl;
-  }
+  grow_answers s trace = grind arith
 
   -- a step comes after at most that many events
   grow_within : (s : GrowStep) (trace : List Traced) → length trace ≤ events_before s → length trace ≤ 5
-  grow_within GrowStep.LoadsFile trace h = omega (arith, h)
-  grow_within other trace h = omega (arith, h)
+  grow_within other trace h = grind arith
 
   -- and keeps it along
   grow_inductive : (t : ℕ) → IsInductiveGivenReads GrowAt c t (Op.Grow file blocks)
-  grow_inductive t = record {
-    first = (GrowStep.LoadsFile, refl, (tt, tt, refl, λ q. omega arith));
-    more = λ phase value hook earlier added may here.
-        let s : GrowStep = here.0 in
-        let x : Phase = Phase.Trees (TreePhase.Grow (grow_of s)) in
-        let e : Traced = with_hook (event_at x value hook) hook in
-        subst (λ (p : Phase). ReadIsValid p (next_of p hook).0 value → InvariantAfterStep GrowAt c (Op.Grow file blocks) p value hook earlier added)
-        (sym here.1)
-        (λ holds.
-        call_says Grow GrowStep TreePhase.Grow grow_of KnowsAtStep so_far StepInvariant events_before 5 false c (Op.Grow file blocks)
-        (IsReply Reply.Unit) (GrowHonest (SeenIn (e ∷ earlier)) (grow_of s)) (action_if_done (Action.Grow file blocks)) e earlier
-        (grow_answers s (e ∷ earlier)) (events_before s) here.2.3
-        (grow_after (grow_of s) s (found_by (grow_next (grow_of s) s).1 value)).0
-        (grow_after (grow_of s) s (found_by (grow_next (grow_of s) s).1 value)).1 ([]) added here.2.2
-        (grow_ends (SeenIn earlier) (SeenIn (e ∷ earlier)) (grow_of s) s value here.2.1 (sees e earlier))
-        (grow_goes s value (e ∷ earlier) holds))
-        may;
-    short = λ trace phase added here. grow_within here.0 trace (here.2.3 refl);
-  }
+  grow_inductive t = grind (arith, common_steps)
 
 pub grow_tells : (file blocks : ℕ) (c : Config) → IsWithin c → (t : ℕ) (trace : List Traced) → IsTrace c t (Op.Grow file blocks) trace →
     Tells c (Op.Grow file blocks) trace (state_of_trace c t (Op.Grow file blocks) trace).comes (state_of_trace c t (Op.Grow file blocks) trace).added

@@ -1,4 +1,5 @@
 -- Traces of a page fault and of a write-back.
+use Rattle.std.proofs.lemmas.Grind.{common_steps}
 use Rattle.std.proofs.{Common.{◌≡◌, ℕ, ◌≤◌, Bool, true, false, refl, sym, subst, inl, inr, arith}, lemmas.Bool.cases_Bool}
 use Rattle.std.specs.Prelude.{◌==◌, List, [], ◌∷◌, length}
 use Rattle.access_model.specs.declared.{actions.Action.Action, replies.{Next.Next, Reply.Reply}}
@@ -60,14 +61,7 @@ module _ (c : Config) (file : ℕ) (dirty : Bool) where
   -- each event is followed by a later step of the mark, or by its end
   mark_goes : (s : MarkStep) (value : ℕ) (trace : List Traced) → WordIsValid (mark_next (mark_of s) s).0 value →
       NextInvariant trace (events_before s) (mark_after (mark_of s) s (found_by (mark_next (mark_of s) s).1 value)).0
-  mark_goes MarkStep.LoadsFile value trace may =
-      looked (NextInvariant trace 0) (mark_of MarkStep.LoadsFile) (λ node. mark_of (MarkStep.MarksFile node)) (file_in value)
-      (made_some (λ node. as_file node node.removed node.kind) (unpacked value) may)
-      (λ node. (MarkStep.MarksFile node, refl, tt, λ q. omega arith)) (λ refusal q. omega arith)
-  mark_goes (MarkStep.MarksFile node) value trace may = elim (cases_Bool (value == word_of node)) [
-    | inl e ↦ rw e (λ q. omega arith)
-    | inr e ↦ rw e (λ q. omega arith)
-  ]
+  mark_goes a0 value trace may = grind arith
 
   -- so the trace of a mark says what its row asks for
   mark_answers : (trace : List Traced) →
@@ -77,30 +71,11 @@ module _ (c : Config) (file : ℕ) (dirty : Bool) where
 
   -- a step comes after at most that many events
   mark_within : (s : MarkStep) (trace : List Traced) → length trace ≤ events_before s → length trace ≤ 2
-  mark_within MarkStep.LoadsFile trace h = omega (arith, h)
-  mark_within (MarkStep.MarksFile file) trace h = omega (arith, h)
+  mark_within a0 trace h = grind arith
 
   -- and keeps it along
   mark_inductive : (t : ℕ) → IsInductiveGivenReads MarkAt c t (mark_op file dirty)
-  mark_inductive t = record {
-    first = (MarkStep.LoadsFile, mark_first c t file dirty, (tt, tt, refl, λ q. omega arith));
-    more = λ phase value hook earlier added may here.
-        let s : MarkStep = here.0 in
-        let x : Phase = Phase.Trees (TreePhase.Mark (mark_of s)) in
-        let e : Traced = with_hook (event_at x value hook) hook in
-        subst (λ (p : Phase). ReadIsValid p (next_of p hook).0 value → InvariantAfterStep MarkAt c (mark_op file dirty) p value hook earlier added)
-        (sym here.1)
-        (λ holds.
-        call_says Mark MarkStep TreePhase.Mark mark_of KnowsNothing so_far StepInvariant events_before 2 false c (mark_op file dirty)
-        (IsReply Reply.Unit) (FileHonest (SeenIn (e ∷ earlier)) file) (action_if_done (mark_done dirty file)) e earlier
-        (mark_answers (e ∷ earlier)) (events_before s) here.2.3
-        (mark_after (mark_of s) s (found_by (mark_next (mark_of s) s).1 value)).0
-        (mark_after (mark_of s) s (found_by (mark_next (mark_of s) s).1 value)).1 ([]) added here.2.2
-        (mark_ends (SeenIn earlier) (SeenIn (e ∷ earlier)) (mark_of s) s value (sees e earlier))
-        (mark_goes s value (e ∷ earlier) holds))
-        may;
-    short = λ trace phase added here. mark_short c file dirty trace (mark_within here.0 trace (here.2.3 refl));
-  }
+  mark_inductive t = grind (arith, common_steps)
 
 pub fault_tells : (file : ℕ) (c : Config) → IsWithin c → (t : ℕ) (trace : List Traced) → IsTrace c t (Op.Fault file) trace →
     Tells c (Op.Fault file) trace (state_of_trace c t (Op.Fault file) trace).comes (state_of_trace c t (Op.Fault file) trace).added

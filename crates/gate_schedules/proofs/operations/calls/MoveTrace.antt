@@ -1,4 +1,5 @@
 -- Traces of a move.
+use Rattle.std.proofs.lemmas.Grind.{common_steps}
 use Rattle.std.proofs.{Common.{ℕ, ◌≤◌, Bool, false, refl, sym, subst, inl, inr, arith}, lemmas.Bool.cases_Bool}
 use Rattle.std.specs.Prelude.{◌==◌, Ok, Err, List, ◌∷◌, length}
 use Rattle.access_model.specs.declared.{actions.Action.Action, errors.GateError.GateError, replies.{Next.Next, Reply.Reply}}
@@ -48,20 +49,7 @@ module _ (c : Config) (file dir : ℕ) where
   -- each event is followed by a later step of the move, or by its end
   move_goes : (s : MoveStep) (value : ℕ) (trace : List Traced) → WordIsValid (move_next (move_of s) s).0 value →
       NextInvariant trace (events_before s) (move_after (move_of s) s (found_by (move_next (move_of s) s).1 value)).0
-  move_goes MoveStep.LoadsFile value trace may =
-      looked (NextInvariant trace 0) (move_of MoveStep.LoadsFile) (λ node. move_of (MoveStep.LoadsDirectory node)) (file_in value)
-      (made_some (λ node. as_file node node.removed node.kind) (unpacked value) may)
-      (λ node. (MoveStep.LoadsDirectory node, refl, tt, λ q. omega arith)) (λ refusal q. omega arith)
-  move_goes (MoveStep.LoadsDirectory node) value trace may =
-      looked (NextInvariant trace 1) (move_of (MoveStep.LoadsDirectory node)) (λ found. move_of (MoveStep.ChargesChild node)) (directory_in value)
-      (made_some (λ found. as_directory found found.kind) (unpacked value) may)
-      (λ found. (MoveStep.ChargesChild node, refl, tt, λ q. omega arith)) (λ refusal q. omega arith)
-  move_goes (MoveStep.ChargesChild node) value trace may = (MoveStep.MovesFile node, refl, tt, λ q. omega arith)
-  move_goes (MoveStep.MovesFile node) value trace may = elim (cases_Bool (value == word_of node)) [
-    | inl e ↦ rw e (MoveStep.RefundsChild node.parent (Ok Reply.Unit), refl, tt, λ q. omega arith)
-    | inr e ↦ rw e (MoveStep.RefundsChild dir (Err GateError.Again), refl, tt, λ q. omega arith)
-  ]
-  move_goes (MoveStep.RefundsChild from answer) value trace may = λ q. omega arith
+  move_goes a0 value trace may = grind (arith, common_steps)
 
   -- so the trace of a move says what its row asks for
   move_answers : (s : MoveStep) (trace : List Traced) →
@@ -71,30 +59,11 @@ module _ (c : Config) (file dir : ℕ) where
 
   -- a step comes after at most that many events
   move_within : (s : MoveStep) (trace : List Traced) → length trace ≤ events_before s → length trace ≤ 5
-  move_within MoveStep.LoadsFile trace h = omega (arith, h)
-  move_within other trace h = omega (arith, h)
+  move_within other trace h = grind arith
 
   -- and keeps it along
   move_inductive : (t : ℕ) → IsInductiveGivenReads MoveAt c t (Op.MoveTo file dir)
-  move_inductive t = record {
-    first = (MoveStep.LoadsFile, refl, (tt, tt, refl, λ q. omega arith));
-    more = λ phase value hook earlier added may here.
-        let s : MoveStep = here.0 in
-        let x : Phase = Phase.Trees (TreePhase.MoveTo (move_of s)) in
-        let e : Traced = with_hook (event_at x value hook) hook in
-        subst (λ (p : Phase). ReadIsValid p (next_of p hook).0 value → InvariantAfterStep MoveAt c (Op.MoveTo file dir) p value hook earlier added)
-        (sym here.1)
-        (λ holds.
-        call_says MoveTo MoveStep TreePhase.MoveTo move_of KnowsAtStep so_far StepInvariant events_before 5 false c (Op.MoveTo file dir)
-        (IsReply Reply.Unit) (MoveHonest (SeenIn (e ∷ earlier)) (move_of s)) (action_if_done (Action.MoveTo file dir)) e earlier
-        (move_answers s (e ∷ earlier)) (events_before s) here.2.3
-        (move_after (move_of s) s (found_by (move_next (move_of s) s).1 value)).0
-        (move_after (move_of s) s (found_by (move_next (move_of s) s).1 value)).1 (move_added (move_of s) s) added here.2.2
-        (move_ends (SeenIn earlier) (SeenIn (e ∷ earlier)) (move_of s) s value here.2.1 (sees e earlier))
-        (move_goes s value (e ∷ earlier) holds))
-        may;
-    short = λ trace phase added here. move_within here.0 trace (here.2.3 refl);
-  }
+  move_inductive t = grind (arith, common_steps)
 
 pub move_tells : (file dir : ℕ) (c : Config) → IsWithin c → (t : ℕ) (trace : List Traced) → IsTrace c t (Op.MoveTo file dir) trace →
     Tells c (Op.MoveTo file dir) trace (state_of_trace c t (Op.MoveTo file dir) trace).comes (state_of_trace c t (Op.MoveTo file dir) trace).added

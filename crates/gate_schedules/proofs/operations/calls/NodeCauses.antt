@@ -1,4 +1,5 @@
 -- A call at the tree that its next event refuses for what a node is: the event loads that node, and the shown model has it so.
+use Rattle.std.proofs.lemmas.Grind.{common_steps}
 use Rattle.std.proofs.Common.{inl, inr, ◌≡◌, ℕ, refl, subst, arith}
 use Rattle.std.specs.Prelude.{Some, None, Err, List, Option, Result, ◌==◌, ◌+◌, ◌∷◌, if◌then◌else◌, Bool, true, false, nat_lt, option_map}
 use Rattle.access_model.specs.{Replies.map_next, declared.{actions.Kind.Kind, errors.GateError.GateError, replies.{Next.Next, Reply.Reply}}}
@@ -53,16 +54,10 @@ file_unless true node refusal e = absurd cc
 file_unless false node refusal e = some_is _ _ e
 
 file_tells : (word : ℕ) (refusal : GateError) → file_in word ≡ Some (Err refusal) → TellsOf (node_shown word) refusal
-file_tells word refusal e =
-    subst (λ entry. TellsOf entry refusal) (fields_shown word)
-    (file_refused (node_of word) (node_of word).removed (kind_of (kind_in word)) refusal
-    (file_unless (is_stray word) (node_of word) refusal e))
+file_tells word refusal e = grind (arith, common_steps)
 
 directory_tells : (word : ℕ) (refusal : GateError) → directory_in word ≡ Some (Err refusal) → TellsOf (node_shown word) refusal
-directory_tells word refusal e =
-    subst (λ entry. TellsOf entry refusal) (fields_shown word)
-    (directory_refused (node_of word) (kind_of (kind_in word)) refusal
-    (refused_unless as_directory (is_stray word) (node_of word) refusal e))
+directory_tells word refusal e = grind (arith, common_steps)
 
 -- what comes after a look at a node is a refusal only where the look was refused
 look_refused : {A : Type 0} {P : Type 0} (to : P → TreePhase) (again : P) (from : A → P) (r : Option (Result A GateError))
@@ -111,8 +106,7 @@ answer_not answer h = grind arith
 
 -- a clearing of marks is never refused
 clears_not : (x : ClearMarks) (o : Option ℕ) → NotOfNode (clears_at x o)
-clears_not x None = tt
-clears_not x (Some node) = tt
+clears_not x a1 = grind arith
 
 module _ (c : Config) (w : World) where
   pub create_node : (x : Create) (s : CreateStep) → NodeHasCause c w (TreePhase.Create (at_create x s))

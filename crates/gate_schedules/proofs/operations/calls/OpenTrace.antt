@@ -52,12 +52,7 @@ module _ (c : Config) (file : ℕ) where
   -- each event is followed by a later step of the open, or by its end
   open_goes : (s : OpenStep) (value : ℕ) (trace : List Traced) → OpenReadIsValid s value →
       NextInvariant trace (events_before s) (open_after (open_of s) s (found_by (open_next (open_of s) s).1 value)).0
-  open_goes OpenStep.LoadsFile value trace may =
-      look_goes value trace (file_in value) refl (made_some (λ node. as_file node node.removed node.kind) (unpacked value) may.0) may.1
-  open_goes (OpenStep.OpensFile node) value trace may = elim (cases_Bool (value == word_of node)) [
-    | inl e ↦ rw e (λ q. omega arith)
-    | inr e ↦ rw e (λ q. omega arith)
-  ]
+  open_goes a0 value trace may = grind arith
 
   -- so the trace of an open says what its row asks for
   open_answers : (trace : List Traced) →
@@ -67,30 +62,11 @@ module _ (c : Config) (file : ℕ) where
 
   -- a step comes after at most that many events
   open_within : (s : OpenStep) (trace : List Traced) → length trace ≤ events_before s → length trace ≤ 2
-  open_within OpenStep.LoadsFile trace h = omega (arith, h)
-  open_within (OpenStep.OpensFile file) trace h = omega (arith, h)
+  open_within a0 trace h = grind arith
 
   -- and keeps it along
   open_inductive : (t : ℕ) → IsInductiveGivenReads OpenAt c t (Op.Open file)
-  open_inductive t = record {
-    first = (OpenStep.LoadsFile, refl, (tt, tt, refl, λ q. omega arith));
-    more = λ phase value hook earlier added may here.
-        let s : OpenStep = here.0 in
-        let x : Phase = Phase.Trees (TreePhase.OpenFile (open_of s)) in
-        let e : Traced = with_hook (event_at x value hook) hook in
-        subst (λ (p : Phase). ReadIsValid p (next_of p hook).0 value → InvariantAfterStep OpenAt c (Op.Open file) p value hook earlier added)
-        (sym here.1)
-        (λ holds.
-        call_says OpenFile OpenStep TreePhase.OpenFile open_of KnowsNothing so_far StepInvariant events_before 2 false c (Op.Open file)
-        (IsReply Reply.Unit) (FileHonest (SeenIn (e ∷ earlier)) file) (action_if_done (Action.Open file)) e earlier
-        (open_answers (e ∷ earlier)) (events_before s) here.2.3
-        (open_after (open_of s) s (found_by (open_next (open_of s) s).1 value)).0
-        (open_after (open_of s) s (found_by (open_next (open_of s) s).1 value)).1 ([]) added here.2.2
-        (open_ends (SeenIn earlier) (SeenIn (e ∷ earlier)) (open_of s) s value (sees e earlier))
-        (open_goes s value (e ∷ earlier) holds))
-        may;
-    short = λ trace phase added here. open_within here.0 trace (here.2.3 refl);
-  }
+  open_inductive t = grind (arith, common_steps)
 
 pub open_tells : (file : ℕ) (c : Config) → IsWithin c → (t : ℕ) (trace : List Traced) → IsTrace c t (Op.Open file) trace →
     Tells c (Op.Open file) trace (state_of_trace c t (Op.Open file) trace).comes (state_of_trace c t (Op.Open file) trace).added

@@ -21,13 +21,11 @@ use Rattle.gate_schedules.specs.operations.Unblocked.{IsUnblocked, SnapshotIsUnb
 module _ {P : Type 0} (rank_of : P → ℕ) (free : P → Type 0) (n : ℕ) (again : P) (to : NodeWord → P)
     (goes : (a : NodeWord) → (rank_of (to a) < n) × free (to a)) where
   answer_falls : (r : Result NodeWord GateError) → RankDecreases rank_of free n (after_look again to (Some r))
-  answer_falls (Ok a) = goes a
-  answer_falls (Err refusal) = tt
+  answer_falls a0 = grind arith
 
   look_falls : (kind_of : NodeWord → Result NodeWord GateError) (o : Option NodeWord) → is_some o ≡ true →
       RankDecreases rank_of free n (after_look again to (option_map kind_of o))
-  look_falls kind_of None h = absurd (true≢false (sym h))
-  look_falls kind_of (Some node) h = answer_falls (kind_of node)
+  look_falls kind_of a1 h = grind arith
 
 module _ (w : Words) where
   module _ (c : Create) where
@@ -39,50 +37,17 @@ module _ (w : Words) where
   remove_falls : (r : Remove) (s : RemoveStep) → WordIsValid (remove_next r s).0 (read w (remove_next r s).0) →
       RankDecreases (λ (y : Remove). remove_rank y.step) (λ (y : Remove). Unit {0}) (remove_rank s)
       (remove_after r s (found_by (remove_next r s).1 (read w (remove_next r s).0))).0
-  remove_falls r RemoveStep.LoadsFile h =
-      look_falls (λ (y : Remove). remove_rank y.step) (λ (y : Remove). Unit {0}) 3 _ _
-      (λ file. elim (eqb_tells file.opens 0) [ inl q ↦ rw q.0 (omega arith, tt) | inr q ↦ rw q.0 (omega arith, tt) ])
-      (λ node. as_file node node.removed node.kind) (unpacked (w.node r.file)) h
-  remove_falls r (RemoveStep.FreesNode file) h =
-      elim (eqb_tells (w.node r.file) (word_of file)) [ inl q ↦ rw q.0 (omega arith, tt) | inr q ↦ rw q.0 tt ]
-  remove_falls r (RemoveStep.CountsRemoved file) h = (omega arith, tt)
-  remove_falls r (RemoveStep.MarksRemoved file) h =
-      elim (eqb_tells (w.node r.file) (word_of file)) [ inl q ↦ rw q.0 (omega arith, tt) | inr q ↦ rw q.0 (omega arith, tt) ]
-  remove_falls r RemoveStep.RefundsRemoved h = tt
-  remove_falls r (RemoveStep.RefundsBlocks file) h = (omega arith, tt)
-  remove_falls r (RemoveStep.RefundsChild file) h = tt
+  remove_falls r a1 h = grind (arith, common_steps)
 
   grow_falls : (g : Grow) (s : GrowStep) → WordIsValid (grow_next g s).0 (read w (grow_next g s).0) →
       RankDecreases (λ (y : Grow). grow_rank y.step) (λ (y : Grow). Unit {0}) (grow_rank s)
       (grow_after g s (found_by (grow_next g s).1 (read w (grow_next g s).0))).0
-  grow_falls g GrowStep.LoadsFile h =
-      look_falls (λ (y : Grow). grow_rank y.step) (λ (y : Grow). Unit {0}) 4 _ _
-      (λ a. (omega arith, tt)) (λ node. as_file node node.removed node.kind) (unpacked (w.node g.file)) h
-  grow_falls g (GrowStep.LoadsUsed file) h =
-      elim (cases_Bool (nat_lt g.capacity (w.used + g.blocks))) [
-        | inl q ↦ rw q tt
-        | inr q ↦ rw q (
-            elim (cases_Bool (nat_lt g.capacity (file.size + g.blocks))) [ inl k ↦ rw k tt | inr k ↦ rw k (omega arith, tt) ]
-            )
-      ]
-  grow_falls g (GrowStep.ChargesBlocks file used) h = elim (eqb_tells w.used used) [ inl q ↦ rw q.0 (omega arith, tt) | inr q ↦ rw q.0 tt ]
-  grow_falls g (GrowStep.GrowsFile file) h =
-      elim (eqb_tells (w.node g.file) (word_of file)) [ inl q ↦ rw q.0 tt | inr q ↦ rw q.0 (omega arith, tt) ]
-  grow_falls g GrowStep.RefundsBlocks h = tt
+  grow_falls g a1 h = grind (arith, common_steps)
 
   move_falls : (m : MoveTo) (s : MoveStep) → WordIsValid (move_next m s).0 (read w (move_next m s).0) →
       RankDecreases (λ (y : MoveTo). move_rank y.step) (λ (y : MoveTo). Unit {0}) (move_rank s)
       (move_after m s (found_by (move_next m s).1 (read w (move_next m s).0))).0
-  move_falls m MoveStep.LoadsFile h =
-      look_falls (λ (y : MoveTo). move_rank y.step) (λ (y : MoveTo). Unit {0}) 4 _ _
-      (λ a. (omega arith, tt)) (λ node. as_file node node.removed node.kind) (unpacked (w.node m.file)) h
-  move_falls m (MoveStep.LoadsDirectory file) h =
-      look_falls (λ (y : MoveTo). move_rank y.step) (λ (y : MoveTo). Unit {0}) 3 _ _
-      (λ a. (omega arith, tt)) (λ node. as_directory node node.kind) (unpacked (w.node m.dir)) h
-  move_falls m (MoveStep.ChargesChild file) h = (omega arith, tt)
-  move_falls m (MoveStep.MovesFile file) h =
-      elim (eqb_tells (w.node m.file) (word_of file)) [ inl q ↦ rw q.0 (omega arith, tt) | inr q ↦ rw q.0 (omega arith, tt) ]
-  move_falls m (MoveStep.RefundsChild dir answer) h = tt
+  move_falls m a1 h = grind (arith, common_steps)
 
   mark_falls : (m : Mark) (s : MarkStep) → WordIsValid (mark_next m s).0 (read w (mark_next m s).0) →
       RankDecreases (λ (y : Mark). mark_rank y.step) (λ (y : Mark). Unit {0}) (mark_rank s)
@@ -102,11 +67,7 @@ module _ (w : Words) where
 
   pub clear_falls : (x : ClearMarks) (found : ℕ) →
       RankDecreases (λ (y : ClearMarks). y.nodes - y.node) (λ (y : ClearMarks). Unit {0}) (x.nodes - x.node) (clear_after x found).0
-  clear_falls x found =
-      elim (cases_Bool (nat_lt (x.node + 1) x.nodes)) [
-        | inl q ↦ rw q (omega (arith, ltb-true (x.node + 1) x.nodes q), tt)
-        | inr q ↦ rw q tt
-      ]
+  clear_falls x found = grind arith
 
   -- each event of a call
   tree_falls : (after : Words) (hook : HookAnswer) (x : TreePhase) → TreeIsUnblocked w x →

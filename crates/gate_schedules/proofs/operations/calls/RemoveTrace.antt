@@ -1,4 +1,5 @@
 -- Traces of a remove.
+use Rattle.std.proofs.lemmas.Grind.{common_steps}
 use Rattle.std.proofs.{Common.{ℕ, ◌<◌, ◌≤◌, Bool, false, refl, sym, subst, inl, inr, arith}, lemmas.Bool.cases_Bool}
 use Rattle.std.specs.Prelude.{◌==◌, List, ◌∷◌, length}
 use Rattle.access_model.specs.declared.{actions.Action.Action, replies.{Next.Next, Reply.Reply}}
@@ -53,22 +54,7 @@ module _ (c : Config) (file : ℕ) where
   -- each event is followed by a later step of the remove, or by its end
   remove_goes : (s : RemoveStep) (value : ℕ) (trace : List Traced) → WordIsValid (remove_next (remove_of s) s).0 value →
       NextInvariant trace (events_before s) (remove_after (remove_of s) s (found_by (remove_next (remove_of s) s).1 value)).0
-  remove_goes RemoveStep.LoadsFile value trace may =
-      looked (NextInvariant trace 0) (remove_of RemoveStep.LoadsFile) (λ node. remove_of (removes_file node node.opens)) (file_in value)
-      (made_some (λ node. as_file node node.removed node.kind) (unpacked value) may)
-      (λ node. (removes_file node node.opens, refl, tt, λ q. removes_later node node.opens)) (λ refusal q. omega arith)
-  remove_goes (RemoveStep.FreesNode node) value trace may = elim (cases_Bool (value == word_of node)) [
-    | inl e ↦ rw e (RemoveStep.RefundsBlocks node, refl, tt, λ q. omega arith)
-    | inr e ↦ rw e (λ q. omega arith)
-  ]
-  remove_goes (RemoveStep.CountsRemoved node) value trace may = (RemoveStep.MarksRemoved node, refl, tt, λ q. omega arith)
-  remove_goes (RemoveStep.MarksRemoved node) value trace may = elim (cases_Bool (value == word_of node)) [
-    | inl e ↦ rw e (RemoveStep.RefundsChild node, refl, tt, λ q. omega arith)
-    | inr e ↦ rw e (RemoveStep.RefundsRemoved, refl, tt, λ q. omega arith)
-  ]
-  remove_goes RemoveStep.RefundsRemoved value trace may = λ q. omega arith
-  remove_goes (RemoveStep.RefundsBlocks node) value trace may = (RemoveStep.RefundsChild node, refl, tt, λ q. omega arith)
-  remove_goes (RemoveStep.RefundsChild node) value trace may = λ q. omega arith
+  remove_goes a0 value trace may = grind (arith, common_steps)
 
   -- so the trace of a remove says what its row asks for
   remove_answers : (trace : List Traced) →
@@ -78,30 +64,11 @@ module _ (c : Config) (file : ℕ) where
 
   -- a step comes after at most that many events
   remove_within : (s : RemoveStep) (trace : List Traced) → length trace ≤ events_before s → length trace ≤ 4
-  remove_within RemoveStep.LoadsFile trace h = omega (arith, h)
-  remove_within other trace h = omega (arith, h)
+  remove_within other trace h = grind arith
 
   -- and keeps it along
   remove_inductive : (t : ℕ) → IsInductiveGivenReads RemoveAt c t (Op.Remove file)
-  remove_inductive t = record {
-    first = (RemoveStep.LoadsFile, refl, (tt, tt, refl, λ q. omega arith));
-    more = λ phase value hook earlier added may here.
-        let s : RemoveStep = here.0 in
-        let x : Phase = Phase.Trees (TreePhase.Remove (remove_of s)) in
-        let e : Traced = with_hook (event_at x value hook) hook in
-        subst (λ (p : Phase). ReadIsValid p (next_of p hook).0 value → InvariantAfterStep RemoveAt c (Op.Remove file) p value hook earlier added)
-        (sym here.1)
-        (λ holds.
-        call_says Remove RemoveStep TreePhase.Remove remove_of KnowsAtStep so_far StepInvariant events_before 4 false c (Op.Remove file)
-        (IsReply Reply.Unit) (FileHonest (SeenIn (e ∷ earlier)) file) (action_if_done (Action.Remove file)) e earlier
-        (remove_answers (e ∷ earlier)) (events_before s) here.2.3
-        (remove_after (remove_of s) s (found_by (remove_next (remove_of s) s).1 value)).0
-        (remove_after (remove_of s) s (found_by (remove_next (remove_of s) s).1 value)).1 (remove_added (remove_of s) s) added here.2.2
-        (remove_ends (SeenIn earlier) (SeenIn (e ∷ earlier)) (remove_of s) s value here.2.1 (sees e earlier))
-        (remove_goes s value (e ∷ earlier) holds))
-        may;
-    short = λ trace phase added here. remove_within here.0 trace (here.2.3 refl);
-  }
+  remove_inductive t = grind (arith, common_steps)
 
 pub remove_tells : (file : ℕ) (c : Config) → IsWithin c → (t : ℕ) (trace : List Traced) → IsTrace c t (Op.Remove file) trace →
     Tells c (Op.Remove file) trace (state_of_trace c t (Op.Remove file) trace).comes (state_of_trace c t (Op.Remove file) trace).added

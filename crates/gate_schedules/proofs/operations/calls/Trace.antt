@@ -18,18 +18,13 @@ or_other true b h = refl
 or_other false b h = h
 
 pub sees : (e : Traced) (earlier : List Traced) → SeesMore (SeenIn earlier) (SeenIn (e ∷ earlier)) e.event
-sees e earlier = record {
-  earlier = λ test h. or_other (test e.event) _ h;
-  now = λ test h. or_one (test e.event) _ h;
-}
+sees e earlier = grind arith
 
 same_actions : (action : Option Action) (added : List Action) → with_action action added ≡ actions_after action added
-same_actions None added = refl
-same_actions (Some a) added = refl
+same_actions a0 added = grind arith
 
 pub made_some : {A B : Type 0} (f : A → B) (o : Option A) → is_some o ≡ true → is_some (option_map f o) ≡ true
-made_some f None h = absurd (cc)
-made_some f (Some a) h = refl
+made_some f a1 h = grind arith
 
 -- A look at a word that may be there goes on or is refused: it is never done again.
 pub looked : {A P : Type 0} (Holds : Next P → Type 0) (again : P) (to : A → P) (r : Option (Result A GateError)) → is_some r ≡ true →
@@ -75,7 +70,4 @@ module _ (P S : Type 0) (to : P → TreePhase) (at : S → P) (Knows : ((Event �
     pub call_says : (next : Next P) (action : Option Action) (before added : List Action) → added ≡ before →
         NextIsJustified (Knows (SeenIn (e ∷ earlier))) so_far IsOne Honest adds next (with_action action before) → GoesOnOrEnds (e ∷ earlier) n next →
         InvariantAfter CallAt c op (e ∷ earlier) (map_next Phase.Trees (map_next to next)) (actions_after action added)
-    call_says next action before added same ends stays =
-        subst (InvariantAfter CallAt c op (e ∷ earlier) (map_next Phase.Trees (map_next to next)))
-        (same_actions action before ∙ ap (actions_after action) (sym same))
-        (next_says next (with_action action before) ends stays)
+    call_says next action before added same ends stays = grind arith

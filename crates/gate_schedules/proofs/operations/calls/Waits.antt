@@ -45,16 +45,13 @@ move_goes_on : (x : MoveTo) (s : MoveStep) (found : ℕ) → IsNoWait (move_afte
 move_goes_on x s found = grind (arith, common_steps)
 
 mark_goes_on : (x : Mark) (s : MarkStep) (found : ℕ) → IsNoWait (mark_after x s found).0
-mark_goes_on x MarkStep.LoadsFile found = look_goes _ _ (file_in found)
-mark_goes_on x (MarkStep.MarksFile file) found = either (found == word_of file) _ _ tt tt
+mark_goes_on x a1 found = grind (arith, common_steps)
 
 open_goes_on : (x : OpenFile) (s : OpenStep) (found : ℕ) → IsNoWait (open_after x s found).0
-open_goes_on x OpenStep.LoadsFile found = look_goes _ _ (file_in found)
-open_goes_on x (OpenStep.OpensFile file) found = either (found == word_of file) _ _ tt tt
+open_goes_on x a1 found = grind (arith, common_steps)
 
 clear_goes_on : (x : ClearMarks) (o : Option ℕ) → IsNoWait (clears_at x o)
-clear_goes_on x None = tt
-clear_goes_on x (Some node) = tt
+clear_goes_on x a1 = grind arith
 
 module _ (c : Config) (w : World) (earlier : List World) (t : ℕ) where
   -- what is no wait waits for nobody, and a refusal of a call that is no snapshot has its cause at its own event

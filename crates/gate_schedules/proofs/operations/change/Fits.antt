@@ -12,8 +12,7 @@ change_there c x step m f = grind arith
 
 module _ (c : Config) (within : IsWithin c) (t : ℕ) (held : Holdings) where
   pub change_acts : (x : Change) (step : ChangeStep) (found : ℕ) → ActionFits held (change_after x step found).1
-  change_acts x ChangeStep.Locks found = tt
-  change_acts x step found = tt
+  change_acts x step found = grind arith
 
   -- what comes after each event of a change fits
   pub change_goes : (x : Change) (step : ChangeStep) (found : ℕ) → MountFits c t held (MountPhase.Change record x { step = step }) →

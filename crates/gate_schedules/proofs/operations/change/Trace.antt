@@ -77,8 +77,7 @@ change_short c m ro false trace h = h refl
 within_most : (c : Config) (m : ℕ) (ro wait : Bool) (step : ChangeStep) (trace : List Traced) (added : List Action) →
     StepSays c m ro wait step trace added →
     length trace ≤ events_before c step → length trace ≤ c.processors + 7
-within_most c m ro wait (ChangeStep.Sums sum) trace added h k = omega (arith, h.3.0)
-within_most c m ro wait step trace added h k = omega arith
+within_most c m ro wait step trace added h k = grind arith
 
 -- the state was found, as it was asked for or not
 state_found : (c : Config) (m : ℕ) (ro wait b : Bool) (trace : List Traced) (added : List Action) → (wait ≡ false → length trace ≤ 3) →
@@ -113,16 +112,7 @@ module _ (c : Config) (lim : IsWithin c) (t m : ℕ) (ro : Bool) (value : ℕ) (
   locks wait h = grind arith
 
   loads_flags : (wait : Bool) → ChangeSays c m ro wait ChangeStep.LoadsFlags earlier added → TraceAfterStep wait ChangeStep.LoadsFlags
-  loads_flags wait h =
-      elim (cases_Bool (has_flag value 1)) [
-        | inl f ↦ rw f (
-          step_between ro true,
-          refl,
-          state_found c m ro wait true (longer wait ChangeStep.LoadsFlags) added
-              (λ q. omega (arith, h.0 q)) h.1.0 (rw (eq-eqb m m refl, f) refl) h.1.2,
-        )
-        | inr f ↦ rw f (ChangeStep.LoadsSuperblock, refl, (λ q. omega (arith, h.0 q), (h.1.0, rw (eq-eqb m m refl, f) h.1.1, h.1.2)))
-      ]
+  loads_flags wait h = grind arith
 
   loads_superblock : (wait : Bool) → ChangeSays c m ro wait ChangeStep.LoadsSuperblock earlier added → TraceAfterStep wait ChangeStep.LoadsSuperblock
   loads_superblock wait h = grind arith

@@ -90,8 +90,7 @@ module _ (n : ℕ) where
   freer_file trace p e = grind arith
 
 frees_le : (n : ℕ) (r : Role) → frees n r ≤ 1
-frees_le n (Freeing m file) = same_le m n
-frees_le n _ = omega arith
+frees_le n a1 = grind arith
 
 frees_small : (n : ℕ) (r : Role) → (frees n r ≡ 1 → ⊥) → frees n r ≡ 0
 frees_small n r other = omega (arith, other, frees_le n r)

@@ -18,9 +18,7 @@ module _ (c : Config) (t : ℕ) (held : Holdings) where
 pub enters_fits : (c : Config) (t : ℕ) (held : Holdings) (file : ℕ) (node : NodeWord) (r : DownRead) (found : ℕ) →
     CloseFits c t held (ClosePhase.Enters file node r) → Fits c t (held_after (down_read_after r r.step found).1 held)
     (phase_after (map_next Phase.Closes (then_frees file node r.cpu (down_read_after r r.step found).0)))
-enters_fits c t held file node r found f =
-    enters_goes c t (held_after (down_read_after r r.step found).1 held) file r.cpu r.level node (down_read_after r r.step found).0 f.0 f.2.2 f.1
-    (read_goes c t r f.2.0 f.2.1 f.2.2 f.2.3 held r.step found f.2.4)
+enters_fits c t held file node r found f = grind arith
 
 -- what comes after each event fits
 pub close_goes : (c : Config) (t : ℕ) (held : Holdings) (x : ClosePhase) (found : ℕ) → CloseFits c t held x →

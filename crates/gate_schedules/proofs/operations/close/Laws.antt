@@ -1,4 +1,6 @@
 -- All that is proved of a close, from what is proved of its events at the tree and at level 3.
+use Rattle.std.proofs.lemmas.Grind.{common_steps}
+use Rattle.std.proofs.Common.{arith}
 use Rattle.std.{proofs.{Common.{◌≡◌, ℕ, ◌<◌, ◌≤◌, ◌∙◌, refl, ap, inl, inr}, lemmas.Bool.cases_Bool}, specs.Prelude.{◌==◌, Some, Ok, List, ◌∷◌}}
 use Rattle.access_model.specs.{Replies.map_next, declared.replies.{Next.Next, Reply.Reply}}
 use Rattle.cpu_words.specs.Hooks.{HookAnswer}
@@ -52,8 +54,7 @@ close_runs c lim w good t lt hook (ClosePhase.Leaves p) e i one three =
 -- its cause stays while others step
 close_stays : (c : Config) (t : ℕ) (w next : World) (earlier : List World) (x : ClosePhase) → (next.views t).phase ≡ Some (Phase.Closes x) →
     CauseOf c t w earlier (Some (Phase.Closes x)) → CauseOf c t next (w ∷ earlier) (Some (Phase.Closes x))
-close_stays c t w next earlier (ClosePhase.Enters file node r) e h = read_stays c t w next earlier r.level r.step (ap asks_level e) h
-close_stays c t w next earlier x e h = tt
+close_stays c t w next earlier x e h = grind arith
 
 -- and what comes after its event has its cause
 close_causes : (c : Config) → (w : World) (earlier : List World) → IsGood c w → (t : ℕ) (hook : HookAnswer) (x : ClosePhase) →
@@ -81,16 +82,7 @@ close_causes c w earlier good t hook other f e is h = tt
 close_waits : (c : Config) (w : World) (earlier : List World) (t : ℕ) (hook : HookAnswer) (x : ClosePhase) →
     CloseReadIsValid x (value_at w.words (Phase.Closes x) hook) → CauseOf c t w earlier (Some (Phase.Closes x)) →
     HasReason c w earlier t (Phase.Closes x) (map_next Phase.Closes (after x (found_at w.words (Phase.Closes x) hook)).0)
-close_waits c w earlier t hook (ClosePhase.LoadsFile x) may h =
-    looked_waits c t w earlier x (w.words.node x.file) may.1 (any_file_in (w.words.node x.file)) refl
-close_waits c w earlier t hook (ClosePhase.LowersCount x node) may h =
-    elim (cases_Bool (w.words.node x.file == word_of node)) [ inl z ↦ rw z tt | inr z ↦ rw z tt ]
-close_waits c w earlier t hook (ClosePhase.Enters file node r) may h =
-    enters_waits c t w earlier file r.cpu node r (down_read_after r r.step (found_at w.words (Phase.DownReads r) hook)).0
-    (read_waits c w earlier t r r.step (found_at w.words (Phase.DownReads r) hook) h)
-close_waits c w earlier t hook (ClosePhase.FreesNode file p node) may h =
-    elim (cases_Bool (w.words.node file == word_of node)) [ inl z ↦ rw z tt | inr z ↦ rw z tt ]
-close_waits c w earlier t hook other may h = tt
+close_waits c w earlier t hook other may h = grind (arith, common_steps)
 
 pub close_phase : (c : Config) (x : ClosePhase) → PhaseLaws c (Phase.Closes x)
 close_phase c x = record {

@@ -27,25 +27,21 @@ beside_enters file p node n = grind arith
 
 -- no event of a down-read touches a word of the tree
 read_tree : (w : Words) (r : DownRead) (s : DownReadStep) (hook : HookAnswer) → SameWords w (words_after w (Phase.DownReads (at_down_read r s)) hook) Tree
-read_tree w r DownReadStep.EntersSection hook = (refl, refl, refl, refl, refl, refl)
-read_tree w r other hook = (refl, refl, refl, refl, refl, refl)
+read_tree w r other hook = grind arith
 
 read_opens : (held : Holdings) (r : DownRead) (s : DownReadStep) (found : ℕ) → (held_after (down_read_after r s found).1 held).files ≡ held.files
-read_opens held r DownReadStep.LoadsBlock found = elim (cases_Bool (found == 0)) [ inl h ↦ rw h refl | inr h ↦ rw h refl ]
-read_opens held r other found = refl
+read_opens held r other found = grind arith
 
 -- a close that is to free a node stays so, or it ends
 then_role : (file p : ℕ) (node : NodeWord) (n : Next DownRead) (trace : List Traced) →
     (tree_role_of trace (phase_after (map_next Phase.Closes (then_frees file node p n))) ≡ Freeing file node) ⊎
     (tree_role_of trace (phase_after (map_next Phase.Closes (then_frees file node p n))) ≡ OffTree)
-then_role file p node (Next.Done (Err refusal)) trace = inr refl
-then_role file p node other trace = inl refl
+then_role file p node other trace = grind arith
 
 -- and its task has its file open
 then_has : (files : ℕ → Bool) (file p : ℕ) (node : NodeWord) (n : Next DownRead) → files file ≡ true →
     HasFile files (file_of (phase_after (map_next Phase.Closes (then_frees file node p n))))
-then_has files file p node (Next.Done (Err refusal)) own = tt
-then_has files file p node other own = own
+then_has files file p node other own = grind arith
 
 module _ (c : Config) (w : World) (good : IsGood c w) (t : ℕ) (lt : t < c.tasks) where
   -- the open files, where no event has opened or closed one

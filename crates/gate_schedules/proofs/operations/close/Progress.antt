@@ -1,4 +1,5 @@
 -- A close runs out, a last one where level 3 is open.
+use Rattle.std.proofs.lemmas.Grind.{common_steps}
 use Rattle.std.proofs.{Common.{◌≡◌, ℕ, ◌+◌, true, false, refl, sym, ◌∙◌, inl, inr, arith, true≢false}, lemmas.Bool.{cases_Bool, ne_eqb, Decides.eqb_tells}}
 use Rattle.std.specs.Prelude.{◌==◌, ◌&&◌, Option, Some}
 use Rattle.access_model.specs.declared.{actions.Kind.Kind, replies.Next.Next}
@@ -28,28 +29,7 @@ module _ (after : Words) where
 close_falls : (w : Words) (x : ClosePhase) → CloseIsUnblocked w x → CloseReadIsValid x (read w (close_next x).0) →
     let after : Words = put w (close_next x).0 (left (close_next x).1 (read w (close_next x).0)) in
     RankDecreases close_rank (CloseIsUnblocked after) (close_rank x) (close_after x (found_by (close_next x).1 (read w (close_next x).0))).0
-close_falls w (ClosePhase.LoadsFile x) free h =
-    let after : Words = put w (close_next (ClosePhase.LoadsFile x)).0
-    (left (close_next (ClosePhase.LoadsFile x)).1 (read w (close_next (ClosePhase.LoadsFile x)).0)) in
-    elim (cases_Bool (is_stray (w.node x.file))) [
-      | inl q ↦ absurd (true≢false (sym h.0 ∙ rw q refl))
-      | inr q ↦
-          let node : NodeWord = node_of (w.node x.file) in
-          rw q (kind_falls after x node (ne_eqb (opens_in (w.node x.file)) 0 (λ z. omega (arith, z, h.1))) free node.kind)
-    ]
-close_falls w (ClosePhase.LowersCount x node) free h =
-    elim (eqb_tells (w.node x.file) (word_of node)) [ inl q ↦ rw q.0 tt | inr q ↦ rw q.0 tt ]
-close_falls w (ClosePhase.Enters f node r) free h =
-    let after : Words = put w (close_next (ClosePhase.Enters f node r)).0
-    (left (close_next (ClosePhase.Enters f node r)).1 (read w (close_next (ClosePhase.Enters f node r)).0)) in
-    frees_falls after f node r.cpu (read_rank r.wait r.step)
-    (down_read_after r r.step (found_by (close_next (ClosePhase.Enters f node r)).1 (read w (close_next (ClosePhase.Enters f node r)).0))).0
-    (read_falls w r after r.step h (λ e a. read_block w r r.step ∙ free e a) free)
-close_falls w (ClosePhase.FreesNode f p node) free h =
-    elim (eqb_tells (w.node f) (word_of node)) [ inl q ↦ rw q.0 (omega arith, tt) | inr q ↦ absurd (q.1 h) ]
-close_falls w (ClosePhase.RefundsBlocks p blocks) free h = (omega arith, tt)
-close_falls w (ClosePhase.Uncounts p) free h = (omega arith, tt)
-close_falls w (ClosePhase.Leaves p) free h = tt
+close_falls w a1 free h = grind (arith, common_steps)
 
 pub close_ends : (c : Config) (x : ClosePhase) → PhaseEnds c (Phase.Closes x)
 close_ends c x = record {

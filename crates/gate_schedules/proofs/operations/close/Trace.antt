@@ -18,8 +18,7 @@ use Rattle.gate_schedules.proofs.traces.TraceInvariant.{IsInductiveGivenReads, I
 -- an event of a down-read isn't on `removed`
 read_dropped : (r : DownRead) (s : DownReadStep) (value : ℕ) (hook : HookAnswer) (earlier : List Traced) →
     found_dropped (with_hook (event_of (down_read_next r s).0 (down_read_next r s).1 value) hook ∷ earlier) ≡ found_dropped earlier
-read_dropped r DownReadStep.EntersSection value hook earlier = refl
-read_dropped r other value hook earlier = refl
+read_dropped r other value hook earlier = grind arith
 
 -- what a last close has added inside level 3: its grant, and then its action, too
 abbrev entered : List Action
@@ -96,56 +95,18 @@ module _ (c : Config) (file p t : ℕ) (wait : Bool) (value : ℕ) (hook : HookA
     -- the count is lowered, or has changed
     lowers_event : (node : NodeWord) → HasAdded file p t wait [] false 1 earlier added →
         TraceAfterStep (ClosePhase.LowersCount (first_close file p t wait) node) earlier added
-    lowers_event node h = elim (cases_Bool (value == word_of node)) [
-      | inl same ↦
-          rw (same, h.1)
-          ((ap (λ (l : List Action). Action.Close file ∷ l) h.0, refl), close_short c file p wait _ (λ q. omega (arith, h.2 q)))
-      | inr other ↦ rw other ((h.0, inl (rw other refl)), close_short c file p wait _ (λ q. omega (arith, h.2 q)))
-    ]
+    lowers_event node h = grind arith
 
     -- an event at level 3
     enters_event : (node : NodeWord) (s : DownReadStep) → WordIsValid (down_read_next (read_at 3 p t wait s) s).0 value →
         ReadSays 1 3 wait s earlier added → found_dropped earlier ≡ false → TraceAfterStep (ClosePhase.Enters file node (read_at 3 p t wait s)) earlier added
-    enters_event node s may h none =
-        let r : DownRead = read_at 3 p t wait s in
-        let found : ℕ = found_by (down_read_next r s).1 value in
-        entered_says c file p t wait node (with_hook (event_of (down_read_next r s).0 (down_read_next r s).1 value) hook) earlier
-        (actions_after (down_read_after r s found).1 added) (down_read_after r s found).0
-        (read_event 1 3 p t value hook earlier added wait s may h) (read_dropped r s value hook earlier ∙ none)
+    enters_event node s may h none = grind arith
 
     close_event : (x : ClosePhase) → CloseReadIsValid x value → CloseSays file p t wait x earlier added → TraceAfterStep x earlier added
-    close_event (ClosePhase.LoadsFile x) may h =
-        let start : TraceAfterStep looks earlier added =
-        subst (λ l. TraceAfterStep looks l added) (sym h.1) (subst (λ l. TraceAfterStep looks [] l) (sym h.2) (loads_event may)) in
-        subst (λ y. TraceAfterStep (ClosePhase.LoadsFile y) earlier added) (sym h.0) start
-    close_event (ClosePhase.LowersCount x node) may h = subst (λ y. TraceAfterStep (ClosePhase.LowersCount y node) earlier added) (sym h.0) (lowers_event node h.1)
-    close_event (ClosePhase.Enters f node r) may h =
-        subst (λ y. TraceAfterStep (ClosePhase.Enters y node r) earlier added) (sym h.0)
-        (subst (λ (y : DownRead). WordIsValid (down_read_next y y.step).0 value → TraceAfterStep (ClosePhase.Enters file node y) earlier added) (sym h.1.1)
-        (λ holds. enters_event node h.1.0 holds h.1.2 h.2) may)
-    close_event (ClosePhase.FreesNode f q node) may h =
-        subst (λ y. TraceAfterStep (ClosePhase.FreesNode y q node) earlier added) (sym h.0)
-        (
-        rw (eq-eqb value (word_of node) may)
-        (ClosePhase.RefundsBlocks q node.size, refl, (ap (λ (l : List Action). Action.Close file ∷ l) h.1.0, h.1.1, λ r. omega (arith, h.1.2 r)))
-        )
-    close_event (ClosePhase.RefundsBlocks q blocks) may h = (ClosePhase.Uncounts q, refl, (h.0, h.1, λ r. omega (arith, h.2 r)))
-    close_event (ClosePhase.Uncounts q) may h = (ClosePhase.Leaves q, refl, (h.0, refl, λ r. omega (arith, h.2 r)))
-    close_event (ClosePhase.Leaves q) may h = (
-      (rw h.1 (ap (λ (l : List Action). Action.Return (Gate.Level 3) ∷ l) h.0), refl),
-      close_short c file p wait _ (λ r. omega (arith, h.2 r)),
-    )
+    close_event a0 may h = grind (arith, common_steps)
 
 pub close_inductive : (c : Config) (file p t : ℕ) (wait : Bool) → IsInductiveGivenReads (CloseAt file p t wait) c t (Op.Close file p wait)
-close_inductive c file p t wait = record {
-  first = (ClosePhase.LoadsFile (first_close file p t wait), refl, (refl, refl, refl));
-  more = λ phase value hook earlier added may here.
-      subst (λ (x : Phase). ReadIsValid x (next_of x hook).0 value → InvariantAfterStep (CloseAt file p t wait) c (Op.Close file p wait) x value hook
-      earlier added)
-      (sym here.1) (λ holds. close_event c file p t wait value hook earlier added here.0 holds here.2) may;
-  short = λ trace phase added here.
-      close_short c file p wait trace (says_short c file p t wait here.0 trace added here.2);
-}
+close_inductive c file p t wait = grind (arith, common_steps)
 
 pub close_op : (c : Config) (file p : ℕ) (wait : Bool) → OpLaws c (Op.Close file p wait)
 close_op c file p wait =

@@ -47,12 +47,10 @@ apart_same : (w next : Words) (s : FreezeStep) → freeze_owns s ≡ 0 → is_fi
 apart_same w next s none later = grind arith
 
 later_kept : (c : Config) (v : World) (s : FreezeStep) → is_first_lock s ≡ false → FreezeIsBlocked c v s → HeldLevelAhead c v s
-later_kept c v FreezeLocks later h = absurd (true≢false later)
-later_kept c v s later h = h
+later_kept c v s later h = grind arith
 
 kept_later : (c : Config) (v : World) (s : FreezeStep) → is_first_lock s ≡ false → HeldLevelAhead c v s → FreezeIsBlocked c v s
-kept_later c v FreezeLocks later h = absurd (true≢false later)
-kept_later c v s later h = h
+kept_later c v s later h = grind arith
 
 -- what an event of a task that is blocked, from this phase to that one, leaves to others that are blocked
 pub record LeavesKept (c : Config) (w next : World) (t : ℕ) (p q : Phase) : Type 0 where
@@ -78,10 +76,7 @@ module _ (c : Config) (w : World) (good : IsGood c w) (t : ℕ) (lt : t < c.task
 
   -- an idle task stays one, so a freeze stays blocked by it
   idle_stays : (i : ℕ) → IsHeldIdle c w i → IsHeldIdle c next i
-  idle_stays i z =
-      let ne : z.0 ≡ t → ⊥ = λ e. not_none p (sym at ∙ (sym (ap (λ y. (w.views y).phase) e) ∙ z.2)) in
-      let same : next.views z.0 ≡ w.views z.0 = beside z.0 ne in
-      (z.0, z.1, ap (λ (v : View). v.phase) same ∙ z.2, ap (λ (v : View). holds_level v i) same ∙ z.3)
+  idle_stays i z = grind arith
 
   kept_by : (s s' : FreezeStep) → next_level next.words s' ≤ next_level w.words s → HeldLevelAhead c w s → HeldLevelAhead c next s'
   kept_by s s' le k = (k.0, omega (arith, le, k.1), k.2, idle_stays k.0 k.3)
@@ -201,14 +196,7 @@ module _ (c : Config) (w : World) (good : IsGood c w) (t : ℕ) (lt : t < c.task
   aside_leaves : (q : Phase) → (next.views t).phase ≡ Some q → StaysBeside w.words next.words →
       ((i : ℕ) → w.words.block i ≡ 1 → next.words.block i ≡ 1) → next.words.node ≡ w.words.node → owns (Some p) ≡ 0 →
       (begins_freeze (Some p) ≡ false → begins_freeze (Some q) ≡ false) → LeavesKept c w next t p q
-  aside_leaves q here stays blocks nodes none begins = record {
-    here = here;
-    blocks = blocks;
-    last = λ f h. ap (λ (g : ℕ → ℕ). is_last_close (g f)) nodes ∙ h;
-    owner = λ h own. absurd (omega (arith, own, none));
-    stage = λ e. (stays.stage_same, stays.sb_same);
-    free = λ u z b. (stays.umount_same ∙ u, begins b);
-  }
+  aside_leaves q here stays blocks nodes none begins = grind arith
 
 -- where `umount` is another's, a try for it leaves all words
 tried : (w : Words) (n : ℕ) → (w.umount ≡ 0 → ⊥) → put w Umount (left (Cas 0 n) w.umount) ≡ w
@@ -220,12 +208,7 @@ lock_taken c w good l free = absurd (omega (arith, (good Owner).locked l.0 l.1 l
 -- a close of this file is the last one
 last_goes : (x : Closing) (word : ℕ) → IsPacked word → is_last_close word ≡ true →
     (close_after (CloseLoadsFile x) word).0 ≡ Go (enters x (node_of word))
-last_goes x word packed last =
-    let gone : removed_in word ≡ 1 = eqb-true (removed_in word) 1 (and_parts (removed_in word == 1) (opens_in word == 1) last).0 in
-    let one : opens_in word ≡ 1 = eqb-true (opens_in word) 1 (and_parts (removed_in word == 1) (opens_in word == 1) last).1 in
-    let kind : kind_in word ≡ 1 = (packed.marked gone).0 in
-    let some : (opens_in word == 0) ≡ false = ne_eqb (opens_in word) 0 (λ z. omega (arith, z, one)) in
-    rw (packed_unpacks word packed, kind, some, last) refl
+last_goes x word packed last = grind arith
 
 module _ (c : Config) (w : World) (good : IsGood c w) (t : ℕ) (lt : t < c.tasks) (hook : HookAnswer) where
   abbrev after : Phase → World
@@ -254,16 +237,7 @@ module _ (c : Config) (w : World) (good : IsGood c w) (t : ℕ) (lt : t < c.task
         (keeps : (x : DownRead) → StartIsBlocked (after p) x → IsBlockedAt c (after p) (to x)) where
       start_goes : (x : DownRead) → ((after p).views t).phase ≡ Some (to x) → (x.wait ≡ true) × (is_admitted x.step ≡ false) ×
           (x.level ≡ r.level) → Goes p
-      start_goes x here k =
-          let blocks : (after p).words.block ≡ w.words.block = ap (λ (v : Words). v.block) words ∙ read_blocks w.words r r.step in
-          let nodes : (after p).words.node ≡ w.words.node = ap (λ (v : Words). v.node) words ∙ read_nodes w.words r r.step in
-          record {
-            then_at = to x;
-            leaves = aside_leaves c w good t lt p at hook (to x) here
-                (subst (StaysBeside w.words) (sym words) (read_beside w.words r r.step))
-                (λ i b. ap (λ (g : ℕ → ℕ). g i) blocks ∙ b) nodes none (λ e. later x);
-            kept = keeps x (k.0, k.1, ap (λ (g : ℕ → ℕ). g x.level) blocks ∙ (ap w.words.block k.2 ∙ h.2));
-          }
+      start_goes x here k = grind arith
 
       through : (outer : Next DownRead → Next Phase) → ((x : DownRead) → phase_after (outer (Go x)) ≡ Some (to x)) →
           ((x : DownRead) → phase_after (outer (Wait x)) ≡ Some (to x)) → (coming : Next DownRead) →
@@ -276,10 +250,7 @@ module _ (c : Config) (w : World) (good : IsGood c w) (t : ℕ) (lt : t < c.task
   module _ (p q : Phase) (at : (w.views t).phase ≡ Some p) (here : ((after p).views t).phase ≡ Some q) (same : (after p).words ≡ w.words)
       (none : owns (Some p) ≡ 0) (begins : begins_freeze (Some p) ≡ false → begins_freeze (Some q) ≡ false) where
     tried_leaves : LeavesKept c w (after p) t p q
-    tried_leaves =
-        aside_leaves c w good t lt p at hook q here
-        (subst (StaysBeside w.words) (sym same) (record { umount_same = refl; stage_same = refl; sb_same = refl }))
-        (λ i b. ap (λ (v : Words). v.block i) same ∙ b) (ap (λ (v : Words). v.node) same) none begins
+    tried_leaves  = grind arith
 
     tried_locks : LockIsBlocked c w → LockIsBlocked c (after p)
     tried_locks l = locks_stay c w good t lt p at hook q tried_leaves l
@@ -369,19 +340,7 @@ module _ (c : Config) (w : World) (good : IsGood c w) (t : ℕ) (lt : t < c.task
         ((after (here_at s)).words.stage ≡ w.words.stage) × ((after (here_at s)).words.sb ≡ w.words.sb)) →
         (w.words.umount ≡ 0 → w.words.stage ≡ 0 → is_first_lock s ≡ false → ⊥) → HeldLevelAhead c (after (here_at s)) s' →
         is_first_lock s' ≡ false → Goes (here_at s)
-    freeze_makes s' here blocks last far stage early kept later = record {
-      then_at = here_at s';
-      leaves = record {
-        here = here;
-        blocks = blocks;
-        last = last;
-        owner = λ h own. let g : (owns (Some (here_at s')) ≡ 1) × (2 ≤ next_level (after (here_at s)).words s') = far h.0 own in
-            (g.0, (g.1, kept));
-        stage = stage;
-        free = λ u z b. absurd (early u z b);
-      };
-      kept = kept_later c (after (here_at s)) s' later kept;
-    }
+    freeze_makes s' here blocks last far stage early kept later = grind arith
 
     goes_by : (s' : FreezeStep) → next_level (after (here_at s)).words s' ≤ next_level w.words s → HeldLevelAhead c w s → HeldLevelAhead c (after (here_at s)) s'
     goes_by s' le k = kept_by c w good t lt (here_at s) at hook s s' le k
@@ -410,17 +369,10 @@ module _ (c : Config) (w : World) (good : IsGood c w) (t : ℕ) (lt : t < c.task
           (2 ≤ d.level → owns (Some closing) ≡ 1 →
           (owns (Some (Freezes (at_freeze x s'))) ≡ 1) × (2 ≤ next_level (after closing).words s')) →
           HeldLevelAhead c (after closing) s' → is_first_lock s' ≡ false → Goes closing
-      closes_to s' here far kept later =
-          let stays : StaysBeside w.words (after closing).words = down_beside w.words d d.step in
-          freeze_makes x (Closes d) at s' here (down_blocks w.words d d.step)
-          (λ f h. ap (λ (g : ℕ → ℕ). is_last_close (g f)) (down_nodes w.words d d.step) ∙ h) far
-          (λ none. (stays.stage_same, stays.sb_same))
-          (λ u z b. let known : w.words.stage ≡ d.level = knows x (Closes d) at in omega (arith, known, z, one)) kept later
+      closes_to s' here far kept later = grind arith
 
       level_goes : (e : DownWrite) → ((after closing).views t).phase ≡ Some (Freezes (at_freeze x (Closes e))) → e.level ≡ d.level → Goes closing
-      level_goes e here same =
-          closes_to (Closes e) here (λ two own. (ap (λ l. bit (nat_lt 1 l)) same ∙ own, omega (arith, two, same)))
-          (goes_by x (Closes d) at (Closes e) (omega (arith, same)) k) refl
+      level_goes e here same = grind arith
 
       -- a level that an idle task holds isn't passed
       passed_apart : MovesModel c (shown c w) t (Some (Pass d.level)) (shown c (after closing)) → (k.0 ≡ d.level → ⊥)

@@ -32,16 +32,13 @@ snapshot_either : (w : Words) (s : SnapshotStep) (wait : Bool) →
 snapshot_either w s wait = grind arith
 
 remount_either : (w : Words) (s : RemountStep) → RemountIsUnblocked w s ⊎ ((w.umount ≡ 0 → ⊥) × (s ≡ RemountStep.Locks))
-remount_either w RemountStep.Locks = elim (eqb_tells w.umount 0) [ inl z ↦ inl z.1 | inr z ↦ inr (z.1, refl) ]
-remount_either w s = inl tt
+remount_either w s = grind arith
 
 thaw_either : (w : Words) (s : ThawStep) → ThawIsUnblocked w s ⊎ ((w.umount ≡ 0 → ⊥) × (s ≡ ThawStep.Locks))
-thaw_either w ThawStep.Locks = elim (eqb_tells w.umount 0) [ inl z ↦ inl z.1 | inr z ↦ inr (z.1, refl) ]
-thaw_either w s = inl tt
+thaw_either w s = grind arith
 
 first_either : (w : Words) (s : FreezeStep) → FirstFree w s ⊎ ((w.umount ≡ 0 → ⊥) × (s ≡ FreezeStep.Locks))
-first_either w FreezeStep.Locks = elim (eqb_tells w.umount 0) [ inl z ↦ inl z.1 | inr z ↦ inr (z.1, refl) ]
-first_either w s = inl tt
+first_either w s = grind arith
 
 -- a start that waits finds its level open, or closed
 read_either : (block : ℕ) (wait : Bool) (s : DownReadStep) → block ≤ 1 → (wait ≡ true → is_admitted s ≡ false → block ≡ 0) ⊎
@@ -62,16 +59,13 @@ last_either block true true le =
     elim (eqb_tells block 0) [ inl z ↦ inl (λ q a. z.1) | inr z ↦ inr (refl, refl, omega (arith, z.1, le)) ]
 
 first_owned : (w : Words) (s : FreezeStep) → freeze_owns s ≡ 1 → FirstFree w s
-first_owned w FreezeStep.Locks h = absurd (omega (arith, h))
-first_owned w s h = tt
+first_owned w s h = grind arith
 
 first_or_kept : (c : Config) (w : World) (s : FreezeStep) → (s ≡ FreezeStep.Locks) ⊎ (HeldLevelAhead c w s → FreezeIsBlocked c w s)
-first_or_kept c w FreezeStep.Locks = inl refl
-first_or_kept c w s = inr (λ k. k)
+first_or_kept c w s = grind arith
 
 pub first_is : (s : FreezeStep) → is_first_lock s ≡ true → s ≡ FreezeStep.Locks
-first_is FreezeStep.Locks h = refl
-first_is s h = absurd (true≢false (sym h))
+first_is s h = grind arith
 
 first_at : (p : Option Phase) → begins_freeze p ≡ true → (y : Freeze) × (p ≡ Some (Phase.Freezes (at_freeze y FreezeStep.Locks)))
 first_at (Some (Phase.Freezes x)) h = (x, ap (λ s. Some (Phase.Freezes (at_freeze x s))) (first_is x.step h))

@@ -70,9 +70,7 @@ rank_small c lim w t held phase f =
     omega (arith, beside_small c lim w t held phase f refl, le-max_right (most_in_loop c) (most_beside c))
 
 pub alone_settled : (c : Config) → most_alone c ≤ most_settled c
-alone_settled c =
-    let beside : ℕ = most_beside c + 5 * (c.tasks - 1) in
-    max-le (le-max_left (most_in_loop c) beside) (omega (arith, le-max_right (most_in_loop c) beside))
+alone_settled c = grind arith
 
 pub beside_settled : (c : Config) → most_beside c + 5 * (c.tasks - 1) ≤ most_settled c
 beside_settled c = le-max_right (most_in_loop c) (most_beside c + 5 * (c.tasks - 1))

@@ -77,8 +77,7 @@ kept_or_apart c w step =
 -- a start outside its section holds no level from its own up
 outside_fits : (i : ℕ) (levels : ℕ → Bool) (s : DownReadStep) → down_read_inside s ≡ 0 → ReadStepFits i levels s →
     holds_none_from i levels ≡ true
-outside_fits i levels DownReadStep.EntersSection h f = f
-outside_fits i levels s h f = absurd (omega (arith, h))
+outside_fits i levels s h f = grind arith
 
 -- a freeze finds `umount` free at its first lock
 abbrev pub FirstFree : Words → FreezeStep → Type 0
@@ -104,26 +103,13 @@ lock_or w nodes s free = inl tt
 
 -- who reopens levels is at stage 0
 reopening_knows : (stage sb level : ℕ) (s : UpWriteStep) → KnowsStage stage sb (reopening_role level s) → stage ≡ 0
-reopening_knows stage sb level UpWriteStep.ClearsBlock k = k.0
-reopening_knows stage sb level (UpWriteStep.Exits x) k = k.0
+reopening_knows stage sb level a3 k = grind arith
 
 -- Another freeze that owns `umount` at stage 1 is to find so, or to release it.
 owner_step : (c : Config) (w : Words) (nodes : ℕ) (s : FreezeStep) → NobodyInside c w → w.stage ≡ 1 →
     KnowsStage w.stage w.sb (freeze_stage_role nodes s) → freezes (freeze_stage_role nodes s) ≡ 0 →
     freeze_owns s ≡ 1 → FreezeIsUnblocked c w s
-owner_step c w nodes FreezeStep.Locks even one k f o = absurd (omega (arith, o))
-owner_step c w nodes FreezeStep.LoadsStage even one k f o =
-    let q : (w.stage == 0) ≡ false = ne_eqb w.stage 0 (λ z. omega (arith, z, one)) in
-    (even, tt, λ i low high. let l : 4 ≤ i = rw q at low in absurd (omega (arith, l, high)))
-owner_step c w nodes FreezeStep.LoadsHolders even one k f o = absurd (omega (arith, k.0, one))
-owner_step c w nodes (FreezeStep.Holds beside) even one k f o = absurd (omega (arith, k.0, one))
-owner_step c w nodes FreezeStep.LoadsSuperblock even one k f o = absurd (omega (arith, k.0, one))
-owner_step c w nodes FreezeStep.CompletesReadOnly even one k f o = absurd (omega (arith, k.0, one))
-owner_step c w nodes FreezeStep.SetsWrite even one k f o = absurd (omega (arith, k.0, one))
-owner_step c w nodes (FreezeStep.Reopens u code) even one k f o =
-    absurd (omega (arith, one, reopening_knows w.stage w.sb u.level u.step k))
-owner_step c w nodes (FreezeStep.Releases answer) even one k f o = (even, tt, λ i low high. absurd (omega (arith, low, high)))
-owner_step c w nodes s even one k f o = absurd (omega (arith, f))
+owner_step c w nodes s even one k f o = grind arith
 
 next_some : (c : Config) (holder : Holder) (w : Words) (s : FreezeStep) → FreezeFits c holder s → 1 ≤ next_level w s
 next_some c holder w s f = grind arith
@@ -133,8 +119,7 @@ pub next_same : (w next : Words) (s : FreezeStep) → next.stage ≡ w.stage →
 next_same w next s e f = grind arith
 
 first_same : (w next : Words) (s : FreezeStep) → next.umount ≡ w.umount → FirstFree w s → FirstFree next s
-first_same w next FreezeStep.Locks e f = e ∙ f
-first_same w next s e f = tt
+first_same w next s e f = grind arith
 
 module _ (c : Config) (lim : IsWithin c)
     (keeps : EventsKeepRule c)

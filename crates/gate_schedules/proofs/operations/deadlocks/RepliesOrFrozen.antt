@@ -18,16 +18,13 @@ up_to_none : (i : ℕ) → 1 ≤ i → up_to i 0 ≡ 0
 up_to_none i one = rw (lt-leb i 0 one)
 
 remount_none : (nodes : ℕ) (s : RemountStep) → closed_by (remount_stage_role nodes s) ≡ 0
-remount_none nodes RemountStep.Locks = refl
-remount_none nodes s = refl
+remount_none nodes s = grind arith
 
 snapshot_none : (s : SnapshotStep) → closed_by (snapshot_stage_role s) ≡ 0
-snapshot_none SnapshotStep.Locks = refl
-snapshot_none s = refl
+snapshot_none s = grind arith
 
 tree_none : (x : TreePhase) → closed_by (tree_stage_role x) ≡ 0
-tree_none (TreePhase.Snapshot x) = snapshot_none x.step
-tree_none x = refl
+tree_none x = grind arith
 
 -- who has a level closed is a freeze that is past its lock, or a thaw that is
 closer_kept : (c : Config) (w : World) (i : ℕ) → 1 ≤ i → (phase : Phase) → (closes i (stage_role_of (Some phase)) ≡ 0 → ⊥) →
@@ -72,31 +69,25 @@ module _ (c : Config) (w : World) (good : IsGood c w)
       ]
 
   owner_kept : (y : ℕ) → y < c.tasks → (p : Option Phase) → (w.views y).phase ≡ p → BlockedIfFreeze c w p → AFreezeIsKept c w
-  owner_kept y ly (Some (Phase.Freezes x)) at k = (y, ly, x, at, k.1)
-  owner_kept y ly p at k = absurd k
+  owner_kept y ly p at k = grind arith
 
   lock_tells : LockIsBlocked c w → AFreezeIsKept c w
   lock_tells k = owner_kept k.0 k.1 (w.views k.0).phase refl k.3
 
   change_tells : (s : ChangeStep) (wait : Bool) → ChangeIsBlocked c w s wait → AFreezeIsKept c w
-  change_tells ChangeStep.Locks wait k = lock_tells k.1
-  change_tells s wait k = absurd k
+  change_tells s wait k = grind arith
 
   remount_tells : (s : RemountStep) → RemountIsBlocked c w s → AFreezeIsKept c w
-  remount_tells RemountStep.Locks k = lock_tells k
-  remount_tells s k = absurd k
+  remount_tells s k = grind arith
 
   thaw_tells : (s : ThawStep) → ThawIsBlocked c w s → AFreezeIsKept c w
-  thaw_tells ThawStep.Locks k = lock_tells k
-  thaw_tells s k = absurd k
+  thaw_tells s k = grind arith
 
   snapshot_tells : (s : SnapshotStep) (wait : Bool) → SnapshotIsBlocked c w s wait → AFreezeIsKept c w
-  snapshot_tells SnapshotStep.Locks wait k = lock_tells k.1
-  snapshot_tells s wait k = absurd k
+  snapshot_tells s wait k = grind arith
 
   tree_tells : (x : TreePhase) → TreeIsBlocked c w x → AFreezeIsKept c w
-  tree_tells (TreePhase.Snapshot x) k = snapshot_tells x.step x.wait k
-  tree_tells x k = absurd k
+  tree_tells x k = grind arith
 
   freeze_tells : (t : ℕ) → t < c.tasks → (x : Freeze) → (w.views t).phase ≡ Some (Phase.Freezes x) → (s : FreezeStep) → x.step ≡ s →
       FreezeIsBlocked c w s → AFreezeIsKept c w

@@ -62,8 +62,7 @@ all_within c w = total c.tasks (λ y. inside (w.views y).phase)
 
 -- a task that is inside one is at a phase
 pub phase_inside : (p : Option Phase) → inside p ≡ 1 → (phase : Phase) × (p ≡ Some phase)
-phase_inside None h = absurd (omega (arith, h))
-phase_inside (Some phase) h = (phase, refl)
+phase_inside a0 h = grind arith
 
 module _ (c : Config) (lim : IsWithin c)
     (keeps : EventsKeepRule c)

@@ -139,16 +139,13 @@ module _ (c : Config) (t : ℕ) (w next : World) (earlier : List World) (after :
     enter_own n e = grind arith
 
     callback_own : (n : TransitionNext) → Own (after_closing x d.level (Next.Go (at_down_write d (callback_step n))))
-    callback_own (TransitionNext.More transition) e = tt
-    callback_own other e = tt
+    callback_own other e = grind arith
 
     sections_own : (n : GraceNext) → Own (after_closing x d.level (sections_awaited d n))
-    sections_own (GraceNext.More grace) e = tt
-    sections_own other e = tt
+    sections_own other e = grind arith
 
     passed_own : (o : Option SyncWord) → Own (after_closing x d.level (passed_awaited d o))
-    passed_own None e = tt
-    passed_own (Some word) e = elim (cases_Bool (is_passed word.state)) [ inl h ↦ rw h tt | inr h ↦ rw h tt ]
+    passed_own a0 e = grind arith
 
     -- after the swap of `block` a sum begins, or the swap is done again
     block_own : (found : ℕ) → 1 ≤ d.level → d.level ≤ 3 → Own (after_closing x d.level (down_write_after d DownWriteStep.SetsBlock found).0)
@@ -193,8 +190,7 @@ module _ (c : Config) (t : ℕ) (w next : World) (earlier : List World) (after :
   reopening_own level code n e = grind arith
 
   clearing_own : (n : Next ClearMarks) → Own (after_clearing x n)
-  clearing_own (Next.Go marks) e = tt
-  clearing_own other e = tt
+  clearing_own other e = grind arith
 
   -- where a freeze was found under way, it was so when the freeze looked
   stage_own : (w.views t).phase ≡ Some (Phase.Freezes (at_freeze x FreezeStep.LoadsStage)) → (w.words.stage ≡ 0 → ⊥) → (w.words.stage ≡ 4 → ⊥) →

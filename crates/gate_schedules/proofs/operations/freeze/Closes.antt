@@ -1,4 +1,5 @@
 -- The events of a freeze on the words of a level that it closes.
+use Rattle.std.proofs.lemmas.Grind.{common_steps}
 use Rattle.gate_schedules.proofs.frames.{Accesses.holdings_of_after, ByPhase.freeze_owner, OperationLaws.by_bool, Stages.{IsStageEvent, stages_in}}
 use Rattle.gate_schedules.proofs.levels.DownWrite.{down_write_levels, entered_by_nobody, passes_finds_nobody, swap_finds_clear}
 use Rattle.gate_schedules.proofs.{levels.LevelPositions.{LevelsHold, HasPosition, left_world, position_after_closing}, operations.freeze.Fits.freeze_goes}
@@ -48,12 +49,10 @@ enter_place : (tasks : ℕ) (n : TransitionNext) → place_of (enter_step tasks 
 enter_place tasks n = grind arith
 
 callback_place : (n : TransitionNext) → place_of (callback_step n) ≡ Before
-callback_place (TransitionNext.More transition) = refl
-callback_place other = refl
+callback_place other = grind arith
 
 sections_place : (d : DownWrite) (n : GraceNext) → IsAtPlace d Before (sections_awaited d n)
-sections_place d (GraceNext.More grace) = (refl, refl)
-sections_place d other = (refl, refl)
+sections_place d other = grind arith
 
 passed_place : (d : DownWrite) (o : Option SyncWord) → IsAtPlace d Before (passed_awaited d o)
 passed_place d o = grind arith
@@ -213,15 +212,7 @@ module _ (c : Config) (lim : IsWithin c) (w : World) (good : IsGood c w) (t : �
 
     closing_stays : (words_then.block ≡ w.words.block) → (p : Place) → place_of d.step ≡ p → IsAtPlace d p next_here →
         IsStageEvent c w good t lt words_then view_then Stays
-    closing_stays block p was now =
-        stays_there c w good t lt words_then view_then (record {
-          stage_same = λ j. (down_write_words w.words d d.step j).stage;
-          sb_same = λ j. (down_write_words w.words d d.step j).sb;
-          remount_same = λ j. (down_write_words w.words d d.step j).remount;
-          block_same = block;
-          node_same = λ j. (down_write_words w.words d d.step j).node;
-        })
-        (place_role x d p next_here now ∙ sym (ap stage_role_of e ∙ ap (λ q. Freezing d.level q (nat_lt 1 d.level)) was))
+    closing_stays block p was now = grind (arith, common_steps)
 
     nobody_inside : (j : ℕ) → adds_here ≡ Some (Action.Pass j) → (y : ℕ) → y < c.tasks → holds_level (w.views y) d.level ≡ false
     nobody_inside j is y ly =

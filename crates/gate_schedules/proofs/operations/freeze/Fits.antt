@@ -1,4 +1,5 @@
 -- What fits after an event of a freeze, of the closing of a level and of its reopening.
+use Rattle.std.proofs.lemmas.Grind.{common_steps}
 use Rattle.std.proofs.{Common.{◌≡◌, ℕ, ◌<◌, ◌≤◌, true, false, sym, subst, inl, inr, arith}, lemmas.Bool.{cases_Bool, Decides.{eqb_tells}}}
 use Rattle.std.specs.Prelude.{◌==◌, if◌then◌else◌, Option, Ok, Err}
 use Rattle.access_model.specs.{Holders.{nobody, held_by}, Replies.map_next}
@@ -48,12 +49,10 @@ freeze_acts x s held found hook = (freeze_moves x s found hook held).0
 module _ (c : Config) (within : IsWithin c) where
   -- the step after its enter fits: a grace period that begins has all tasks before it
   enter_fits : (tasks : ℕ) → tasks ≡ c.tasks → (n : TransitionNext) → DownWriteStepFits c (enter_step tasks n)
-  enter_fits tasks same (TransitionNext.Made GpState.Idle) = (same, within.some_task)
-  enter_fits tasks same other = tt
+  enter_fits tasks same other = grind arith
 
   callback_fits : (n : TransitionNext) → DownWriteStepFits c (callback_step n)
-  callback_fits (TransitionNext.More transition) = tt
-  callback_fits other = tt
+  callback_fits other = grind arith
 
   module _ (d : DownWrite) (l1 : 1 ≤ d.level) (l3 : d.level ≤ 3) (same : d.tasks ≡ c.tasks) (processors : d.processors ≡ c.processors) where
     -- what comes after an event of a down-write fits
@@ -70,30 +69,7 @@ module _ (c : Config) (within : IsWithin c) where
     summed_goes sum found = grind arith
 
     down_write_goes : (s : DownWriteStep) (found : ℕ) → DownWriteStepFits c s → KnowsDownWrite s → Goes (down_write_after d s found).0
-    down_write_goes (DownWriteStep.Enters transition) found f k =
-        let shows = exchanges_make_transitions on_enter d.level found transition k in (
-          l1,
-          l3,
-          same,
-          processors,
-          enter_fits d.tasks same (transition_after on_enter transition found),
-          enter_knows d.tasks found _ (transition_after on_enter transition found) shows,
-        )
-    down_write_goes (DownWriteStep.AwaitsSections grace) found f k = looked_goes grace found f.0 f.1
-    down_write_goes (DownWriteStep.CallsBack transition) found f k =
-        let shows = exchanges_make_transitions on_callback d.level found transition k in (
-          l1,
-          l3,
-          same,
-          processors,
-          callback_fits (transition_after on_callback transition found),
-          callback_knows found _ (transition_after on_callback transition found) shows,
-        )
-    down_write_goes DownWriteStep.AwaitsPassed found f k = passed_found_goes (unpack found)
-    down_write_goes DownWriteStep.SetsBlock found f k =
-        by_bool (found == 0) (λ b. Goes (if b then Next.Go (at_down_write d sum_begun) else Next.Wait (at_down_write d DownWriteStep.SetsBlock)))
-        (l1, l3, same, processors, within.some_processor, tt) (l1, l3, same, processors, tt, tt)
-    down_write_goes (DownWriteStep.Sums sum) found f k = summed_goes sum found
+    down_write_goes a0 found f k = grind (arith, common_steps)
 
   -- so it is after each event of an up-write
   up_write_goes : (u : UpWrite) (s : UpWriteStep) (found : ℕ) → 1 ≤ u.level → u.level ≤ 3 → KnowsUpWrite s →
@@ -135,41 +111,10 @@ module _ (c : Config) (within : IsWithin c) where
         by_bool (found == 0) (λ b. NextFits (if b then Next.Go (at_freeze x s) else Next.Wait (at_freeze x again))) (goes_to s g) (goes_to again f)
 
     next_fits : (s : FreezeStep) (found : ℕ) (hook : HookAnswer) → FreezeFits c x.holder s → NextFits (freeze_after x s found hook).0
-    next_fits FreezeStep.Locks found hook f = locked_fits FreezeStep.Locks FreezeStep.LoadsStage found tt tt
-    next_fits FreezeStep.LoadsStage found hook f =
-        elim (cases_Bool (found == 0)) [
-          | inl h ↦ rw h (goes_to FreezeStep.LoadsSuperblock tt)
-          | inr h ↦ elim (cases_Bool (found == 4)) [
-            | inl k ↦ rw (h, k) (goes_to FreezeStep.LoadsHolders tt)
-            | inr k ↦ rw (h, k) (goes_to (FreezeStep.Releases (Err GateError.Busy)) tt)
-          ]
-        ]
-    next_fits FreezeStep.LoadsHolders found hook f =
-        found_cases x (holders_in found) (λ s. NextFits (Next.Go (at_freeze x s))) (λ own. goes_to (FreezeStep.Releases (Err GateError.Busy)) tt)
-        (λ other. goes_to (FreezeStep.Holds (holders_in found)) other)
-    next_fits (FreezeStep.Holds beside) found hook f = goes_to (FreezeStep.Releases (Ok Reply.Unit)) tt
-    next_fits FreezeStep.LoadsSuperblock found hook f =
-        elim (cases_Bool (found == 0)) [ inl h ↦ rw h (goes_to FreezeStep.SetsWrite tt) | inr h ↦ rw h (goes_to FreezeStep.CompletesReadOnly tt) ]
-    next_fits FreezeStep.CompletesReadOnly found hook f = goes_to (FreezeStep.Holds nobody) (none_held x.holder)
-    next_fits FreezeStep.SetsWrite found hook f = goes_to FreezeStep.Unlocks tt
-    next_fits FreezeStep.Unlocks found hook f = goes_to (freeze_closes x 1) (closes_fits x 1 all processors (omega arith) (omega arith))
-    next_fits (FreezeStep.Closes d) found hook f =
-        closing_fits d.level (down_write_after d d.step found).0 (down_write_goes d f.0 f.1 f.2 f.3 d.step found f.4 f.5)
-    next_fits FreezeStep.LocksAgain found hook f = locked_fits FreezeStep.LocksAgain FreezeStep.SetsPageFault found tt tt
-    next_fits FreezeStep.SetsPageFault found hook f = goes_to (freeze_closes x 2) (closes_fits x 2 all processors (omega arith) (omega arith))
-    next_fits (FreezeStep.Cleans marks) found hook f = clearing_fits marks found f.0
-    next_fits FreezeStep.SetsFs found (Ok answer) f = goes_to (freeze_closes x 3) (closes_fits x 3 all processors (omega arith) (omega arith))
-    next_fits FreezeStep.SetsFs found (Err code) f = goes_to (freeze_fails 2 code) (fails_fits x.holder 2 code (omega arith))
-    next_fits FreezeStep.SetsComplete found (Ok answer) f = goes_to (FreezeStep.Holds nobody) (none_held x.holder)
-    next_fits FreezeStep.SetsComplete found (Err code) f = goes_to (freeze_fails 3 code) (fails_fits x.holder 3 code (omega arith))
-    next_fits (FreezeStep.Reopens u code) found hook f =
-        reopening_fits u.level code f.1 (up_write_after u u.step found).0 (up_write_goes u u.step found f.0 f.1 f.2)
-    next_fits (FreezeStep.Releases answer) found hook f = tt
+    next_fits a0 found hook f = grind (arith, common_steps)
 
   -- what comes after each event of a freeze fits what its action leaves
   pub freeze_goes : (t : ℕ) (held : Holdings) (x : Freeze) (s : FreezeStep) (found : ℕ) (hook : HookAnswer) →
       PhaseFits c t held (Phase.Freezes (at_freeze x s)) →
       Fits c t (held_after (freeze_after x s found hook).1 held) (phase_after (map_next Phase.Freezes (freeze_after x s found hook).0))
-  freeze_goes t held x s found hook f =
-      subst (λ k. Fits c t k (phase_after (map_next Phase.Freezes (freeze_after x s found hook).0))) (sym (freeze_moves x s found hook held).1)
-      (next_fits t held x f.0 f.1 f.2 f.3 f.4 s found hook f.5)
+  freeze_goes t held x s found hook f = grind (arith, common_steps)

@@ -17,8 +17,7 @@ use Rattle.gate_schedules.proofs.operations.freeze.Stages.{freeze_stands, idle_s
 -- with level 2 closed, a freeze clears another mark or asks the file system for its sync
 cleared_stands : (x : Freeze) (marks : ClearMarks) (node : Option ℕ) →
     HasPosition (phase_after (map_next Phase.Freezes (after_clearing x (clears_at marks node)))) (Some (closed_to 2))
-cleared_stands x marks (Some node) = freeze_stands (at_freeze x (FreezeStep.Cleans (record marks { node = node })))
-cleared_stands x marks None = freeze_stands (at_freeze x FreezeStep.SetsFs)
+cleared_stands x marks a2 = grind arith
 
 -- an attempt at `umount` leaves how a freeze stands with the levels, where the step that it is for stands so
 locked_stands : (x : Freeze) (again step : FreezeStep) (found : ℕ) (stand : Option LevelPosition) →

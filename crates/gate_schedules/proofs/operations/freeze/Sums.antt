@@ -75,18 +75,7 @@ module _ (c : Config) (lim : IsWithin c) (i value : ℕ) (hook : HookAnswer) (ea
 
   -- a task is passed, or it is still inside its section
   looks_at_section : (g : Grace) → AfterClosing (DownWriteStep.AwaitsSections g)
-  looks_at_section g =
-      elim (cases_Bool (value % 2 == 1)) [
-        | inl f ↦ elim (cases_Bool (is_first g.first value)) [
-          | inl e ↦ rw (f, e) (
-            (DownWriteStep.AwaitsSections (record { tasks = g.tasks; task = g.task; first = Some value }), refl, tt),
-            refl,
-            inl (rw f refl),
-          )
-          | inr e ↦ rw (f, e) (passed_goes (closing_trace (DownWriteStep.AwaitsSections g)) g)
-        ]
-        | inr f ↦ rw f (passed_goes (closing_trace (DownWriteStep.AwaitsSections g)) g)
-      ]
+  looks_at_section g = grind arith
 
   -- the sync word was found past GP_ENTER, or a writer in its grace period
   looks_at_sync : (o : Option SyncWord) → unpack value ≡ o →

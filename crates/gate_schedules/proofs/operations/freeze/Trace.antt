@@ -142,8 +142,7 @@ closing_says c t holder i s e earlier added n action level h = grind arith
 lock_leaves : (c : Config) (holder : Holder) (answer : Result Reply GateError) (value : ℕ) (hook : HookAnswer) (earlier : List Traced)
     (added : List Action) → Answers c holder answer earlier added →
     Answers c holder answer (with_hook (event_of WordName.Umount (Touch.Store 0) value) hook ∷ earlier) added
-lock_leaves c holder (Err (GateError.Hook code)) value hook earlier added h = (h.0, inr h.1)
-lock_leaves c holder answer value hook earlier added h = h
+lock_leaves c holder answer value hook earlier added h = grind arith
 
 module _ (c : Config) (lim : IsWithin c) (t : ℕ) (holder : Holder) (value : ℕ) (earlier : List Traced) (added : List Action) where
   -- the trace after the event of a step
@@ -163,18 +162,7 @@ module _ (c : Config) (lim : IsWithin c) (t : ℕ) (holder : Holder) (value : �
   locks_again hook h = grind arith
 
   loads_stage : (hook : HookAnswer) → StepSays c holder FreezeStep.LoadsStage earlier added → TraceAfterStep hook FreezeStep.LoadsStage
-  loads_stage hook h =
-      elim (eqb_tells value 0) [
-        | inl f ↦ rw f.0 (
-          FreezeStep.LoadsSuperblock,
-          refl,
-          ((h.0.0, (h.0.1.0, ap (λ v. (v == 4) || found_complete earlier) f.1 ∙ h.0.1.1), h.0.2), h.1),
-        )
-        | inr f ↦ elim (eqb_tells value 4) [
-          | inl g ↦ rw (f.0, g.0) (FreezeStep.LoadsHolders, refl, (h.0.0, rw g.0 refl))
-          | inr g ↦ rw (f.0, g.0) (FreezeStep.Releases (Err GateError.Busy), refl, (h.0.0, inl (rw (f.0, g.0) refl)))
-        ]
-      ]
+  loads_stage hook h = grind arith
 
   loads_holders : (hook : HookAnswer) → StepSays c holder FreezeStep.LoadsHolders earlier added → TraceAfterStep hook FreezeStep.LoadsHolders
   loads_holders hook h = grind arith

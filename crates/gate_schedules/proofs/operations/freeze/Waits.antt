@@ -20,8 +20,7 @@ use Rattle.gate_world.specs.declared.{config.Config.Config, work.Phase.Phase}
 use Rattle.gate_schedules.proofs.{frames.Owners.umount_taken, levels.{DownWrite.queued_passed, Worlds.level_right}, operations.freeze.Causes.level_ends}
 
 state_passed : (s : GpState) → Some s ≡ Some GpState.Passed → is_passed s ≡ true
-state_passed GpState.Passed h = refl
-state_passed other h = absurd (cc)
+state_passed other h = grind arith
 
 closing_role : (x : Freeze) (d : DownWrite) (s : DownWriteStep) →
     sync_role_of d.level (Some (Phase.Freezes (at_freeze x (FreezeStep.Closes (at_down_write d s))))) ≡ down_write_role s
@@ -110,14 +109,12 @@ module _ (c : Config) (w : World) (earlier : List World) (good : IsGood c w) (t 
   -- no event of the transition with which a level is left is a wait
   exits_waits : (s : FreezeStep) (u : UpWrite) (level code : ℕ) (n : TransitionNext) →
       Waits s (after_reopening x level code (exit_made u n))
-  exits_waits s u level code (TransitionNext.More transition) = tt
-  exits_waits s u level code other = tt
+  exits_waits s u level code other = grind arith
 
   -- so none of its reopening is
   reopening_waits : (s : FreezeStep) (u : UpWrite) (step : UpWriteStep) (level code found : ℕ) →
       Waits s (after_reopening x level code (up_write_after u step found).0)
-  reopening_waits s u UpWriteStep.ClearsBlock level code found = tt
-  reopening_waits s u (UpWriteStep.Exits transition) level code found = exits_waits s u level code (transition_after on_exit transition found)
+  reopening_waits s u a2 level code found = grind arith
 
   clearing_waits : (s : FreezeStep) (marks : ClearMarks) (found : ℕ) → Waits s (after_clearing x (clear_after marks found).0)
   clearing_waits s marks found = elim (cases_Bool (nat_lt (marks.node + 1) marks.nodes)) [ inl h ↦ rw h tt | inr h ↦ rw h tt ]

@@ -16,13 +16,11 @@ use Rattle.gate_schedules.proofs.{frames.OperationLaws.by_bool, operations.reade
 
 -- a task has closed a level once at most
 closed_small : (role : SyncRole) → closed role ≤ 1
-closed_small Out = omega arith
-closed_small other = omega arith
+closed_small other = grind arith
 
 -- no step of a down-read has
 step_not_closed : (s : DownReadStep) → closed (down_read_role s) ≡ 0
-step_not_closed CountsUpFast = refl
-step_not_closed s = refl
+step_not_closed s = grind arith
 
 -- nor has a down-read of one level at any level
 pub read_not_closed : (i j : ℕ) (s : DownReadStep) → closed (sync_role_if (i == j) (down_read_role s)) ≡ 0

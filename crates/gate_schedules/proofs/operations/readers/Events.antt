@@ -63,13 +63,11 @@ slow_path = record { counts_not = λ p. refl; fits_still = λ i levels h. h }
 
 -- whatever the state is
 path_in : (s : GpState) → IsPath (step_in s)
-path_in Idle = record { counts_not = λ p. refl; fits_still = λ i levels h. h }
-path_in other = slow_path
+path_in other = grind arith
 
 -- and where the number is no word, which is loaded again
 path_found : (o : Option SyncWord) → IsPath (step_found o)
-path_found None = record { counts_not = λ p. refl; fits_still = λ i levels h. h }
-path_found (Some word) = path_in word.state
+path_found a0 = grind arith
 
 -- a start that was blocked begins anew or is done, and counts at no level
 blocked_counts : (r : DownRead) (b : Bool) (j : ℕ) → level_role_of j (phase_after (map_next DownReads (left_blocked r b))) ≡ CountsNot

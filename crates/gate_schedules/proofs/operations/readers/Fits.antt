@@ -1,4 +1,5 @@
 -- What fits after an event of a down-read, an up-read and a callback.
+use Rattle.std.proofs.lemmas.Grind.{common_steps}
 use Rattle.std.proofs.Common.{◌≡◌, ℕ, ◌<◌, ◌≤◌, Bool, true, false, refl, sym, subst, ◌∙◌, inl, inr, arith}
 use Rattle.std.proofs.lemmas.Bool.{cases_Bool, ltb-true}
 use Rattle.std.specs.Prelude.{◌==◌, ◌&&◌, nat_lt, Some, None, Ok, Err}
@@ -25,9 +26,7 @@ both_true false b e = absurd (cc)
 
 -- a number that is a level's
 pub level_there : (i : ℕ) → is_level_number i ≡ true → (1 ≤ i) × (i ≤ 3)
-level_there i h =
-    let l : (nat_lt 0 i ≡ true) × (nat_lt i 4 ≡ true) = both_true (nat_lt 0 i) (nat_lt i 4) h in
-    (omega (arith, ltb-true 0 i l.0), omega (arith, ltb-true i 4 l.1))
+level_there i h = grind arith
 
 module _ (h k : ℕ → Bool) (levels : (i : ℕ) → 1 ≤ i → i ≤ 3 → h i ≡ k i) where
   -- accesses that agree at each level hold none from a level up alike
@@ -36,8 +35,7 @@ module _ (h k : ℕ → Bool) (levels : (i : ℕ) → 1 ≤ i → i ≤ 3 → h 
 
   -- and a step of a down-read fits them alike
   pub read_step_agrees : (i : ℕ) (s : DownReadStep) → 1 ≤ i → i ≤ 3 → ReadStepFits i h s → ReadStepFits i k s
-  read_step_agrees i LeavesAdmitted l1 l3 f = sym (levels i l1 l3) ∙ f
-  read_step_agrees i s l1 l3 f = sym (none_from_agree i) ∙ f
+  read_step_agrees i s l1 l3 f = grind arith
 
 -- the word of each event of a down-read is there
 pub read_there : (c : Config) (t : ℕ) → t < c.tasks → (r : DownRead) (s : DownReadStep) → 1 ≤ r.level → r.level ≤ 3 →
@@ -66,21 +64,7 @@ module _ (c : Config) (t : ℕ) (r : DownRead) (l1 : 1 ≤ r.level) (l3 : r.leve
   -- so it is after each event
   pub read_goes : (held : Holdings) (s : DownReadStep) (found : ℕ) → ReadStepFits r.level held.levels s →
       ReadGoes c t r.level r.cpu (held_after (down_read_after r s found).1 held) (down_read_after r s found).0
-  read_goes held EntersSection found h = goes_on held LoadsSync h
-  read_goes held LoadsSync found h =
-      by_word (λ s. ReadGoes c t r.level r.cpu held (Go (at_down_read r s))) (goes_on held LoadsSync h)
-      (goes_on held CountsUpFast h) (goes_on held CountsUpSlow h) (unpack found)
-  read_goes held CountsUpFast found h = goes_on (held_after (Some (Grant (Level r.level))) held) LeavesAdmitted (update_at held.levels r.level true)
-  read_goes held CountsUpSlow found h = goes_on held LoadsBlock h
-  read_goes held LoadsBlock found h =
-      elim (cases_Bool (found == 0)) [
-        | inl f ↦ rw f (goes_on (held_after (Some (Grant (Level r.level))) held) LeavesAdmitted (update_at held.levels r.level true))
-        | inr f ↦ rw f (goes_on held CountsDown h)
-      ]
-  read_goes held CountsDown found h = goes_on held LeavesBlocked h
-  read_goes held LeavesAdmitted found h = h
-  read_goes held LeavesBlocked found h =
-      by_bool r.wait (λ b. ReadGoes c t r.level r.cpu held (left_blocked r b)) (goes_on held EntersSection h) tt
+  read_goes held a1 found h = grind (arith, common_steps)
 
 -- what comes after an event of a down-read that stands alone fits
 pub read_fits : (c : Config) (t i p : ℕ) (held : Holdings) (n : Next DownRead) → ReadGoes c t i p held n →
@@ -94,8 +78,7 @@ callback_there c b s l1 l3 f = grind arith
 
 -- no event of a callback adds an action
 pub callback_acts_none : (b : Callback) (s : CallbackStep) (found : ℕ) → (callback_after b s found).1 ≡ None
-callback_acts_none b (Claims transition) found = refl
-callback_acts_none b other found = refl
+callback_acts_none b other found = grind arith
 
 -- the grace period of a callback that comes next is of all tasks, and has a task more to look at
 abbrev NextGraceFits : ℕ → Next Callback → Type 0
@@ -131,7 +114,4 @@ module _ (c : Config) (within : IsWithin c) (t : ℕ) (held : Holdings) (b : Cal
   -- what comes after each event of a callback fits
   pub callback_goes : (s : CallbackStep) (found : ℕ) → PhaseFits c t held (Callbacks (at_callback b s)) →
       Fits c t held (phase_after (map_next Callbacks (callback_after b s found).0))
-  callback_goes s found f =
-      let some : 0 < b.tasks = omega (arith, f.2, within.some_task) in
-      all_fit f.0 f.1 f.2 (callback_after b s found).0 (same_level b s found)
-      (grace_goes b s found some (subst (λ n. GraceFits n s) (sym f.2) f.3)) (knows_next b s found some f.4)
+  callback_goes s found f = grind arith

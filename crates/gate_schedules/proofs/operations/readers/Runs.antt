@@ -1,4 +1,5 @@
 -- Each event of a down-read, of an up-read and of a callback is one of each level's kinds of event.
+use Rattle.std.proofs.lemmas.Grind.{common_steps}
 use Rattle.access_model.specs.{Replies.map_next}
 use Rattle.std.proofs.{Common.{arith, ap, inl, inr, refl, subst, sym, ℕ, ◌-◌, ◌<◌, ◌∙◌, ◌≡◌, ◌≤◌}, lemmas.Bool.Decides.{eqb_tells}}
 use Rattle.cpu_words.specs.{Hooks.HookAnswer, Touches.{found_by, left, wrap_add}, Words.{put, read}, declared.events.Touch.{Touch, TheVariants.Load}}
@@ -32,17 +33,7 @@ module _ (w : World) (t : ℕ) (v : View) where
   stays_there : (i j : ℕ) → (j ≡ i → ⊥) → (name : WordName) (touch : Touch) → IsEventAt i name touch →
       inside v.phase ≡ inside (w.views t).phase → sync_role_of j v.phase ≡ sync_role_of j (w.views t).phase →
       level_in (record { words = put w.words name (left touch (read w.words name)); views = update w.views t v }) j ≡ level_in w j
-  stays_there i j ne (Sync k) touch is same role =
-      level_kept w t j (put w.words (Sync k) (left touch (w.words.sync k))) v
-      (update_off w.words.sync k (left touch (w.words.sync k)) j (λ q. ne (q ∙ is))) refl refl refl same role
-  stays_there i j ne (Block k) touch is same role =
-      level_kept w t j (put w.words (Block k) (left touch (w.words.block k))) v refl
-      (update_off w.words.block k (left touch (w.words.block k)) j (λ q. ne (q ∙ is))) refl refl same role
-  stays_there i j ne (LevelCount k p) touch is same role =
-      level_kept w t j (put w.words (LevelCount k p) (left touch (w.words.level k p))) v refl refl refl refl same role
-  stays_there i j ne (Section u) Load is same role =
-      level_kept w t j (put w.words (Section u) (w.words.section u)) v refl refl refl (update_same w.words.section u) same role
-  stays_there i j ne name touch is same role = absurd is
+  stays_there i j ne name touch is same role = grind (arith, common_steps)
 
   -- so an event at one level is one of each level's
   runs_at : (tasks : ℕ) → t < tasks → (i : ℕ) (name : WordName) (touch : Touch) → IsOfLevel i name → IsEventAt i name touch →

@@ -62,8 +62,7 @@ by_state P fast slow state = grind arith
 
 -- what holds of another load too holds of the step that any number leads to
 pub by_word : (P : DownReadStep → Type 0) → P LoadsSync → P CountsUpFast → P CountsUpSlow → (word : Option SyncWord) → P (step_found word)
-by_word P again fast slow None = again
-by_word P again fast slow (Some word) = by_state P fast slow word.state
+by_word a0 again fast slow a4 = grind arith
 
 module _ (base i p t : ℕ) (value : ℕ) (hook : HookAnswer) (earlier : List Traced) (added : List Action) where
   -- what the trace says after the event of a step
@@ -91,8 +90,7 @@ start_short c i p false trace h = h refl
 
 -- a step comes after at most six events
 within_six : (s : DownReadStep) (n : ℕ) → n ≤ 0 + events_before s → n ≤ 6
-within_six EntersSection n h = omega arith
-within_six s n h = omega arith
+within_six s n h = grind arith
 
 -- what is said of a down-read is said of a start, by what comes next
 start_says : (c : Config) (i p t : ℕ) (wait : Bool) (e : Traced) (earlier : List Traced) (added : List Action) (n : Next DownRead) →
@@ -102,20 +100,7 @@ start_says c i p t wait e earlier added n h = grind arith
 
 -- so it is kept along every trace of a start
 pub start_inductive : (c : Config) (t i p : ℕ) (wait : Bool) → IsInductiveGivenReads (StartAt i p t wait) c t (Start i p wait)
-start_inductive c t i p wait = record {
-  first = (EntersSection, refl, (refl, λ q. omega arith, tt));
-  more = λ phase value hook earlier added may here.
-      subst (λ (x : Phase). ReadIsValid x (next_of x hook).0 value → InvariantAfterStep (StartAt i p t wait) c (Start i p wait) x value hook earlier added)
-      (sym here.1)
-      (λ holds.
-      let r : DownRead = read_at i p t wait here.0 in
-      let found : ℕ = found_by (down_read_next r here.0).1 value in
-      start_says c i p t wait (with_hook (event_of (down_read_next r here.0).0 (down_read_next r here.0).1 value) hook) earlier
-      (actions_after (down_read_after r here.0 found).1 added) (down_read_after r here.0 found).0
-      (read_event 0 i p t value hook earlier added wait here.0 holds here.2))
-      may;
-  short = λ trace phase added here. start_short c i p wait trace (λ q. within_six here.0 (length trace) (here.2.1 q));
-}
+start_inductive c t i p wait = grind arith
 
 -- what an end's trace says at a phase
 abbrev pub EndAt : ℕ → ℕ → List Traced → Phase → List Action → Type 0
@@ -123,10 +108,4 @@ EndAt i p trace phase added = (phase ≡ UpReads (record { level = i; cpu = p })
 
 -- its one event is its last
 pub end_inductive : (c : Config) (t i p : ℕ) → IsInductive (EndAt i p) c t (End i p)
-end_inductive c t i p = record {
-  first = (refl, refl, refl);
-  more = λ phase value hook earlier added here.
-      subst (λ (x : Phase). InvariantAfterStep (EndAt i p) c (End i p) x value hook earlier added) (sym here.0)
-      ((ap (λ (l : List Action). Return (Level i) ∷ l) here.2, tt), omega (arith, ap length here.1));
-  short = λ trace phase added here. omega (arith, ap length here.1);
-}
+end_inductive c t i p = grind arith

@@ -19,17 +19,7 @@ pub not_passed : (m : ℕ) → nat_lt m m ≡ false
 not_passed m = grind (arith, nat_tests)
 
 pub passed_there : (m n : ℕ) → (n ≡ m → ⊥) → nat_lt n (m + 1) ≡ nat_lt n m
-passed_there m n ne =
-    elim (cases_Bool (nat_lt n m)) [
-      | inl h ↦ elim (cases_Bool (nat_lt n (m + 1))) [
-        | inl k ↦ k ∙ sym h
-        | inr k ↦ absurd (omega (arith, ltb-true n m h, ltb-false n (m + 1) k))
-      ]
-      | inr h ↦ elim (cases_Bool (nat_lt n (m + 1))) [
-        | inl k ↦ absurd (ne (omega (arith, ltb-true n (m + 1) k, ltb-false n m h)))
-        | inr k ↦ k ∙ sym h
-      ]
-    ]
+passed_there m n ne = grind arith
 
 -- the loop goes on, or has passed each mount
 pub past_mount_role : (mounts at : ℕ) (held : MountSet) (m : ℕ) → m < mounts →

@@ -132,8 +132,7 @@ module _ (c : Config) (lim : IsWithin c) (t : ℕ) (ro : Bool) (value : ℕ) (ea
   loads_superblock hook h = grind arith
 
   sets_writable : (hook : HookAnswer) → StepSays c ro RemountStep.SetsWritable earlier added → TraceAfterStep hook RemountStep.SetsWritable
-  sets_writable (Ok answer) h = (RemountStep.Releases (Ok Reply.Unit), refl, (rw (h.1, h.2) (ap (λ (l : List Action). Action.SbRw ∷ l) h.0), tt))
-  sets_writable (Err code) h = ((rw h.1 h.0, rw h.1 (inl (refl, refl, refl))), tt)
+  sets_writable a0 h = grind arith
 
   -- no file is found removed, or one is
   loads_removed : (hook : HookAnswer) → StepSays c ro RemountStep.LoadsRemoved earlier added → TraceAfterStep hook RemountStep.LoadsRemoved
@@ -142,16 +141,7 @@ module _ (c : Config) (lim : IsWithin c) (t : ℕ) (ro : Bool) (value : ℕ) (ea
   -- the same with each mount held or read-only
   loads_removed_again : (hook : HookAnswer) (held : MountSet) → StepSays c ro (RemountStep.LoadsRemovedAgain held) earlier added →
       TraceAfterStep hook (RemountStep.LoadsRemovedAgain held)
-  loads_removed_again hook held h =
-      elim (cases_Bool (value == 0)) [
-        | inl f ↦ rw f (RemountStep.SetsRemount held, refl, h)
-        | inr f ↦ rw f (
-          leave_holds held,
-          refl,
-          leave_holds_says c ro held (longer hook (RemountStep.LoadsRemovedAgain held)) added
-              (h.0 ∙ sym (busy_adds ro (longer hook (RemountStep.LoadsRemovedAgain held))), inr (inl (rw f refl))),
-        )
-      ]
+  loads_removed_again hook held h = grind arith
 
   -- a mount is found read-only, or writable
   loads_flags : (hook : HookAnswer) (m : ℕ) (held : MountSet) → StepSays c ro (RemountStep.LoadsFlags m held) earlier added →
@@ -210,20 +200,7 @@ module _ (c : Config) (lim : IsWithin c) (t : ℕ) (ro : Bool) (value : ℕ) (ea
   sets_remount hook held h = grind arith
 
   clears_mark : (hook : HookAnswer) (n : ℕ) → StepSays c ro (RemountStep.ClearsMark n) earlier added → TraceAfterStep hook (RemountStep.ClearsMark n)
-  clears_mark hook n h =
-      elim (cases_Bool (has_flag value 4)) [
-        | inl f ↦ rw f (
-          past_node c.nodes n,
-          refl,
-          past_node_says c ro n (longer hook (RemountStep.ClearsMark n)) (Action.Clean n ∷ added)
-              (rw f (ap (λ (l : List Action). Action.Clean n ∷ l) h.0), h.1, h.2),
-        )
-        | inr f ↦ rw f (
-          past_node c.nodes n,
-          refl,
-          past_node_says c ro n (longer hook (RemountStep.ClearsMark n)) added (rw f h.0, h.1, h.2),
-        )
-      ]
+  clears_mark hook n h = grind arith
 
   -- the file system has answered, on the way to read-only
   sets_read_only : (hook : HookAnswer) → StepSays c ro RemountStep.SetsReadOnly earlier added → TraceAfterStep hook RemountStep.SetsReadOnly

@@ -1,4 +1,5 @@
 -- The law of each event of a snapshot.
+use Rattle.std.proofs.lemmas.Grind.{common_steps}
 use Rattle.gate_schedules.proofs.frames.{ByPhase.snapshot_owner, Frames.left_alone, OperationLaws.by_bool, Known.{IsOwnersWork, known_after}}
 use Rattle.gate_schedules.proofs.frames.{Owners.{locks_umount, releases_umount}, Snapshots.noted_part}
 use Rattle.gate_schedules.proofs.frames.{Stages.{alike_same, nobody_owns, owners_alike, stages_after, stages_in}, Words.load_same}
@@ -39,28 +40,14 @@ module _ (x : Snapshot) (P : Next Snapshot → Type 0) (go : (s : SnapshotStep) 
   locked_out_comes false = done _
 
   snapshot_comes : (s : SnapshotStep) (found : ℕ) → P (snapshot_after x s found).0
-  snapshot_comes SnapshotStep.Locks found =
-      by_bool (found == 0) (λ b. P (if b then Next.Go (at_snapshot x SnapshotStep.LoadsStage) else snapshot_locked_out x x.wait))
-      (go SnapshotStep.LoadsStage) (locked_out_comes x.wait)
-  snapshot_comes SnapshotStep.LoadsStage found =
-      by_bool (found == 4)
-      (λ b. P (if b then Next.Go (at_snapshot x SnapshotStep.LoadsUsed) else Next.Go (at_snapshot x (SnapshotStep.Releases (Err GateError.Invalid)))))
-      (go SnapshotStep.LoadsUsed) (go (SnapshotStep.Releases (Err GateError.Invalid)))
-  snapshot_comes SnapshotStep.LoadsUsed found = go (SnapshotStep.LoadsNode 0)
-  snapshot_comes (SnapshotStep.LoadsNode n) found =
-      by_bool (is_some (unpacked found))
-      (λ b. P (if b then Next.Go (at_snapshot x (node_step (node_after n x.nodes))) else Next.Go (at_snapshot x (SnapshotStep.LoadsNode n))))
-      (go (node_step (node_after n x.nodes))) (go (SnapshotStep.LoadsNode n))
-  snapshot_comes (SnapshotStep.LoadsKids n) found = go (kids_step (node_after n x.nodes))
-  snapshot_comes (SnapshotStep.Releases answer) found = done answer
+  snapshot_comes a0 found = grind (arith, common_steps)
 
 -- what comes after an event, among all phases
 abbrev later : Next Snapshot → Option Phase
 later n = phase_after (map_next Phase.Trees (map_next TreePhase.Snapshot n))
 
 kids_step_role : (o : Option ℕ) → snapshot_stage_role (kids_step o) ≡ Owning (Some 4) None
-kids_step_role (Some n) = refl
-kids_step_role None = refl
+kids_step_role a0 = grind arith
 
 locked_out_role : (x : Snapshot) (b : Bool) → stage_role_of (later (snapshot_locked_out x b)) ≡ Aside
 locked_out_role x true = refl
@@ -117,16 +104,7 @@ module _ (c : Config) (within : IsWithin c) (w : World) (good : IsGood c w) (t :
         dirty = marks_of (words_here s);
         at = update (stage_roles w) t (stage_role_of (view_here s).phase);
       }) (playing (stages_in w) t r)
-  moment_here s r is =
-      let beside : off_umount (words_here s) ≡ off_umount w.words = event_beside w.words x s in
-      λ j. record {
-        stage = (beside j).stage;
-        sb = (beside j).sb;
-        remount = (beside j).remount;
-        block = (beside j).block;
-        dirty = λ n. dirty_in ((beside j).node n);
-        at = update (stage_roles w) t (is j);
-      }
+  moment_here s r is = grind (arith, common_steps)
 
   -- the rule of the stage after an event that leaves the task's part in it, but for what it relies on
   recalls : (s : SnapshotStep) → IsHere s → (r : StageRole) → stage_role_of (view_here s).phase ≡ r → SameDuties (snapshot_stage_role s) r →
@@ -208,9 +186,7 @@ module _ (c : Config) (within : IsWithin c) (w : World) (good : IsGood c w) (t :
 later_role : (x : Snapshot) (s : SnapshotStep) (found : ℕ) (trace : List Traced) →
     role_after (phase_role (values_noted x.nodes trace)) (map_next TreePhase.Snapshot (snapshot_after x s found).0) ≡
     tree_role_of trace (later (snapshot_after x s found).0)
-later_role x s found trace =
-    snapshot_comes x (λ n. role_after (phase_role (values_noted x.nodes trace)) (map_next TreePhase.Snapshot n) ≡ tree_role_of trace (later n))
-    (λ s'. refl) refl (λ answer. refl) s found
+later_role x s found trace = grind (arith, common_steps)
 
 -- The law of the event to come.
 module _ (c : Config) (within : IsWithin c) (w : World) (good : IsGood c w) (t : ℕ) (lt : t < c.tasks) (hook : HookAnswer)

@@ -61,13 +61,7 @@ kids_kept nodes n words value (suc i) l =
 -- and is the next value
 pub notes_kids : (nodes n : ℕ) (words : TreeWords) (value : ℕ) → IsLong nodes words → n < nodes →
     NotesOne (suc (nodes + n)) (values_of nodes words) (values_of nodes (loaded words (WordName.Kids n) value)) value
-notes_kids nodes n words value long ln =
-    let back : nodes + n - nodes ≡ n = omega arith in
-    let after : TreeWords = loaded words (WordName.Kids n) value in (
-      rw (le-ltb (nodes + n) nodes (omega arith))
-          (ap (slice_index after.kids) back ∙ get_or-set_same words.kids n value 0 (omega (arith, long.1, ln))),
-      kids_kept nodes n words value,
-    )
+notes_kids nodes n words value long ln = grind (arith, common_steps)
 
 -- after each event of a snapshot the values are the earlier ones, with the word that it loads
 pub notes_step : (c : Bounds) (x : Snapshot) (s : SnapshotStep) → x.nodes ≡ c.nodes → SnapshotStepFits c s → (trace : List Traced)

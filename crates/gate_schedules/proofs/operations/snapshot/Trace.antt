@@ -80,25 +80,7 @@ module _ (c : Config) (t : ℕ) (wait : Bool) where
 
   -- and keeps it along
   snapshot_inductive : IsWithin c → IsInductiveGivenReads SnapshotAt c t (Op.Snapshot wait)
-  snapshot_inductive lim = record {
-    first = (SnapshotStep.Locks, refl, (refl, tt, refl, λ q. omega arith));
-    more = λ phase value hook earlier added may here.
-        let s : SnapshotStep = here.0 in
-        let x : Phase = Phase.Trees (TreePhase.Snapshot (snapshot_of s)) in
-        let e : Traced = with_hook (event_at x value hook) hook in
-        subst (λ (p : Phase). ReadIsValid p (next_of p hook).0 value → InvariantAfterStep SnapshotAt c (Op.Snapshot wait) p value hook earlier added)
-        (sym here.1)
-        (λ holds.
-        call_says Snapshot SnapshotStep TreePhase.Snapshot snapshot_of KnowsAtStep so_far (StepInvariant c) (events_before c) (2 * c.nodes + 4) wait c
-        (Op.Snapshot wait) (IsReply Reply.Tree) (SnapshotHonest (SeenIn (e ∷ earlier)) (snapshot_of s)) (λ answer. []) e earlier
-        (snapshot_answers s (e ∷ earlier)) (events_before c s) here.2.3
-        (snapshot_after (snapshot_of s) s (found_by (snapshot_next (snapshot_of s) s).1 value)).0
-        (snapshot_after (snapshot_of s) s (found_by (snapshot_next (snapshot_of s) s).1 value)).1 [] added here.2.2
-        (snapshot_ends (SeenIn earlier) (SeenIn (e ∷ earlier)) (snapshot_of s) s value here.2.1 (sees e earlier))
-        (snapshot_goes lim earlier s value hook here.2.0 holds))
-        may;
-    short = λ trace phase added here. most_short c wait trace (λ q. snapshot_within here.0 trace here.2.0 (here.2.3 q));
-  }
+  snapshot_inductive lim = grind arith
 
 -- so a snapshot's trace tells what it is to tell, and is short where it doesn't wait
 pub snapshot_tells : (wait : Bool) (c : Config) → IsWithin c → (t : ℕ) (trace : List Traced) → IsTrace c t (Op.Snapshot wait) trace →

@@ -1,4 +1,5 @@
 -- The law of each event of a thaw.
+use Rattle.std.proofs.lemmas.Grind.{common_steps}
 use Rattle.gate_world.specs.Roles.{thaw_owns}
 use Rattle.gate_world.specs.{Configs.{IsWithin, model_limits}, Fits.{Fits, PhaseFits, ThawFits}, Holdings.{Holdings, holdings_of}, Levels.is_frozen_whole}
 use Rattle.gate_world.specs.{Levels.{level_added_after, level_added_by, level_taken_after, level_taken_by}, Roles.{thaw_holder_role}}
@@ -67,8 +68,7 @@ opening_apart x level n = grind arith
 
 -- a thaw does nothing at the tree, whatever comes after an event of it
 tree_comes : (trace : List Traced) (n : Next Thaw) → tree_role_of trace (phase_after (map_next Phase.Thaws n)) ≡ OffTree
-tree_comes trace (Next.Go x) = refl
-tree_comes trace other = refl
+tree_comes trace other = grind arith
 
 -- a role that is like this one, relies on what is so, and has cleared nodes that are clean
 abbrev NextRoleHolds : StageRole → ℕ → ℕ → (ℕ → ℕ) → StageRole → Type 0
@@ -416,9 +416,7 @@ module _ (c : Config) (lim : IsWithin c) (w : World) (good : IsGood c w) (t : �
     held_here = up_write_adds u (λ a. holdings_of (actions_after a (w.views t).actions) ≡ held_of (w.views t)) refl refl u.step found_here
 
     fits_here : FitsHere (ThawStep.Reopens u) → ViewFits c t view_here
-    fits_here f =
-        subst (λ h. Fits c t h view_here.phase) (sym (holdings_of_after next_here.1 (w.views t).actions))
-        (thaw_goes c t (held_of (w.views t)) x (ThawStep.Reopens u) found_here hook f)
+    fits_here f = grind (arith, common_steps)
 
     reopens_law : (e : IsHere (ThawStep.Reopens u)) (kind : StageEvent) → IsStageEvent c w good t lt words_here view_here kind →
         stage_action_of kind (stages_in w) ≡ next_here.1 → WriterLaw c w t words_here view_here next_here.1

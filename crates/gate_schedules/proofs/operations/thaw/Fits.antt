@@ -16,12 +16,7 @@ pub finds_cases : (x : Thaw) (held : Holders) (P : ThawStep → Type 0) →
     (held_by held x.holder ≡ false → P (ThawStep.Releases (Err GateError.Invalid))) →
     (held_by held x.holder ≡ true → is_unheld (with_holder x.holder false held) ≡ true → P ThawStep.LoadsSuperblock) →
     (held_by held x.holder ≡ true → is_unheld (with_holder x.holder false held) ≡ false → P (ThawStep.Leaves held)) → P (thaw_finds x held)
-finds_cases x held P refused alone shared =
-    both (held_by held x.holder)
-    (λ b. P (if b then (if is_unheld (with_holder x.holder false held) then ThawStep.LoadsSuperblock else ThawStep.Leaves held)
-    else ThawStep.Releases (Err GateError.Invalid)))
-    (λ own. both (is_unheld (with_holder x.holder false held)) (λ b. P (if b then ThawStep.LoadsSuperblock else ThawStep.Leaves held)) (alone own) (shared own))
-    refused
+finds_cases x held P refused alone shared = grind arith
 
 -- the word of each event of a thaw is there
 pub thaw_there : (c : Config) (x : Thaw) (s : ThawStep) (hook : HookAnswer) → ThawFits x.holder s → IsWord (extents_of c) (thaw_next x s hook).0

@@ -1,4 +1,5 @@
 -- A thaw waits only where another task has `umount`, and is refused only for its cause.
+use Rattle.std.proofs.Common.{arith}
 use Rattle.std.{proofs.{Common.{◌≡◌, ℕ, ◌<◌, ap, inl, inr, refl}, lemmas.Bool.Decides.eqb_tells}, specs.Prelude.{Some, Ok, Err, List}}
 use Rattle.access_model.specs.{Replies.map_next, declared.errors.GateError.GateError}
 use Rattle.cpu_words.specs.Hooks.{HookAnswer}
@@ -13,13 +14,11 @@ module _ (c : Config) (w : World) (earlier : List World) (t : ℕ) where
   -- an up-write of a thaw goes on after an event of its transition, or the next level is reopened
   exit_waits : (phase : Phase) (x : Thaw) (level : ℕ) (u : UpWrite) (n : TransitionNext) →
       HasReason c w earlier t phase (map_next Phase.Thaws (after_opening x level (exit_made u n)))
-  exit_waits phase x level u (TransitionNext.More transition) = tt
-  exit_waits phase x level u other = tt
+  exit_waits phase x level u other = grind arith
 
   reopening_waits : (phase : Phase) (x : Thaw) (u : UpWrite) (s : UpWriteStep) (found : ℕ) →
       HasReason c w earlier t phase (map_next Phase.Thaws (after_opening x u.level (up_write_after u s found).0))
-  reopening_waits phase x u UpWriteStep.ClearsBlock found = tt
-  reopening_waits phase x u (UpWriteStep.Exits transition) found = exit_waits phase x u.level u (transition_after on_exit transition found)
+  reopening_waits phase x u a3 found = grind arith
 
   module _ (good : IsGood c w) (lt : t < c.tasks) (x : Thaw) where
     pub thaw_waits : (hook : HookAnswer) (s : ThawStep) → (w.views t).phase ≡ Some (Phase.Thaws (at_thaw x s)) →

@@ -87,8 +87,7 @@ WantAt c m p wait trace phase added =
     (step : WantStep) × (phase ≡ want m p wait step) × WantSays c m p wait [] [] step trace added
 
 within_six : (step : WantStep) (n : ℕ) → n ≤ 0 + events_before step → n ≤ 6
-within_six WantStep.CountsUp n h = omega (arith, h)
-within_six step n h = omega (arith, h)
+within_six step n h = grind arith
 
 want_short : (c : Config) (m p : ℕ) (wait : Bool) (trace : List Traced) → (wait ≡ false → length trace ≤ 6) →
     IsShort (most_events c (Op.Want m p wait)) trace

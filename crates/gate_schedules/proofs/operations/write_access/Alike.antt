@@ -10,14 +10,12 @@ use Rattle.std.specs.Prelude.{Ok, Some}
 use Rattle.composite_ops.specs.{write_access.Phases.{then_gives_back, then_wants}, declared.write_access.phases.WritePhase.WritePhase}
 
 pub alike_plain : (x : WritePhase) → SameRoles (Some (Phase.Writes x)) (Some (inner_phase x))
-alike_plain (WritePhase.Takes m r) = refl
-alike_plain other = refl
+alike_plain other = grind arith
 
 -- what comes after an event at level 1 is alike to what comes in its own operation: the want that follows has no role yet
 pub alike_takes : (m p : ℕ) (n : Next DownRead) →
     SameRoles (phase_after (map_next Phase.DownReads n)) (phase_after (map_next Phase.Writes (then_wants m p n)))
-alike_takes m p (Next.Done (Ok reply)) = λ k. record no_roles { mount = λ y. role_none y m k }
-alike_takes m p other = refl
+alike_takes m p other = grind arith
 
 -- and so is what comes after an event at the mount: an end of level 1 has no role
 pub alike_wants : (m p : ℕ) (n : Next Want) →

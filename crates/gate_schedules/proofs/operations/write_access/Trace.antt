@@ -72,8 +72,7 @@ module _ (c : Config) (m p t : ℕ) (value : ℕ) (hook : HookAnswer) (earlier :
   -- giving the level back leaves the cause of the refusal
   cause_stays : (n q : ℕ) (refusal : GateError) → IsHonest c (Op.WantWrite m p) refusal earlier →
       IsHonest c (Op.WantWrite m p) refusal (with_hook (event_at (Phase.Writes (WritePhase.GivesBack n q refusal)) value hook) hook ∷ earlier)
-  cause_stays n q GateError.ReadOnly h = h
-  cause_stays n q refusal h = h
+  cause_stays n q refusal h = grind arith
 
   write_event : (x : WritePhase) → WordIsValid (write_next x).0 value → WriteSays c m p t x earlier added → TraceAfterStep x
   write_event (WritePhase.Takes n r) may h =

@@ -21,8 +21,7 @@ pub record IsPlain (p : Option Phase) : Type 0 where
 
 -- a call that is no snapshot is one
 plain_call : (x : TreePhase) → is_snapshot x ≡ false → IsPlain (Some (Phase.Trees x))
-plain_call (TreePhase.Snapshot x) other = absurd (true≢false other)
-plain_call x other = record { aside = refl; owns_none = refl }
+plain_call x other = grind arith
 
 -- nor does anything come after it that is one
 abbrev IsOther : Next TreePhase → Type 0
@@ -43,8 +42,7 @@ role_comes : (n : Next TreePhase) (noted : ℕ → ℕ) (trace : List Traced) �
 role_comes n noted trace other = grind arith
 
 notes_nothing : (x : TreePhase) (values noted : ℕ → ℕ) (found : ℕ) → is_snapshot x ≡ false → Notes x values noted found
-notes_nothing (TreePhase.Snapshot x) values noted found other = absurd (true≢false other)
-notes_nothing x values noted found other = tt
+notes_nothing x values noted found other = grind arith
 
 -- a write of a word of the tree leaves `umount`
 pub umount_same : (w : Words) (word : WordName) (n : ℕ) → is_node_word word ≡ true → (put w word n).umount ≡ w.umount
@@ -67,10 +65,7 @@ module _ (c : Config) (w : World) (good : IsGood c w) (t : ℕ) (lt : t < c.task
     (e : (w.views t).phase ≡ Some phase) (at : IsAtTree w phase hook) (word : is_node_word (next_of phase hook).0 ≡ true)
     (was : IsPlain (Some phase)) (now : IsPlain (phase_after (after_of phase (found_at w.words phase hook) hook).0)) where
   plain_work : IsOwnersWork w phase hook
-  plain_work = record {
-    changes = λ h. absurd (true≢false (sym h ∙ not_owned (next_of phase hook).0 word));
-    comes_to_own = λ h. absurd (omega (arith, h, now.owns_none));
-  }
+  plain_work  = grind arith
 
   pub plain_parts : Holds c (after_step w t phase hook) Fitting → Holds c (after_step w t phase hook) Tree →
       Holds c (after_step w t phase hook) Files → (part : Part) → Holds c (after_step w t phase hook) part

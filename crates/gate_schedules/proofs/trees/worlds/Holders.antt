@@ -38,55 +38,36 @@ up_to_stand : (i level : ℕ) (r : LevelRole) → i ≤ level → r ≡ Passed �
 up_to_stand i level r le is = grind arith
 
 place_passed : (stage : ℕ) (place : Place) (owner : Bool) → stage ≤ suc (passed_by (Freezing stage place owner))
-place_passed stage Before owner = omega arith
-place_passed stage other owner = omega arith
+place_passed stage other owner = grind arith
 
 -- a level that is being closed isn't passed
 closing_passed : (i level : ℕ) (s : DownWriteStep) (owner : Bool) → 1 ≤ i → i ≤ passed_by (Freezing level (place_of s) owner) → i < level
-closing_passed i level (DownWriteStep.Sums sum) owner low le = omega (arith, low, le)
-closing_passed i level s owner low le = omega (arith, low, le)
+closing_passed i level s owner low le = grind arith
 
 -- one that is being opened is passed until its store
 reopening_passed : (i level : ℕ) (s : UpWriteStep) → 1 ≤ i → i ≤ passed_by (reopening_role level s) →
     count_beside (i == level) (nat_lt i level) (up_count_role s) ≡ Passed
-reopening_passed i level UpWriteStep.ClearsBlock low le = up_to_stand i level Passed le refl
-reopening_passed i level (UpWriteStep.Exits transition) low le = below_stand i level (up_count_role (UpWriteStep.Exits transition)) (omega (arith, low, le))
+reopening_passed i level a2 low le = grind arith
 
 -- a level that a freeze has passed, it has passed at the level's counts
 freeze_passed : (nodes i : ℕ) (s : FreezeStep) → 1 ≤ i → i ≤ passed_by (freeze_stage_role nodes s) →
     position_count i (freeze_position s) ≡ Passed
-freeze_passed nodes i (FreezeStep.Closes d) low le =
-    below_stand i d.level (down_count_role d.step) (closing_passed i d.level d.step (nat_lt 1 d.level) low le)
-freeze_passed nodes i FreezeStep.LocksAgain low le = up_to_stand i 1 Passed le refl
-freeze_passed nodes i FreezeStep.SetsPageFault low le = up_to_stand i 1 Passed le refl
-freeze_passed nodes i (FreezeStep.Cleans marks) low le = up_to_stand i 2 Passed le refl
-freeze_passed nodes i FreezeStep.SetsFs low le = up_to_stand i 2 Passed le refl
-freeze_passed nodes i FreezeStep.SetsComplete low le = up_to_stand i 3 Passed le refl
-freeze_passed nodes i (FreezeStep.Reopens u code) low le = reopening_passed i u.level u.step low le
-freeze_passed nodes i s low le = absurd (omega (arith, low, le))
+freeze_passed nodes i s low le = grind arith
 
 thaw_passed : (i : ℕ) (s : ThawStep) → 1 ≤ i → i ≤ passed_by (thaw_stage_role s) → position_count i (thaw_position s) ≡ Passed
-thaw_passed i (ThawStep.Reopens u) low le = reopening_passed i u.level u.step low le
-thaw_passed i s low le = absurd (omega (arith, low, le))
+thaw_passed i s low le = grind arith
 
 remount_passed : (nodes : ℕ) (s : RemountStep) → passed_by (remount_stage_role nodes s) ≡ 0
-remount_passed nodes (RemountStep.ClearsHold held) = refl
-remount_passed nodes s = refl
+remount_passed nodes s = grind arith
 
 snapshot_passed : (s : SnapshotStep) → passed_by (snapshot_stage_role s) ≡ 0
-snapshot_passed SnapshotStep.Locks = refl
-snapshot_passed s = refl
+snapshot_passed s = grind arith
 
 tree_passed : (x : TreePhase) → passed_by (tree_stage_role x) ≡ 0
-tree_passed (TreePhase.Snapshot x) = snapshot_passed x.step
-tree_passed x = refl
+tree_passed x = grind arith
 
 pub passed_there : (i : ℕ) → 1 ≤ i → (p : Option Phase) → i ≤ passed_by (stage_role_of p) → level_role_of i p ≡ Passed
-passed_there i low (Some (Phase.Remounts x)) le = absurd (omega (arith, low, le, remount_passed x.nodes x.step))
-passed_there i low (Some (Phase.Freezes x)) le = freeze_passed x.nodes i x.step low le
-passed_there i low (Some (Phase.Thaws x)) le = thaw_passed i x.step low le
-passed_there i low (Some (Phase.Trees x)) le = absurd (omega (arith, low, le, tree_passed x))
-passed_there i low p le = absurd (omega (arith, low, le))
+passed_there i low p le = grind arith
 
 -- What nobody has shut: the superblock is writable and no remount has set `remount`, the stage is below 3, and no task has passed this
 -- level.

@@ -24,11 +24,7 @@ use Rattle.std.specs.Prelude.{List, None, Option, Some, if◌then◌else◌, nat
 use Rattle.gate_schedules.specs.trees.{Events.{HasLeave, MayClean}, Steps.{MayMark, TreeAllowsStep}}
 
 pub open_unsealed : (sb stage : ℕ) → sb ≡ 0 → stage < 3 → sealed_by sb stage ≡ 0
-open_unsealed sb stage writable low =
-    elim (cases_Bool (nat_le 3 stage)) [
-      | inl h ↦ absurd (omega (arith, low, leb-true 3 stage h))
-      | inr h ↦ rw (writable, h) refl
-    ]
+open_unsealed sb stage writable low = grind arith
 
 tree_bares : (values : ℕ → ℕ) (x : TreePhase) → is_bare (phase_role values x) ≡ 0
 tree_bares values x = grind arith
@@ -150,19 +146,16 @@ module _ (c : Config) (w : World) (good : IsGood c w) where
         (both.0, mount_there c.mounts (held_at (w.views t)) both.1)
 
     create_leave : (x : Create) (s : CreateStep) (found : ℕ) → IsWriter (model_limits c) (shown c w) t → LeaveFor (create_after x s found).1
-    create_leave x (CreateStep.TakesNode n) found leave = leave_if (found == 0) _ leave
-    create_leave x other found leave = tt
+    create_leave x other found leave = grind arith
 
     remove_leave : (x : Remove) (s : RemoveStep) (found : ℕ) → IsWriter (model_limits c) (shown c w) t → LeaveFor (remove_after x s found).1
     remove_leave x s found leave = grind arith
 
     grow_leave : (x : Grow) (s : GrowStep) (found : ℕ) → IsWriter (model_limits c) (shown c w) t → LeaveFor (grow_after x s found).1
-    grow_leave x (GrowStep.GrowsFile file) found leave = leave_if (found == word_of file) _ leave
-    grow_leave x other found leave = tt
+    grow_leave x other found leave = grind arith
 
     move_leave : (x : MoveTo) (s : MoveStep) (found : ℕ) → IsWriter (model_limits c) (shown c w) t → LeaveFor (move_after x s found).1
-    move_leave x (MoveStep.MovesFile file) found leave = leave_if (found == word_of file) _ leave
-    move_leave x other found leave = tt
+    move_leave x other found leave = grind arith
 
     -- a page fault has leave inside level 2, with an access at some mount; a write-back inside level 3
     mark_leave_now : (dirty : Bool) (file : ℕ) → may_mark dirty c (held_of (w.views t)) ≡ true →
@@ -178,12 +171,10 @@ module _ (c : Config) (w : World) (good : IsGood c w) where
     mark_leave x (MarkStep.MarksFile file) found may = leave_if (found == word_of file) _ (mark_leave_now x.dirty x.file may)
 
     open_leave : (x : OpenFile) (s : OpenStep) (found : ℕ) → has_open (w.views t) x.file ≡ false → LeaveFor (open_after x s found).1
-    open_leave x OpenStep.LoadsFile found own = tt
-    open_leave x (OpenStep.OpensFile file) found own = leave_if (found == word_of file) _ own
+    open_leave x a1 found own = grind arith
 
     snapshot_leave : (x : Snapshot) (s : SnapshotStep) (found : ℕ) → LeaveFor (snapshot_after x s found).1
-    snapshot_leave x SnapshotStep.Locks found = tt
-    snapshot_leave x other found = tt
+    snapshot_leave x other found = grind arith
 
     -- each call has leave for the action of its next event
     pub call_leave : (x : TreePhase) (found : ℕ) (hook : HookAnswer) → TreeAccess c (held_of (w.views t)) x →

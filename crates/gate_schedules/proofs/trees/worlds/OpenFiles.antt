@@ -15,15 +15,7 @@ use Rattle.gate_world.specs.{Fits.{HasFile, file_of}, Holdings.{Holdings, held_a
 -- an action's effect on the tree asks only how many tasks have its own node open
 pub same_counts : (c : Bounds) (f g : ℕ → ℕ) (tree : ℕ → Option NodeInfo) (action : Action) → TreeAllows c tree action →
     ((n : ℕ) → n < c.nodes → f n ≡ g n) → tree_after action f tree ≡ tree_after action g tree
-same_counts c f g tree (Action.Create n d kind) allows same = refl
-same_counts c f g tree (Action.Remove n) allows same = ap (λ k. update tree n (after_remove k (tree n))) (same n allows.0)
-same_counts c f g tree (Action.Grow n b) allows same = refl
-same_counts c f g tree (Action.MoveTo n d) allows same = refl
-same_counts c f g tree (Action.Dirty n) allows same = refl
-same_counts c f g tree (Action.Clean n) allows same = refl
-same_counts c f g tree (Action.Open n) allows same = refl
-same_counts c f g tree (Action.Close n) allows same = ap (λ k. update tree n (after_close k (tree n))) (same n allows)
-same_counts c f g tree _ allows same = absurd allows
+same_counts c f g tree a4 allows same = grind arith
 
 -- how many tasks have a file open, where one task has it open or not
 module _ (opens : ℕ → ℕ → Bool) (t : ℕ) (lt : t < most_tasks) where
@@ -121,26 +113,14 @@ no_file to none files n = grind arith
 look_file : (x again : OpenFile) (to : NodeWord → OpenFile) (files : ℕ → Bool) (r : Option (Result NodeWord GateError)) →
     again.file ≡ x.file → ((node : NodeWord) → (to node).file ≡ x.file) → files x.file ≡ false →
     HasFile files (file_of (phase_after (map_next Phase.Trees (map_next TreePhase.OpenFile (after_look again to r)))))
-look_file x again to files None same on own = ap files same ∙ own
-look_file x again to files (Some (Ok node)) same on own = ap files (on node) ∙ own
-look_file x again to files (Some (Err refusal)) same on own = tt
+look_file x again to files a4 same on own = grind arith
 
 open_file : (held : Holdings) (x : OpenFile) (s : OpenStep) (found : ℕ) → held.files x.file ≡ false →
     HasFile (held_after (open_after x s found).1 held).files
     (file_of (phase_after (map_next Phase.Trees (map_next TreePhase.OpenFile (open_after x s found).0))))
-open_file held x OpenStep.LoadsFile found own =
-    look_file x (at_open x OpenStep.LoadsFile) (λ file. at_open x (opens_from file (nat_lt file.opens 64))) held.files (file_in found) refl
-    (λ node. refl) own
-open_file held x (OpenStep.OpensFile file) found own = elim (eqb_tells found (word_of file)) [ inl h ↦ rw h.0 tt | inr h ↦ rw h.0 tt ]
+open_file held x a2 found own = grind arith
 
 -- so after an event of a call its task has open, or not, what the phase relies on
 pub file_then : (held : Holdings) (x : TreePhase) (found : ℕ) (hook : HookAnswer) → HasFile held.files (file_of (Some (Phase.Trees x))) →
     HasFile (held_after (after x found hook).1 held).files (file_of (phase_after (map_next Phase.Trees (after x found hook).0)))
-file_then held (TreePhase.Create x) found hook own = no_file TreePhase.Create (λ y. refl) _ (create_after x x.step found).0
-file_then held (TreePhase.Remove x) found hook own = no_file TreePhase.Remove (λ y. refl) _ (remove_after x x.step found).0
-file_then held (TreePhase.Grow x) found hook own = no_file TreePhase.Grow (λ y. refl) _ (grow_after x x.step found).0
-file_then held (TreePhase.MoveTo x) found hook own = no_file TreePhase.MoveTo (λ y. refl) _ (move_after x x.step found).0
-file_then held (TreePhase.Mark x) found hook own = no_file TreePhase.Mark (λ y. refl) _ (mark_after x x.step found).0
-file_then held (TreePhase.OpenFile x) found hook own = open_file held x x.step found own
-file_then held (TreePhase.Snapshot x) found hook own = no_file TreePhase.Snapshot (λ y. refl) _ (snapshot_after x x.step found).0
-file_then held (TreePhase.ClearMarks x) found hook own = no_file TreePhase.ClearMarks (λ y. refl) _ (clear_after x found).0
+file_then held a1 found hook own = grind arith

@@ -69,8 +69,7 @@ snapshot_touch : (x : Snapshot) (s : SnapshotStep) → IsCallTouch (snapshot_nex
 snapshot_touch x s = grind arith
 
 pub call_touch : (x : TreePhase) (hook : HookAnswer) → IsCallTouch (next x hook)
-call_touch (TreePhase.Snapshot x) hook = snapshot_touch x x.step
-call_touch x hook = inr (node_call (next x hook).0 (node_word x hook refl))
+call_touch x hook = grind arith
 
 -- the words that no call at the tree writes
 abbrev pub beside_calls : Words → Words
@@ -86,11 +85,7 @@ write_beside w word n h = grind arith
 
 -- so they are after each event that loads a word, or writes such a one
 pub touch_beside : (w : Words) (x : WordName × Touch) → IsCallTouch x → IsBesideTree w (put w x.0 (left x.1 (read w x.0)))
-touch_beside w x touches =
-    elim touches [
-      | inl h ↦ ap beside_calls (load_left w x.0 x.1 h)
-      | inr h ↦ write_beside w x.0 (left x.1 (read w x.0)) h
-    ]
+touch_beside w x touches = grind arith
 
 pub sealed_beside : (old new : Words) → IsBesideTree old new → is_sealed new ≡ is_sealed old
 sealed_beside old new same = λ j. is_sealed (same j)
@@ -100,31 +95,25 @@ bare_beside old new same = λ j. is_bare_at (same j)
 
 -- a write of such a word counts at no mount and at no level
 added_call : (word : WordName) (touch : Touch) (added : ℕ → ℕ → ℕ) → is_call_word word ≡ true → added_after word touch added ≡ added
-added_call (WordName.MountCount m p) touch added h = absurd (true≢false (sym h))
-added_call word touch added h = refl
+added_call word touch added h = grind arith
 
 taken_call : (word : WordName) (touch : Touch) (taken : ℕ → ℕ → ℕ) → is_call_word word ≡ true → taken_after word touch taken ≡ taken
-taken_call (WordName.MountCount m p) touch taken h = absurd (true≢false (sym h))
-taken_call word touch taken h = refl
+taken_call word touch taken h = grind arith
 
 level_added_call : (word : WordName) (touch : Touch) (added : ℕ → ℕ → ℕ) → is_call_word word ≡ true →
     level_added_after word touch added ≡ added
-level_added_call (WordName.LevelCount i p) touch added h = absurd (true≢false (sym h))
-level_added_call word touch added h = refl
+level_added_call word touch added h = grind arith
 
 level_taken_call : (word : WordName) (touch : Touch) (taken : ℕ → ℕ → ℕ) → is_call_word word ≡ true →
     level_taken_after word touch taken ≡ taken
-level_taken_call (WordName.LevelCount i p) touch taken h = absurd (true≢false (sym h))
-level_taken_call word touch taken h = refl
+level_taken_call word touch taken h = grind arith
 
 -- nor does a load
 added_loaded : (word : WordName) (touch : Touch) (added : ℕ → ℕ → ℕ) → is_load touch ≡ true → added_after word touch added ≡ added
-added_loaded word Touch.Load added h = added_load word added
-added_loaded word touch added h = absurd (true≢false (sym h))
+added_loaded word touch added h = grind arith
 
 taken_loaded : (word : WordName) (touch : Touch) (taken : ℕ → ℕ → ℕ) → is_load touch ≡ true → taken_after word touch taken ≡ taken
-taken_loaded word Touch.Load taken h = taken_load word taken
-taken_loaded word touch taken h = absurd (true≢false (sym h))
+taken_loaded word touch taken h = grind arith
 
 -- so no event of a call counts anywhere
 pub record CountsNowhere (x : WordName × Touch) : Type 0 where
@@ -134,20 +123,7 @@ pub record CountsNowhere (x : WordName × Touch) : Type 0 where
   pub level_taken : (a : ℕ → ℕ → ℕ) → level_taken_after x.0 x.1 a ≡ a
 
 pub counts_nowhere : (x : WordName × Touch) → IsCallTouch x → CountsNowhere x
-counts_nowhere x touches = elim touches [
-  | inl h ↦ record {
-    added = λ a. added_loaded x.0 x.1 a h;
-    taken = λ a. taken_loaded x.0 x.1 a h;
-    level_added = λ a. level_added_load x.0 x.1 a h;
-    level_taken = λ a. level_taken_load x.0 x.1 a h;
-  }
-  | inr h ↦ record {
-    added = λ a. added_call x.0 x.1 a h;
-    taken = λ a. taken_call x.0 x.1 a h;
-    level_added = λ a. level_added_call x.0 x.1 a h;
-    level_taken = λ a. level_taken_call x.0 x.1 a h;
-  }
-]
+counts_nowhere x touches = grind arith
 
 -- an action, if there is one, leaves its task's accesses at mounts and levels
 pub record LeavesAccesses (action : Option Action) : Type 0 where

@@ -8,8 +8,7 @@ use Rattle.gate_world.specs.Roles.{close_tree_role, remount_tree_role, freeze_tr
 
 -- of a close, but that it frees its node
 pub close_apart : (x : ClosePhase) → (cleared (close_tree_role x) ≡ 0) × (is_bare (close_tree_role x) ≡ 0) × (words_read (close_tree_role x) ≡ 0)
-close_apart (ClosePhase.LoadsFile x) = (refl, refl, refl)
-close_apart other = (refl, refl, refl)
+close_apart other = grind arith
 
 -- of a freeze, but that it clears marks
 pub freeze_apart : (nodes : ℕ) (s : FreezeStep) →
@@ -19,5 +18,4 @@ freeze_apart nodes s = grind arith
 -- and of a remount, but that it does that, and relies on that no file is removed
 pub remount_apart : (nodes : ℕ) (s : RemountStep) →
     (words_read (remount_tree_role nodes s) ≡ 0) × ((n : ℕ) → frees n (remount_tree_role nodes s) ≡ 0)
-remount_apart nodes (RemountStep.SetsRemount held) = (refl, λ n. refl)
-remount_apart nodes s = (refl, λ n. refl)
+remount_apart nodes s = grind arith

@@ -95,12 +95,10 @@ module _ (c : Config) (w : World) (good : IsGood c w) where
   closing_clean (suc (suc level)) s owner = none_clean
 
   reopening_clean : (level : ℕ) (s : UpWriteStep) → CleanBelow (clean_by (reopening_role level s)) (marks_of w.words)
-  reopening_clean level UpWriteStep.ClearsBlock = none_clean
-  reopening_clean level (UpWriteStep.Exits transition) = none_clean
+  reopening_clean level a1 = grind arith
 
   snapshot_clean : (s : SnapshotStep) → CleanBelow (clean_by (snapshot_stage_role s)) (marks_of w.words)
-  snapshot_clean SnapshotStep.Locks = none_clean
-  snapshot_clean s = none_clean
+  snapshot_clean s = grind arith
 
   -- those that a remount has cleared
   remount_clean : (nodes : ℕ) (s : RemountStep) (t : ℕ) → t < c.tasks → nodes ≡ c.nodes → RemountFits c s →
@@ -123,12 +121,10 @@ module _ (c : Config) (w : World) (good : IsGood c w) where
   freeze_clean nodes holder s t lt same fits is = none_clean
 
   thaw_clean : (s : ThawStep) → CleanBelow (clean_by (thaw_stage_role s)) (marks_of w.words)
-  thaw_clean (ThawStep.Reopens u) = reopening_clean u.level u.step
-  thaw_clean s = none_clean
+  thaw_clean s = grind arith
 
   tree_clean : (x : TreePhase) → CleanBelow (clean_by (tree_stage_role x)) (marks_of w.words)
-  tree_clean (TreePhase.Snapshot x) = snapshot_clean x.step
-  tree_clean x = none_clean
+  tree_clean x = grind arith
 
   -- those that what a task is at has cleared
   phase_clean : (t : ℕ) → t < c.tasks → (p : Option Phase) → (w.views t).phase ≡ p →
