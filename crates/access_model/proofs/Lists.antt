@@ -2,35 +2,33 @@
 use Rattle.std.proofs.Common.{arith}
 use Rattle.std.proofs.{Common.{◌≡◌, ℕ, refl, sym, ap, ◌∙◌, subst, inl, inr}, lemmas.Bool.Decides.{eqb_tells}}
 use Rattle.std.specs.Prelude.{cond, List, [], ◌∷◌}
-use Rattle.finite_sums.proofs.Totals.{update_at, update_off}
 use Rattle.access_model.specs.declared.actions.Action.{Action}
-use Rattle.access_model.specs.declared.actions.Action.TheVariants.{Grant, Return, MountRo, MountRw, SbRo, SbRw, Stage, Hold, Leave, Pass, Reopen, Create, Remove, Grow, MoveTo, Dirty, Clean, Open, Close}
 use Rattle.access_model.specs.{States.{State}, Actions.{after_action, mounts_after, levels_after, opens_after}}
 use Rattle.access_model.specs.{Histories.{Done, end_of, own_part, mounts_of, levels_of, opens_of}, Laws.{FollowsOwnList}}
 
 -- an action leaves its own task's accesses as `mounts_after` says
 mounts_own : (s : State) (t : ℕ) (a : Action) → (after_action s t a).mounts t ≡ mounts_after a (s.mounts t)
-mounts_own s t a2 = grind arith
+mounts_own s t a = grind arith
 
 -- an action leaves its own task's levels as `levels_after` says
 levels_own : (s : State) (t : ℕ) (a : Action) → (after_action s t a).levels t ≡ levels_after a (s.levels t)
-levels_own s t a2 = grind arith
+levels_own s t a = grind arith
 
 -- an action leaves the accesses of every other task
 mounts_others : (s : State) (t x : ℕ) (a : Action) → (x ≡ t → ⊥) → (after_action s t a).mounts x ≡ s.mounts x
-mounts_others s t x a3 ne = grind arith
+mounts_others s t x a ne = grind arith
 
 -- an action leaves the levels of every other task
 levels_others : (s : State) (t x : ℕ) (a : Action) → (x ≡ t → ⊥) → (after_action s t a).levels x ≡ s.levels x
-levels_others s t x a3 ne = grind arith
+levels_others s t x a ne = grind arith
 
 -- an action leaves its own task's open files as `opens_after` says
 opens_own : (s : State) (t : ℕ) (a : Action) → (after_action s t a).opens t ≡ opens_after a (s.opens t)
-opens_own s t a2 = grind arith
+opens_own s t a = grind arith
 
 -- an action leaves the open files of every other task
 opens_others : (s : State) (t x : ℕ) (a : Action) → (x ≡ t → ⊥) → (after_action s t a).opens x ≡ s.opens x
-opens_others s t x a3 ne = grind arith
+opens_others s t x a ne = grind arith
 
 -- a task's accesses after a history are what its own part leaves
 mounts_follow : (h : List Done) (t : ℕ) → (end_of h).mounts t ≡ mounts_of (own_part t h)

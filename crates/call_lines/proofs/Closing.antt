@@ -1,6 +1,6 @@
 -- What comes after each event of the closing of a level.
 use Rattle.std.proofs.Common.{◌≡◌, ℕ, ◌-◌, ◌<◌, Bool, true, false, refl, sym, ap, ◌∙◌, arith}
-use Rattle.std.specs.Prelude.{Some, None, Ok, Err, ◌==◌, if◌then◌else◌}
+use Rattle.std.specs.Prelude.{Some, None, Ok, ◌==◌, if◌then◌else◌}
 use Rattle.access_model.specs.declared.{actions.Action.TheVariants.{Clean}, replies.Next.{Next, TheVariants.{Go, Wait, Done}}}
 use Rattle.access_model.specs.declared.replies.Reply.{TheVariants.{Unit as UnitReply}}
 use Rattle.cpu_words.specs.{Hooks.{HookAnswer}, Sums.{sum_taking}, declared.sums.{Sum.{Sum}}}
@@ -82,11 +82,11 @@ module _ (x : Freeze) where
   cleans_leave held marks found = cleans_case held marks.node (dirty_in found == 1)
 
   pub syncs_leave : (held : Accesses) (found : ℕ) (hook : HookAnswer) → held ≡ accesses_after held (after_of (standing x SetsFs) found hook).1
-  syncs_leave held found a2 = grind arith
+  syncs_leave held found hook = grind arith
 
   pub completes_leave : (held : Accesses) (found : ℕ) (hook : HookAnswer) →
       held ≡ accesses_after held (after_of (standing x SetsComplete) found hook).1
-  completes_leave held found a2 = grind arith
+  completes_leave held found hook = grind arith
 
 module _ (x : Freeze) (level : ℕ) where
   -- whether nobody was counted

@@ -1,18 +1,18 @@
 -- What comes after each event of the reopening of the levels.
 use Rattle.std.proofs.Common.{arith}
-use Rattle.std.proofs.Common.{◌≡◌, ℕ, Bool, true, false, refl, sym, ap, ◌∙◌, subst}
-use Rattle.std.specs.Prelude.{Some, Ok, Err, ◌==◌, if◌then◌else◌}
+use Rattle.std.proofs.Common.{◌≡◌, ℕ, Bool, true, false, refl, sym, ap, ◌∙◌}
+use Rattle.std.specs.Prelude.{Some, Ok, ◌==◌}
 use Rattle.access_model.specs.{Holders.{held_by, with_holder, is_unheld}, declared.actions.Holders.{Holders}}
 use Rattle.access_model.specs.declared.replies.Next.TheVariants.{Go}
 use Rattle.cpu_words.specs.Hooks.{HookAnswer}
-use Rattle.freeze_levels.specs.{Holders.{holders_in}, Thaws.{after_opening, thaw_finds}, declared.thaws.{Thaw.{Thaw}, ThawStep.{ThawStep}}}
+use Rattle.freeze_levels.specs.{Holders.{holders_in}, Thaws.{thaw_finds}, declared.thaws.{Thaw.{Thaw}, ThawStep.{ThawStep}}}
 use Rattle.freeze_levels.specs.declared.thaws.ThawStep.TheVariants.{LeavesLast, LoadsHolders, LoadsStage, LoadsSuperblock, Locks}
 use Rattle.gate_world.specs.{Accesses.{accesses_after}, Work.{after_of}, declared.accesses.Accesses.{Accesses}}
 use Rattle.gate_world.specs.declared.work.Phase.TheVariants.{Thaws}
-use Rattle.percpu_rwsem.specs.{SyncWords.{on_exit, pack, unpack}, Writers.{exit_made}, declared.sync_word.SyncWord.{SyncWord}}
-use Rattle.percpu_rwsem.specs.declared.transitions.{Transition.TheVariants.{Loads, Exchanges}, TransitionNext.TheVariants.{More, Made}}
+use Rattle.percpu_rwsem.specs.{SyncWords.{on_exit, pack, unpack}, declared.sync_word.SyncWord.{SyncWord}}
+use Rattle.percpu_rwsem.specs.declared.transitions.{Transition.TheVariants.{Loads, Exchanges}}
 use Rattle.percpu_rwsem.specs.declared.writers.UpWriteStep.TheVariants.{Exits}
-use Rattle.call_lines.specs.Reopenings.{opening_at, of_thaw, reopened, thaw_at}
+use Rattle.call_lines.specs.Reopenings.{opening_at, reopened, thaw_at}
 use Rattle.call_lines.proofs.Closing.{same_number}
 
 module _ (x : Thaw) where
@@ -41,7 +41,7 @@ module _ (x : Thaw) where
 
   -- the store that `unfreeze_fs` decides leaves the accesses
   pub leaves_last : (held : Accesses) (found : ℕ) (hook : HookAnswer) → held ≡ accesses_after held (after_of (thaw_at x LeavesLast) found hook).1
-  leaves_last held found a2 = grind arith
+  leaves_last held found hook = grind arith
 
 module _ (x : Thaw) (level : ℕ) where
   -- a thaw stands at a step
@@ -51,12 +51,6 @@ module _ (x : Thaw) (level : ℕ) where
   pub exits_on : (found : ℕ) (from to : SyncWord) → Some from ≡ unpack found → Some to ≡ on_exit from →
       (after_of (opening_at x level (Exits Loads)) found (Ok tt)).0 ≡ Go (opening_at x level (Exits (Exchanges from to)))
   exits_on found from to is made = rw (sym is, sym made) refl
-
-  -- the exchange
-  exits_case : (from to : SyncWord) (b : Bool) → of_thaw (after_opening x level
-      (exit_made record { level = level; step = Exits (Exchanges from to) } (if b then Made from.state else More Loads))) ≡ Go (reopened x level b)
-  exits_case from to true = refl
-  exits_case from to false = refl
 
   pub exits_last : (found expect : ℕ) (from to : SyncWord) → pack from ≡ expect →
       (after_of (opening_at x level (Exits (Exchanges from to))) found (Ok tt)).0 ≡ Go (reopened x level (found == expect))

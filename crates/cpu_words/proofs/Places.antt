@@ -1,17 +1,11 @@
 -- Each word has a place of its own, at whatever limits: a list that has every word has every word after a write of one.
 use Rattle.std.proofs.lemmas.Grind.{common_steps}
-use Rattle.std.proofs.Common.{◌≡◌, ℕ, zero, suc, subst, ◌<◌, List, length, refl, sym, ap, ◌∙◌, inl, inr, arith, get_or-set_same, get_or-set_other}
-use Rattle.std.proofs.{Math.ListN.{length-set}, lemmas.{List.{length-replicate}, Bool.Decides.{eqb_tells}}}
-use Rattle.std.specs.Prelude.{slice_index, slice_set, replicate}
+use Rattle.std.proofs.Common.{◌≡◌, ℕ, ◌<◌, List, length, sym, ap, ◌∙◌, inl, inr, arith, get_or-set_same, get_or-set_other}
+use Rattle.std.proofs.{lemmas.{Bool.Decides.{eqb_tells}}}
+use Rattle.std.specs.Prelude.{slice_set, replicate}
 use Rattle.cpu_words.specs.{declared.names.WordName.{WordName, TheVariants.{Node}}, Names.{Extents, IsWord, place, words_in_all}}
-use Rattle.cpu_words.specs.{Words.{Words, put, no_words, opening_words}, Lists.{AreFew, ListShows, AreOpening}}
-use Rattle.cpu_words.proofs.Writes.{read_put_same, read_put_other, read_no_words}
-
--- a list of zeros has 0 at each index, also past its end
-zeros_at : (size i : ℕ) → slice_index (replicate size 0) i ≡ 0
-zeros_at zero i = refl
-zeros_at (suc size) zero = refl
-zeros_at (suc size) (suc i) = zeros_at size i
+use Rattle.cpu_words.specs.{Words.{Words, put, opening_words}, Lists.{AreFew, ListShows, AreOpening}}
+use Rattle.cpu_words.proofs.Writes.{read_put_same, read_put_other}
 
 module _ (e : Extents) (few : AreFew e) where
   -- each word has a place among all

@@ -1,5 +1,5 @@
 -- A seat gives one of its numbers to a new seat, or takes back those of another.
-use Rattle.std.specs.Prelude.{Option, Some, None}
+use Rattle.std.specs.Prelude.{Option}
 use Rattle.gate_world.specs.{Moments.HasMoment, Owners.KnowsWords, Rules.{IsGood, Part, Owner, Fitting, AtMount, Holds, owns, Known, Stages, Holding, Tree}}
 use Rattle.gate_world.specs.{Rules.{Files, AtLevel, SyncAt, Sections}, Trees.tree_role_of, Worlds.World, declared.{config.Config.Config, views.View.View}}
 use Rattle.gate_world.specs.declared.{views.Traced.{Traced}, work.Phase.{Phase}, entries.Entry.{Entry}}
@@ -133,11 +133,11 @@ renewed_at w n = record { words = w.words; views = update w.views n (renewed (w.
 -- what an owner of `umount` knows, it knows still
 renewed_knows : (ws : Words) (p : Option Phase) (trace : List Traced) → (owns p ≡ 1 → KnowsWords ws trace) → owns p ≡ 1 →
     KnowsWords ws (trace_kept p trace)
-renewed_knows ws a1 trace knows o = grind arith
+renewed_knows ws p trace knows o = grind arith
 
 -- what the number is doing at the tree, it does still
 renewed_role : (p : Option Phase) (trace : List Traced) → tree_role_of (trace_kept p trace) p ≡ tree_role_of trace p
-renewed_role a0 trace = grind arith
+renewed_role p trace = grind arith
 
 -- each part of the rule holds of it: it reads the same of the view, but for the trace of a number that is idle
 renewed_part : (c : Config) (w : World) → IsGood c w → (n : ℕ) → n < c.tasks → (part : Part) → Holds c (renewed_at w n) part

@@ -1,6 +1,6 @@
 -- The schedule goes on from what each seat has seen.
 use Rattle.std.proofs.lemmas.Grind.{common_steps}
-use Rattle.std.proofs.Common.{◌≡◌, ℕ, zero, suc, ◌≤◌, List, [], ◌∷◌, ◌++◌, map, set, sym, refl, ap, ◌∙◌, subst, ⊎_elim, arith}
+use Rattle.std.proofs.Common.{◌≡◌, ℕ, zero, suc, ◌≤◌, List, [], ◌∷◌, ◌++◌, map, set, sym, refl, ◌∙◌, subst, ⊎_elim, arith}
 use Rattle.std.proofs.lemmas.List.{append_assoc, append-nil}
 use Rattle.std.specs.Prelude.{Option, Some, None}
 use mathlib.Core.Option.{some, some-injective, some-ne-none}
@@ -23,10 +23,10 @@ added_by t (Some op) hook = Begins t op ∷ (Steps t hook ∷ [])
 
 added_is : (t : ℕ) (begins : Option Op) (hook : HookAnswer) (past : List Entry) →
     then_steps t hook (then_begins t begins past) ≡ past ++ added_by t begins hook
-added_is t a1 hook past = grind (arith, common_steps)
+added_is t begins hook past = grind (arith, common_steps)
 
 none_added : (t n : ℕ) → (t ≡ n → ⊥) → (begins : Option Op) (hook : HookAnswer) → NoneOf n (added_by t begins hook)
-none_added t n ne a3 hook = grind arith
+none_added t n ne begins hook = grind arith
 
 -- what a seat has seen, it has seen still after an event of a number that it has not
 pub seen_on : (past more now : List Entry) → now ≡ past ++ more → (items : DealtNumbers) (seen : List (List Entry)) →

@@ -5,14 +5,14 @@ use Rattle.std.specs.Prelude.{is_some, Option, Some, None, slice_index}
 use Rattle.finite_sums.specs.Sums.{update}
 use Rattle.finite_sums.proofs.Totals.{update_at, update_off}
 use Rattle.atomic_table.specs.Table.{State, Me, keeps, Allows}
-use Rattle.access_model.specs.{Histories.{Done, end_of, IsLegal, IsMerge}, States.State as Shown, declared.{actions.Action.Action, replies.Next.Next}}
+use Rattle.access_model.specs.{Histories.{Done, end_of, IsLegal, IsMerge}, States.State as Shown, declared.{actions.Action.Action}}
 use Rattle.cpu_words.specs.{Hooks.HookAnswer, Names.{IsWord, place, words_in_all}, Touches.{left, found_by}, Words.{Words, read, put}}
-use Rattle.cpu_words.specs.declared.{events.Touch.{Touch, TheVariants.Load}, names.WordName.WordName}
+use Rattle.cpu_words.specs.declared.{events.Touch.{Touch}, names.WordName.WordName}
 use Rattle.gate_world.specs.{Beginnings.{first_phase, view_refusal}, Configs.{IsWithin, model_limits, extents_kept}, traces.TraceStates.ReadIsValid, Fits.Fits}
-use Rattle.gate_world.specs.{Moments.AllHaveMoments, Rules.{IsGood, Moves, StepKeeps, Fitting}, Shown.shown, traces.Snapshots.{completes, last_snapshot}}
-use Rattle.gate_world.specs.{Views.{begun_view, view_with, view_after_with_others, held_of}, Work.{next_of, after_of}, Worlds.{World, words_after, value_at}}
+use Rattle.gate_world.specs.{Moments.AllHaveMoments, Rules.{IsGood, Moves, StepKeeps, Fitting}, Shown.shown, traces.Snapshots.{completes}}
+use Rattle.gate_world.specs.{Views.{begun_view, view_after_with_others, held_of}, Work.{next_of, after_of}, Worlds.{World, words_after, value_at}}
 use Rattle.gate_world.specs.{Worlds.{found_at, after_step, after_step_with_others, phase_action, with_action}, declared.{config.Config.Config, operations.Op.Op}}
-use Rattle.gate_world.specs.declared.{views.{View.{View}, Snapshot.{Snapshot}}, work.Phase.{Phase}, entries.Entry.{Entry}}
+use Rattle.gate_world.specs.declared.{views.{View.{View}}, work.Phase.{Phase}, entries.Entry.{Entry}}
 use Rattle.freeze_laws.specs.moments.Moments.{HaveDone}
 use Rattle.gate_schedules.proofs.{frames.{ValidWords.events_may_be, Snapshots.others_apart}, operations.AllOperations.phase_keeps, schedules.Beginnings.may_begin}
 use Rattle.gate_schedules.proofs.schedules.{Lists.{beside_lists, begin_lists}, Phases.word_there, Schedule.{begun_keeps, legal_more}}
@@ -31,15 +31,6 @@ Carried = List (ℕ × Unit {0})
 
 abbrev pub holds : Config → State (Unit {0}) Knowledge → Type 0
 holds c s = TableInvariantHolds c s.words s.views
-
--- a view depends on a word's value only through what the event says that it found
-view_same : (v : View) (word : WordName) (touch : Touch) (n : ℕ) (hook : HookAnswer) (after : ℕ → Next Phase × Option Action)
-    (last : ℕ → Option Snapshot) →
-    record (view_with v (word, touch) (found_by touch n) hook (after (found_by touch (found_by touch n)))) {
-      snapshot = last (found_by touch (found_by touch n));
-    } ≡
-    record (view_with v (word, touch) n hook (after (found_by touch n))) { snapshot = last (found_by touch n) }
-view_same v word other n hook after last = grind arith
 
 pub found_serves : (others : List (ℕ × ℕ)) (v : View) (phase : Phase) (n : ℕ) (hook : HookAnswer) →
     view_after_with_others others v phase (found_by (next_of phase hook).1 n) hook ≡ view_after_with_others others v phase n hook

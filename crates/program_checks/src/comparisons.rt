@@ -219,7 +219,6 @@ fn judge_claims(
     };
     let form = VerdictForm {
         broken_alone: true,
-        records: false,
         has_schedules: false,
         steps: None,
         mark: b"",

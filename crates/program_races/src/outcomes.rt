@@ -256,15 +256,12 @@ fn judge_claims<W: Observer>(
         style,
         ..
     } = details_of(asked);
-    let records = matches!(asked.form, OutcomeForm::Json);
     let form = VerdictForm {
         broken_alone: false,
-        records,
         has_schedules: schedules.are_told(),
-        steps: if records {
-            Some(Form::Json)
-        } else {
-            schedules.form()
+        steps: match asked.form {
+            OutcomeForm::Json => Some(Form::Json),
+            OutcomeForm::Text | OutcomeForm::Html => schedules.form(),
         },
         mark: schedules.mark(),
         margin: schedules.margin(),

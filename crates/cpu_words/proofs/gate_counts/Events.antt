@@ -2,7 +2,7 @@
 use Rattle.std.{proofs.Common.{◌≡◌, ℕ, ◌+◌, ◌*◌, ◌%◌, ◌<◌, ◌≤◌, sym, ap, subst, inl, inr, arith}, specs.Prelude.◌⊎◌}
 use Rattle.finite_sums.{proofs.Totals.{each_updated, total_same, total_updated, total_add, total_swap, total_at, residues}, specs.Sums.{update, total}}
 use Rattle.cpu_words.specs.Sums.{lead}
-use Rattle.cpu_words.specs.gate_counts.Gates.{Barring, Apart, Reading, ReadZero, Silent, bars, GateView, past, admitted, unread, counted, BarringHolds, CountsHold}
+use Rattle.cpu_words.specs.gate_counts.Gates.{Barring, Reading, bars, GateView, past, admitted, unread, counted, BarringHolds, CountsHold}
 use Rattle.cpu_words.specs.gate_counts.Gates.{GateHolds}
 
 pub words_sum : {tasks processors : ℕ} {count : ℕ → ℕ} {at : ℕ → GateView} → CountsHold tasks processors count at →
@@ -20,13 +20,13 @@ words_sum {tasks} {processors} {count} {at} net =
     omega (arith, words, own, parts, total_swap tasks processors (λ t. (at t).taken), total_swap tasks processors (λ t. (at t).added))
 
 pub apart_holds : (processors : ℕ) (count : ℕ → ℕ) (a : ℕ) (u : ℕ → ℕ) (b : Barring) → bars b ≡ 0 → BarringHolds processors count a u b
-apart_holds processors count a u a4 h = grind arith
+apart_holds processors count a u b h = grind arith
 
 -- only a sum in progress and one that was 0 say something
 pub barring_kept : (processors : ℕ) (count count' : ℕ → ℕ) (a a' : ℕ) (u u' : ℕ → ℕ) →
     ((k sum : ℕ) → BarringHolds processors count a u (Reading k sum) → BarringHolds processors count' a' u' (Reading k sum)) →
     (a ≡ 0 → a' ≡ 0) → (b : Barring) → BarringHolds processors count a u b → BarringHolds processors count' a' u' b
-barring_kept processors count count' a a' u u' f g a9 h = grind arith
+barring_kept processors count count' a a' u u' f g b h = grind arith
 
 -- the counts follow where one task's view and the words change alike
 pub counts_follow : (tasks processors : ℕ) (count count' : ℕ → ℕ) (at : ℕ → GateView) (t : ℕ) (v : GateView) →

@@ -8,7 +8,7 @@ use Rattle.cpu_words.proofs.gate_counts.Flags.{none_held, none_admitted, bars_ga
 use Rattle.cpu_words.proofs.gate_counts.Readers.{is_granted as gate_grants, is_refused as gate_refuses, adds, adds_granted, backs_off, returns}
 
 has_passed : (r : LevelRole) → 0 < bars (barring_of r) → sums_up r ≡ 0 → r ≡ Passed
-has_passed a0 h z = grind arith
+has_passed r h z = grind arith
 
 some_place : (n : ℕ) (f : ℕ → ℕ) → 0 < total n f → (t : ℕ) × (t < n) × (0 < f t)
 some_place zero f h = absurd (omega arith)

@@ -1,14 +1,13 @@
 -- What an action makes of what a task holds, and of its lists at run time.
-use Rattle.std.proofs.Common.{◌≡◌, ℕ, ◌+◌, ◌-◌, ◌<◌, true, false, length, refl, sym, ap, ◌∙◌, inl, inr, arith, get_or-set_same, get_or-set_other}
-use Rattle.std.proofs.lemmas.{Grind.{common_steps}, Bool.Decides.{eqb_tells}}
-use Rattle.std.specs.Prelude.{List, Option, Some, None, slice_index, slice_index_or, slice_set}
-use Rattle.finite_sums.{proofs.Totals.{update_at, update_off}, specs.Sums.update}
-use Rattle.access_model.specs.declared.actions.{Action.Action, Gate.Gate}
+use Rattle.std.proofs.Common.{◌≡◌, length, arith}
+use Rattle.std.proofs.lemmas.{Grind.{common_steps}}
+use Rattle.std.specs.Prelude.{List, Option}
+use Rattle.access_model.specs.declared.actions.{Action.Action}
 use Rattle.gate_world.specs.{Accesses.{held_in, accesses_after}, Fits.ActionFits, Holdings.{Holdings, Agree, holdings_of, held_after}, Views.actions_after}
 use Rattle.gate_world.specs.declared.{accesses.Accesses.Accesses, config.Config.Config}
 
 pub holdings_of_after : (a : Option Action) (actions : List Action) → holdings_of (actions_after a actions) ≡ held_after a (holdings_of actions)
-holdings_of_after a0 actions = grind arith
+holdings_of_after a actions = grind arith
 
 pub long_after : (held : Accesses) (a : Option Action) → length (accesses_after held a).mounts ≡ length held.mounts
 long_after held a = grind (arith, common_steps)
@@ -18,11 +17,6 @@ wide_after held a = grind (arith, common_steps)
 
 pub deep_after : (held : Accesses) (a : Option Action) → length (accesses_after held a).files ≡ length held.files
 deep_after held a = grind (arith, common_steps)
-
--- one slot of a list is written as it is in what it agrees with
-slot_set : {A : Type 0} (xs : List A) (d : A) (seen : ℕ → A) (n : ℕ) (v u : A) → n < length xs → (i : ℕ) → (i ≡ n → v ≡ u) →
-    slice_index_or xs i d ≡ seen i → slice_index_or (slice_set xs n v) i d ≡ update seen n u i
-slot_set xs d seen n v u lt i same h = grind (arith, common_steps)
 
 -- what an action leaves agrees, where what it finds does
 pub agree_after : (c : Config) (held : Accesses) → length held.mounts ≡ 8 → length held.levels ≡ 4 → length held.files ≡ 64 → (seen : Holdings) →

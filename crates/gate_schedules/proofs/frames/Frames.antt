@@ -4,7 +4,7 @@ use Rattle.access_model.specs.States.{openers}
 use Rattle.cpu_words.specs.{Words.Words, declared.{events.Touch.Touch, names.WordName.WordName}}
 use Rattle.cpu_words.specs.gate_counts.Levels.{LevelHolds, LevelRole, LevelView, Out as CountsNot}
 use Rattle.finite_sums.proofs.Totals.{each_updated, total_updated, update_map, update_same}
-use Rattle.finite_sums.specs.Sums.{total, update}
+use Rattle.finite_sums.specs.Sums.{update}
 use Rattle.freeze_levels.specs.{Holders.{holders_in}, holder_laws.Roles.{HolderRole, HoldersHold}}
 use Rattle.gate_schedules.proofs.frames.Known.{known_same}
 use Rattle.gate_world.specs.{Fits.{Fits, HasFile, file_of}, Holdings.Holdings, Levels.{at_level, inside, is_frozen_whole, level_added_by, level_taken_by}}
@@ -20,7 +20,7 @@ use Rattle.freeze_laws.specs.{levels.Roles.{Out as IsApart, SyncNumberHolds, Syn
 use Rattle.mount_counts.specs.Roles.{MountHolds, MountView, Out, Role, ro_bit}
 use Rattle.std.proofs.{Common.{Bool, ap, arith, inl, inr, refl, subst, suc, sym, true≢false, ℕ, ◌+◌, ◌<◌, ◌∙◌, ◌≡◌}, lemmas.Bool.{eq-eqb, ne_eqb}}
 use Rattle.std.proofs.lemmas.Bool.Decides.{eqb_tells}
-use Rattle.std.specs.Prelude.{Option, false, if◌then◌else◌, true, ◌%◌, ◌&&◌, ◌==◌, ◌||◌}
+use Rattle.std.specs.Prelude.{Option, false, if◌then◌else◌, true, ◌%◌, ◌==◌, ◌||◌}
 
 pub added_load : (name : WordName) (added : ℕ → ℕ → ℕ) → added_after name Touch.Load added ≡ added
 added_load other added = grind arith

@@ -7,7 +7,6 @@ use Rattle.cpu_words.specs.declared.{events.{Event.Event, Touch.Touch}, names.Wo
 use Rattle.gate_world.specs.{traces.Found.is_load, Owners.{is_owned, is_owned_word, last_left, takes_lock, KnowsWords}, Rules.{Holds, IsGood, Known, Owner, owns}}
 use Rattle.gate_world.specs.{Views.{phase_after, view_after}, Work.{after_of, next_of}, Worlds.{World, after_step, found_at, value_at, words_after}}
 use Rattle.gate_world.specs.declared.{config.Config.Config, views.{Traced.Traced, View.View}, work.Phase.Phase}
-use Rattle.gate_schedules.proofs.frames.Words.{load_same}
 
 none_is_none : {A : Type 0} {B : Type 0} (x : A) → None ≡ Some x → B
 none_is_none x h = absurd (true≢false (ap is_some (sym h)))

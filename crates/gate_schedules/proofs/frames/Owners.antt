@@ -4,13 +4,13 @@ use Rattle.finite_sums.proofs.Totals.{HasPlace, each_updated, total_at, total_no
 use Rattle.finite_sums.proofs.Totals.{update_same}
 use Rattle.finite_sums.specs.Sums.{total, update}
 use Rattle.gate_schedules.proofs.frames.Frames.{MountHoldsAfter, gates_after, holds_as, owner_same, shown_held, shown_still, view_as}
-use Rattle.gate_world.specs.{Holdings.Holdings, Remounts.{remount_owns, remount_sets}}
+use Rattle.gate_world.specs.{Holdings.Holdings}
 use Rattle.gate_world.specs.{Rules.{AtMount, GatesHold, IsGood, IsSteady, Owner, OwnerHolds, ViewFits, at_mount, owns, remounts, role_of}, Shown.closing}
 use Rattle.gate_world.specs.{Shown.shown, Views.{added_by, held_of, taken_by}, refusals.Waits.{HasCulprit, IsWaitedFor}, Worlds.World, declared.config.Config.Config}
 use Rattle.gate_world.specs.declared.{views.View.View, work.Phase.Phase}
-use Rattle.mount_counts.specs.{Roles.{Role, has_hold, hold_bit, ro_bit, skips}, declared.remounts.RemountStep.{RemountStep}}
+use Rattle.mount_counts.specs.{Roles.{Role, has_hold, hold_bit, ro_bit, skips}}
 use Rattle.std.proofs.{Common.{Bool, ap, arith, inl, inr, refl, suc, ℕ, ◌+◌, ◌<◌, ◌∙◌, ◌≡◌, ◌≤◌}, lemmas.Bool.Decides.eqb_tells}
-use Rattle.std.specs.Prelude.{Option, Some, ◌-◌, ◌==◌}
+use Rattle.std.specs.Prelude.{Option, ◌-◌, ◌==◌}
 
 pub owns_le : (p : Option Phase) → owns p ≤ 1
 owns_le p = grind arith
@@ -18,9 +18,6 @@ owns_le p = grind arith
 -- only the owner of `umount` has a hold flag set, or counts on a mount's staying read-only
 pub hold_owns : (m : ℕ) (p : Option Phase) → has_hold (role_of m p) + skips (role_of m p) ≤ owns p
 hold_owns m p = grind arith
-
-remount_sets_owns : (s : RemountStep) → remount_sets s ≤ remount_owns s
-remount_sets_owns step = grind arith
 
 pub remounts_owns : (p : Option Phase) → remounts p ≤ owns p
 remounts_owns other = grind arith

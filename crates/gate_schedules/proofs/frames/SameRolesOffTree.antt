@@ -113,7 +113,7 @@ module _ (c : Config) (w : World) (t : ℕ) (lt : t < c.tasks) (p : Option Phase
     (a b : Next Phase) (action : Option Action) where
   -- the event of the first, done again at the second's phases, is the event of the second
   pub made_again : rephased (made (rephased w t p) t n hook a action) t (phase_after b) ≡ made w t n hook b action
-  made_again  = grind arith
+  made_again = grind arith
 
   -- so what the law of the first says of the rule and of the shown model, it says of the second, where the tree and the open files hold with the
   -- first phase before the event, and with the second's after it

@@ -4,7 +4,7 @@ use Rattle.std.proofs.{Common.{◌≡◌, ℕ, ap, subst, refl, inl, inr, sym, �
 use Rattle.std.specs.Prelude.{None, is_some, List}
 use Rattle.finite_sums.specs.Sums.{update}
 use Rattle.cpu_words.specs.{Hooks.HookAnswer, Touches.found_by, Words.Words}
-use Rattle.gate_world.specs.{Moments.CompletesNow, Rules.{Part, Owner, Holds, IsGood}, Shown.shown, traces.Snapshots.completes}
+use Rattle.gate_world.specs.{Moments.CompletesNow, Rules.{Part, Holds, IsGood}, Shown.shown, traces.Snapshots.completes}
 use Rattle.gate_world.specs.{Views.{view_with, view_after, view_after_with_others}, Work.{next_of, after_of}}
 use Rattle.gate_world.specs.Worlds.{World, value_at, found_at, words_after, after_step, after_step_with_others}
 use Rattle.gate_world.specs.declared.{config.Config.Config, views.{Traced.Traced, View.View}, work.Phase.Phase}

@@ -3,7 +3,6 @@
 use Rattle.std.proofs.Common.{◌≡◌, ℕ, ◌<◌, ◌≤◌, ◌*◌, subst, ap, true, false, arith}
 use Rattle.std.specs.Prelude.{Some, is_some}
 use Rattle.percpu_rwsem.specs.{Readers.down_read_next}
-use Rattle.percpu_rwsem.specs.declared.{readers.DownReadStep.TheVariants.LoadsSync}
 use Rattle.percpu_rwsem.specs.declared.{readers.{DownRead.DownRead, DownReadStep.DownReadStep}}
 use Rattle.composite_ops.specs.{file_closes.Phases.next as close_next, declared.file_closes.phases.ClosePhase.{ClosePhase, TheVariants.{LoadsFile as CloseLoadsFile, LowersCount}}}
 use Rattle.composite_ops.specs.declared.file_closes.phases.ClosePhase.TheVariants.{Enters as EntersLevel, FreesNode as ClosesNode}

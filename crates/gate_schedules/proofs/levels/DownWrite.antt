@@ -1,10 +1,10 @@
 -- What each event of a down-write leaves of the levels: it enters the rcu_sync of its level, sets `block`, and sums the counts until nobody
 -- is counted.
 use Rattle.std.proofs.Common.{◌≡◌, ℕ, suc, ◌+◌, ◌<◌, ◌≤◌, refl, sym, ap, ◌∙◌, subst, inl, inr, arith, true≢false}
-use Rattle.std.proofs.lemmas.{Grind.{common_steps}, Bool.{eq-eqb, lt-ltb, le-ltb, cases_lt, Decides.{eqb_tells}}, Option.{none-some}}
-use Rattle.std.specs.Prelude.{Option, Some, None, Ok, Bool, true, false, ◌==◌, if◌then◌else◌}
+use Rattle.std.proofs.lemmas.{Grind.{common_steps}, Bool.{eq-eqb, Decides.{eqb_tells}}, Option.{none-some}}
+use Rattle.std.specs.Prelude.{Option, Some, Bool, true, false, ◌==◌, if◌then◌else◌}
 use Rattle.finite_sums.{proofs.Totals.{update_at, update_map, update_same}, specs.Sums.{update, total}}
-use Rattle.access_model.specs.declared.{actions.Action.Action, replies.{Next.Next, Reply.Reply}}
+use Rattle.access_model.specs.declared.{actions.Action.Action, replies.{Next.Next}}
 use Rattle.cpu_words.specs.{Sums.sum_taking, Touches.{found_by, left, wrap_add}, Words.{Words, read, put}}
 use Rattle.cpu_words.specs.declared.{events.Touch.Touch, names.WordName.WordName, sums.{Sum.Sum, Taken.Taken}}
 use Rattle.cpu_words.specs.gate_counts.Levels.{LevelRole, LevelView, LevelHolds, Out as CountsNot, Summing, Passed as CountsPassed}
@@ -20,7 +20,7 @@ use Rattle.freeze_laws.specs.levels.Events.{SyncLevelHolds, SyncStep}
 use Rattle.freeze_laws.specs.levels.Operations.{down_write_role, value_at, left_by, by_next, HoldsOfNext}
 use Rattle.freeze_laws.specs.levels.Roles.{Out as IsApart, Closed, entered}
 use Rattle.gate_world.specs.{Configs.IsWithin, Fits.DownWriteFits, LevelRuns.level_in, Levels.{sync_role_of, at_level, is_frozen_whole, level_role_of}}
-use Rattle.gate_world.specs.Roles.{LevelPosition, position_count, position_sync, closed_to, down_count_role}
+use Rattle.gate_world.specs.Roles.{LevelPosition, position_count, position_sync, down_count_role}
 use Rattle.gate_world.specs.{Rules.{AtLevel, Holds, IsGood, Stages, stage_role_of, stage_roles}}
 use Rattle.gate_world.specs.{Views.holds_level, Worlds.World, declared.{config.Config.Config, views.View.View, work.Phase.{Phase}}}
 use Rattle.gate_schedules.proofs.frames.Frames.{SameLevelCounts}
@@ -70,16 +70,10 @@ grace_counts : (d : DownWrite) (n : GraceNext) →
     position_count d.level (position_after_closing d.level (sections_awaited d n)) ≡ CountsNot
 grace_counts d n = grind arith
 
--- or has loaded for GP_PASSED
-state_counts : (d : DownWrite) (b : Bool) → position_count d.level (position_after_closing d.level
-    (if b then Next.Go (at_down_write d DownWriteStep.SetsBlock) else Next.Wait (at_down_write d DownWriteStep.AwaitsPassed))) ≡ CountsNot
-state_counts d true = counts_as d DownWriteStep.SetsBlock
-state_counts d false = counts_as d DownWriteStep.AwaitsPassed
-
 -- whatever number it found
 passed_counts : (d : DownWrite) (o : Option SyncWord) →
     position_count d.level (position_after_closing d.level (passed_awaited d o)) ≡ CountsNot
-passed_counts d a1 = grind arith
+passed_counts d o = grind arith
 
 -- by its swap of a clear `block` it begins a sum
 swap_counts : (d : DownWrite) (b : Bool) → b ≡ true → position_count d.level (position_after_closing d.level
@@ -107,25 +101,14 @@ abbrev taken_role : Taken → LevelRole
 taken_role (Taken.More sum) = Summing sum.words sum.total
 taken_role (Taken.Total n) = total_role (n == 0)
 
--- so it stands then at its level
-total_counts : (d : DownWrite) (b : Bool) → position_count d.level (position_after_closing d.level
-    (if b then Next.Done (Ok Reply.Unit) else Next.Wait (at_down_write d sum_begun))) ≡ total_role b
-total_counts d true = count_at d.level (closed_to d.level) refl
-total_counts d false = counts_as d sum_begun
-
 -- and so after one word more
 taken_counts : (d : DownWrite) (taken : Taken) →
     position_count d.level (position_after_closing d.level (down_write_summed d taken).0) ≡ taken_role taken
-taken_counts d a1 = grind arith
-
--- a level is passed by a total of 0
-total_passes : (i j : ℕ) (b : Bool) → (if b then Some (Action.Pass i) else None) ≡ Some (Action.Pass j) → b ≡ true
-total_passes i j true e = refl
-total_passes i j false e = absurd (none-some (Action.Pass j) e)
+taken_counts d taken = grind arith
 
 -- so the event that passes a level leaves it passed
 taken_passes : (d : DownWrite) (j : ℕ) (taken : Taken) → (down_write_summed d taken).1 ≡ Some (Action.Pass j) → taken_role taken ≡ CountsPassed
-taken_passes d j a2 e = grind arith
+taken_passes d j taken e = grind arith
 
 pub queued_passed : (s : GpState) → is_queued s ≡ true → is_passed s ≡ true
 queued_passed s e = grind arith

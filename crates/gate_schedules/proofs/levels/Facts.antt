@@ -1,15 +1,14 @@
 -- What the rule says of a level's sync word where a writer or a callback makes a transition of it: the transition is defined.
 use Rattle.std.proofs.Common.{◌≡◌, ℕ, zero, suc, ◌<◌, ◌≤◌, Bool, true, false, refl, sym, ap, ◌∙◌, inl, inr, arith, true≢false}
-use Rattle.std.proofs.lemmas.Bool.{lt-ltb, eq-eqb, eqb-true, and_parts, Decides.eqb_tells}
-use Rattle.std.specs.Prelude.{◌==◌, not, nat_lt, Option, Some, None}
+use Rattle.std.proofs.lemmas.Bool.{lt-ltb, Decides.eqb_tells}
+use Rattle.std.specs.Prelude.{nat_lt, Option, Some, None}
 use Rattle.finite_sums.{proofs.Totals.{total_at, total_none}, specs.Sums.total}
 use Rattle.cpu_words.specs.Touches.{left, found_by}
-use Rattle.percpu_rwsem.proofs.SyncWords.{pack_unpack}
-use Rattle.percpu_rwsem.specs.{Readers.step_in, SyncWords.{bit, pack, unpack, is_lawful, is_passed, is_awaited, on_enter, on_exit, on_callback}}
-use Rattle.percpu_rwsem.specs.Transitions.{exchange_for, transition_next, transition_after}
+use Rattle.percpu_rwsem.specs.{Readers.step_in, SyncWords.{bit, unpack, is_lawful, is_passed, is_awaited, on_enter, on_exit, on_callback}}
+use Rattle.percpu_rwsem.specs.Transitions.{transition_next, transition_after}
 use Rattle.percpu_rwsem.specs.declared.{readers.DownReadStep.DownReadStep, sync_word.{GpState.GpState, SyncWord.SyncWord}}
 use Rattle.percpu_rwsem.specs.declared.transitions.{Transition.Transition, TransitionNext.TransitionNext}
-use Rattle.freeze_laws.specs.levels.Roles.{SyncRole, Out, entering, entered, claimed, closed, enter_bit, SyncHolds}
+use Rattle.freeze_laws.specs.levels.Roles.{SyncRole, entering, entered, claimed, closed, enter_bit, SyncHolds}
 use Rattle.freeze_laws.proofs.stages.Facts.{other_zero}
 use Rattle.gate_schedules.proofs.operations.deadlocks.FreezeProgress.{not_none}
 use Rattle.gate_schedules.specs.operations.Ranks.{exchange_rank}
@@ -22,18 +21,14 @@ ExchangeFalls sync n undefined (TransitionNext.Made state) = Unit {0}
 
 pub defined_falls : (sync n : ℕ) (undefined : Type 0) → (undefined → ⊥) → (next : TransitionNext) → ExchangeFalls sync n undefined next →
     ExchangeFalls sync n ⊥ next
-defined_falls sync n undefined never a4 h = grind arith
+defined_falls sync n undefined never next h = grind arith
 
 module _ (makes : SyncWord → Option SyncWord) (sync after level : ℕ) (word : SyncWord) (packed : unpack sync ≡ Some word) where
-  loaded_falls : after ≡ sync → (o : Option SyncWord) → makes word ≡ o →
-      ExchangeFalls after 1 (makes word ≡ None) (exchange_for word o)
-  loaded_falls is a1 e = grind arith
-
   -- each event of a transition: a word that was changed since it was loaded is loaded again, once
   pub exchange_falls : (x : Transition) → after ≡ left (transition_next level x).1 sync →
       ExchangeFalls after (exchange_rank sync x) (makes word ≡ None)
       (transition_after makes x (found_by (transition_next level x).1 sync))
-  exchange_falls a0 is = grind arith
+  exchange_falls x is = grind arith
 
 entering_le : (r : SyncRole) → entering r ≤ entered r
 entering_le r = grind arith

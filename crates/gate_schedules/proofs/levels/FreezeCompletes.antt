@@ -2,14 +2,14 @@
 use Rattle.std.proofs.Common.{arith}
 use Rattle.std.proofs.lemmas.Grind.{common_steps}
 use Rattle.std.{proofs.Common.{◌≡◌, ℕ, ◌<◌, refl, sym, ap, ◌∙◌, subst}, specs.Prelude.{Some, None}}
-use Rattle.finite_sums.{proofs.Totals.update_same, specs.Sums.update}
+use Rattle.finite_sums.{specs.Sums.update}
 use Rattle.cpu_words.specs.Words.{Words}
 use Rattle.cpu_words.{proofs.gate_counts.LevelLaws.{is_left_frozen, thaws}, specs.gate_counts.Levels.{Out as CountsNot, Passed as CountsPassed}}
 use Rattle.freeze_laws.specs.levels.{Events.{Freezes, Thaws, SyncStep}, Roles.{SyncRole, Out as IsApart, Closed}}
 use Rattle.gate_world.specs.{Configs.IsWithin, LevelRuns.level_in, Levels.{inside, is_frozen_whole, sync_role_of}, Roles.closed_to, Rules.{IsGood, AtLevel}}
 use Rattle.gate_world.specs.{Worlds.World, declared.{config.Config.Config, views.View.View}}
 use Rattle.gate_schedules.proofs.{frames.Frames.SameLevelCounts, levels.PositionRoles.{count_closed, sync_closed, counts_become, sections_left}}
-use Rattle.gate_schedules.proofs.levels.{LevelPositions.{HasPosition, LevelsHold, LevelsRun, left_world}, Worlds.{level_moves, level_steps}}
+use Rattle.gate_schedules.proofs.levels.{LevelPositions.{HasPosition, LevelsHold, LevelsRun, left_world}, Worlds.{level_steps}}
 
 -- the words of the levels are as they were, but for whether the file system is frozen as a whole
 pub record SameWordsOfLevels (old new : Words) : Type 0 where

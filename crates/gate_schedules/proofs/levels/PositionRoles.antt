@@ -1,6 +1,6 @@
 -- What who stands at a level has there, below it and above it; which stands say the same; and what an event of such a task leaves.
 use Rattle.std.proofs.Common.{◌≡◌, ℕ, suc, ◌<◌, ◌≤◌, refl, sym, ap, ◌∙◌, inl, inr, arith, subst}
-use Rattle.std.proofs.lemmas.Bool.{eq-eqb, ne_eqb, lt-ltb, le-ltb, cases_lt, Decides.eqb_tells}
+use Rattle.std.proofs.lemmas.Bool.{eq-eqb, Decides.eqb_tells}
 use Rattle.std.specs.Prelude.{Option, Some, None}
 use Rattle.finite_sums.{proofs.Totals.{update_map, update_same}, specs.Sums.update}
 use Rattle.cpu_words.specs.{Touches.left, Words.{Words, put, read}, declared.{events.Touch.Touch, names.WordName.WordName}}
@@ -19,18 +19,6 @@ count_at i s e = rw (eq-eqb i s.level e) refl
 
 pub sync_at : (i : ℕ) (s : LevelPosition) → i ≡ s.level → position_sync i (Some s) ≡ s.sync
 sync_at i s e = rw (eq-eqb i s.level e) refl
-
-pub count_below : (i : ℕ) (s : LevelPosition) → i < s.level → position_count i (Some s) ≡ CountsPassed
-count_below i s lt = rw (ne_eqb i s.level (λ e. omega (arith, e, lt)), lt-ltb i s.level lt) refl
-
-pub sync_below : (i : ℕ) (s : LevelPosition) → i < s.level → position_sync i (Some s) ≡ Closed
-sync_below i s lt = rw (ne_eqb i s.level (λ e. omega (arith, e, lt)), lt-ltb i s.level lt) refl
-
-pub count_above : (i : ℕ) (s : LevelPosition) → s.level < i → position_count i (Some s) ≡ CountsNot
-count_above i s lt = rw (ne_eqb i s.level (λ e. omega (arith, e, lt)), le-ltb i s.level (omega (arith, lt))) refl
-
-pub sync_above : (i : ℕ) (s : LevelPosition) → s.level < i → position_sync i (Some s) ≡ IsApart
-sync_above i s lt = rw (ne_eqb i s.level (λ e. omega (arith, e, lt)), le-ltb i s.level (omega (arith, lt))) refl
 
 -- with the levels up to this one closed, each of them is passed
 pub count_closed : (i n : ℕ) → i ≤ n → position_count i (Some (closed_to n)) ≡ CountsPassed

@@ -2,18 +2,18 @@
 use Rattle.std.proofs.lemmas.Grind.{common_steps}
 use Rattle.std.proofs.{Common.{ℕ, ◌<◌, ◌≤◌, ◌≡◌, sym, ap, ◌∙◌, inl, subst, arith, inr, ◌+◌}, lemmas.Bool.Decides.eqb_tells}
 use Rattle.std.specs.Prelude.{Option, Some}
-use Rattle.finite_sums.{proofs.Totals.{update_same}, specs.Sums.{update, total}}
+use Rattle.finite_sums.{specs.Sums.{total}}
 use Rattle.cpu_words.specs.{Touches.{left, found_by}, Words.{Words, put, read}, declared.{events.Touch.Touch, names.WordName.WordName}}
 use Rattle.percpu_rwsem.specs.Writers.{down_write_after, up_write_after, down_write_next, up_write_next}
 use Rattle.percpu_rwsem.specs.declared.writers.{DownWrite.DownWrite, UpWrite.UpWrite}
-use Rattle.freeze_laws.specs.levels.{Events.SyncStep, Operations.{put_at, left_by}, Roles.{Out as IsApart, entered}}
-use Rattle.gate_world.specs.{Configs.IsWithin, Fits.{DownWriteFits, UpWriteFits}, LevelRuns.level_in, Levels.{inside, sync_role_of, is_frozen_whole}}
+use Rattle.freeze_laws.specs.levels.{Events.SyncStep, Operations.{left_by}, Roles.{Out as IsApart, entered}}
+use Rattle.gate_world.specs.{Configs.IsWithin, Fits.{DownWriteFits, UpWriteFits}, LevelRuns.level_in, Levels.{sync_role_of, is_frozen_whole}}
 use Rattle.gate_world.specs.{Roles.{LevelPosition, position_sync}, Rules.IsGood, Worlds.World, declared.{config.Config.Config, views.View.View}}
 use Rattle.gate_schedules.proofs.{frames.Frames.SameLevelWords, levels.DownWrite.{next_closing, down_write_event, closing_others, closing_there}}
-use Rattle.gate_schedules.proofs.levels.PositionRoles.{SayBeside, touched_sync, put_inside, touched_block, touched_whole}
+use Rattle.gate_schedules.proofs.levels.PositionRoles.{SayBeside}
 use Rattle.gate_schedules.proofs.levels.LevelPositions.{HasPosition, LevelsRun, closing_position, opening_position, left_world, position_after_closing, position_after_opening}
-use Rattle.gate_schedules.proofs.levels.{Steps.{level_stays, level_kept, level_moved}, UpWrite.{next_opening, up_write_event, opening_others, opening_there}}
-use Rattle.gate_schedules.proofs.levels.Worlds.{IsEventAt, section_kept}
+use Rattle.gate_schedules.proofs.levels.{Steps.{level_stays, level_kept}, UpWrite.{next_opening, up_write_event, opening_others, opening_there}}
+use Rattle.gate_schedules.proofs.levels.Worlds.{IsEventAt}
 
 -- an event that leaves what the levels read of the words, and how its task stands with them, leaves each level
 pub levels_stay_runs : (c : Config) (w : World) (t : ℕ) → t < c.tasks → (ws : Words) (v : View) (s : Option LevelPosition) →
@@ -22,10 +22,6 @@ levels_stay_runs c w t lt ws v s words was now i one three =
     level_stays c.tasks t lt (level_in w i) (level_in (left_world w t ws v) i)
     (level_kept w t i ws v (ap (λ f. f i) words.sync_same) (ap (λ f. f i) words.block_same) words.whole_same words.section_same
     (now.outside ∙ sym was.outside) (now.syncs i one three ∙ sym (was.syncs i one three)))
-
-put_level : (w : World) (i : ℕ) (name : WordName) (touch : Touch) → IsEventAt i name touch → (n : ℕ) →
-    put_at (level_in w i) name n ≡ level_in (record { words = put w.words name n; views = w.views }) i
-put_level w i name touch e n = grind arith
 
 module _ (c : Config) (w : World) (t : ℕ) (lt : t < c.tasks) (v : View) (s z : Option LevelPosition) (was : HasPosition (w.views t).phase s)
     (now : HasPosition v.phase z) (i : ℕ) (name : WordName) (touch : Touch) (is : IsEventAt i name touch) where

@@ -1,7 +1,7 @@
 -- Events as steps of a level.
 use Rattle.std.proofs.lemmas.Grind.{common_steps}
-use Rattle.std.proofs.Common.{◌≡◌, ℕ, ◌<◌, ap, ◌∙◌, arith}
-use Rattle.finite_sums.{proofs.Totals.{update_same}, specs.Sums.update}
+use Rattle.std.proofs.Common.{◌≡◌, ℕ, ◌<◌, arith}
+use Rattle.finite_sums.{specs.Sums.update}
 use Rattle.cpu_words.specs.Words.{Words}
 use Rattle.freeze_laws.specs.levels.Events.{SyncLevel, SyncStep, Stays}
 use Rattle.gate_world.specs.{LevelRuns.level_in, Levels.{inside, sync_role_of, is_frozen_whole}, Worlds.World, declared.views.View.View}

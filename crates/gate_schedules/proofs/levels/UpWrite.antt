@@ -8,7 +8,7 @@ use Rattle.percpu_rwsem.specs.{SyncWords.on_exit, Transitions.transition_after, 
 use Rattle.percpu_rwsem.specs.declared.{transitions.{Transition.Transition, TransitionNext.TransitionNext}, writers.{UpWrite.UpWrite, UpWriteStep.UpWriteStep}}
 use Rattle.freeze_laws.proofs.levels.Operations.{up_writes_are_there}
 use Rattle.freeze_laws.specs.levels.{Events.SyncStep, Operations.{up_write_role, left_by, by_next, HoldsOfNext}, Roles.Out as IsApart}
-use Rattle.gate_world.specs.{Configs.IsWithin, Fits.UpWriteFits, LevelRuns.level_in, Levels.is_frozen_whole, Roles.{LevelPosition, position_count, position_sync}}
+use Rattle.gate_world.specs.{Configs.IsWithin, Fits.UpWriteFits, LevelRuns.level_in, Levels.is_frozen_whole, Roles.{position_count, position_sync}}
 use Rattle.gate_world.specs.{Rules.{IsGood, Holds, AtLevel}, Worlds.World, declared.{config.Config.Config, views.View.View}}
 use Rattle.gate_schedules.proofs.{frames.Frames.{SameLevelCounts}, levels.PositionRoles.{count_at, sync_at, SayBeside, counts_left}}
 use Rattle.gate_schedules.proofs.levels.PositionRoles.{counts_become, levels_move}
@@ -25,18 +25,10 @@ up_write_event u s = grind arith
 up_write_counts : (w : Words) (u : UpWrite) (s : UpWriteStep) (n : ℕ) → (put w (up_write_next u s).0 n).level ≡ w.level
 up_write_counts w u s n = grind arith
 
-exit_level : (u : UpWrite) (n : TransitionNext) → HoldsOfNext (λ (x : UpWrite). x.level ≡ u.level) (exit_made u n)
-exit_level u n = grind arith
-
 -- after each of its events
 pub up_write_level : (u : UpWrite) (s : UpWriteStep) (found : ℕ) →
     HoldsOfNext (λ (x : UpWrite). x.level ≡ u.level) (up_write_after u s found).0
-up_write_level u a1 found = grind arith
-
--- what comes after its event says what it said of the other levels
-opening_beside : (level : ℕ) (s : LevelPosition) → 1 ≤ level → s.level ≡ level → (n : Next UpWrite) →
-    HoldsOfNext (λ (x : UpWrite). x.level ≡ level) n → SayBeside level (Some s) (position_after_opening level n)
-opening_beside level s one e n h = grind arith
+up_write_level u s found = grind arith
 
 -- and of its own what its step is doing there
 opening_sync : (level : ℕ) → 1 ≤ level → (n : Next UpWrite) → HoldsOfNext (λ (x : UpWrite). x.level ≡ level) n →

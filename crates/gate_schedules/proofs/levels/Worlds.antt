@@ -2,7 +2,7 @@
 use Rattle.std.proofs.{Common.{◌≡◌, ℕ, zero, suc, ◌-◌, ◌<◌, ◌≤◌, refl, sym, ap, ◌∙◌, subst, arith}, lemmas.Bool.{eq-eqb, ne_eqb}}
 use Rattle.std.proofs.lemmas.Grind.{common_steps}
 use Rattle.std.specs.Prelude.{Option, Bool, true, false, ◌==◌, ◌&&◌, if◌then◌else◌}
-use Rattle.finite_sums.{proofs.Totals.{total_le, update_map, update_same}, specs.Sums.{update, total}}
+use Rattle.finite_sums.{proofs.Totals.{total_le, update_same}, specs.Sums.{update, total}}
 use Rattle.cpu_words.specs.{Touches.{wrap_add, left}, Words.{Words, put, read}, declared.{events.Touch.Touch, names.WordName.WordName}}
 use Rattle.percpu_rwsem.specs.declared.{readers.DownReadStep.DownReadStep}
 use Rattle.freeze_laws.proofs.levels.CitedLaws.{events_keep, fast_finds_open as level_is_open}

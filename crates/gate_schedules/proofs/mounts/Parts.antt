@@ -1,16 +1,16 @@
 -- What the events of want, drop and change touch: the rest of the rule stays.
-use Rattle.std.proofs.{Common.{Bool, arith, inl, inr, refl, sym, true, true≢false, ◌≡◌, ◌<◌, ◌⊎◌, subst, ℕ, ◌∙◌, ap, List}, lemmas.Bool.{cases_Bool}}
-use Rattle.std.specs.Prelude.{Some, false, if◌then◌else◌}
-use Rattle.access_model.specs.{Histories.{levels_of, opens_of}, Replies.map_next, declared.{actions.Action.Action, replies.Next.Next}}
-use Rattle.cpu_words.specs.{Hooks.HookAnswer, Touches.{found_by, left}, Words.{Words, put, read}}
+use Rattle.std.proofs.{Common.{Bool, arith, inl, inr, refl, sym, true, true≢false, ◌≡◌, ◌<◌, ◌⊎◌, subst, ℕ}, lemmas.Bool.{cases_Bool}}
+use Rattle.std.specs.Prelude.{Some, false}
+use Rattle.access_model.specs.{Replies.map_next, declared.{replies.Next.Next}}
+use Rattle.cpu_words.specs.{Hooks.HookAnswer, Touches.{left}, Words.{Words, put, read}}
 use Rattle.cpu_words.specs.declared.{events.Touch.Touch, names.WordName.WordName}
-use Rattle.mount_counts.specs.{Phases.{next, after}, declared.phases.MountPhase.{MountPhase}}
-use Rattle.gate_world.specs.{traces.Found.is_load, Levels.{at_level, level_added_after, level_taken_after, level_added_by, level_taken_by}}
+use Rattle.mount_counts.specs.{Phases.{next}, declared.phases.MountPhase.{MountPhase}}
+use Rattle.gate_world.specs.{traces.Found.is_load, Levels.{at_level, level_added_after, level_taken_after}}
 use Rattle.gate_world.specs.{SameRoles.{Roles, no_roles, roles_of}, Rules.{Holds, IsGood, Known, Part, SameView}}
 use Rattle.gate_world.specs.Rules.{SameWords, Stages, Holding, StepKeeps, at_gates, GateStepKeeps, Tree, AtLevel, SyncAt, Sections, Files}
-use Rattle.gate_world.specs.{Trees.tree_role_of, Views.{phase_after, view_after, actions_after, has_open}, Worlds.{World, after_step, value_at}}
+use Rattle.gate_world.specs.{Trees.tree_role_of, Views.{phase_after, view_after, has_open}, Worlds.{World, after_step, value_at}}
 use Rattle.gate_world.specs.{Worlds.words_after, declared.{config.Config.Config, views.View.View, work.Phase.Phase}}
-use Rattle.gate_schedules.proofs.frames.{Frames.{left_alone, level_view_as}, Known.{IsOwnersWork, known_after}, Words.load_same}
+use Rattle.gate_schedules.proofs.frames.{Frames.{left_alone}, Known.{IsOwnersWork, known_after}}
 
 -- the words that want, drop and change write
 abbrev pub is_gate_word : WordName → Bool
@@ -73,15 +73,6 @@ unseen (SyncAt i) h k old new same = λ j. (same.roles_same j).sync i
 unseen Sections h k old new same = λ j. (same.roles_same j).inside
 unseen part h k old new same = absurd (true≢false h)
 
--- an event on a word of want, drop and change counts at no level
-level_added_gate : (word : WordName) → is_gate_word word ≡ true → (touch : Touch) (added : ℕ → ℕ → ℕ) →
-    level_added_after word touch added ≡ added
-level_added_gate word q touch added = grind arith
-
-level_taken_gate : (word : WordName) → is_gate_word word ≡ true → (touch : Touch) (taken : ℕ → ℕ → ℕ) →
-    level_taken_after word touch taken ≡ taken
-level_taken_gate word q touch taken = grind arith
-
 pub level_added_load : (word : WordName) (touch : Touch) (added : ℕ → ℕ → ℕ) → is_load touch ≡ true →
     level_added_after word touch added ≡ added
 level_added_load word touch added h = grind arith
@@ -97,14 +88,6 @@ mounts_roles other = grind arith
 -- so owned words change only under `umount`
 mounts_work : (w : World) (x : MountPhase) (hook : HookAnswer) → IsOwnersWork w (Phase.Mounts x) hook
 mounts_work w x hook = grind arith
-
-mounts_levels : (x : MountPhase) (found : ℕ) (hook : HookAnswer) (actions : List Action) →
-    levels_of (actions_after (after x found hook).1 actions) ≡ levels_of actions
-mounts_levels x found hook actions = grind arith
-
-mounts_opens : (x : MountPhase) (found : ℕ) (hook : HookAnswer) (actions : List Action) →
-    opens_of (actions_after (after x found hook).1 actions) ≡ opens_of actions
-mounts_opens x found hook actions = grind arith
 
 -- so their events are unseen at the levels
 mounts_unseen : (v : View) (x : MountPhase) (value : ℕ) (hook : HookAnswer) → v.phase ≡ Some (Phase.Mounts x) →

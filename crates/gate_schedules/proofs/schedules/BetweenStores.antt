@@ -13,10 +13,10 @@ use Rattle.gate_world.specs.declared.entries.Entry.{Entry, TheVariants.{Begins, 
 use Rattle.gate_world.specs.{Worlds.{step_of, value_at, words_after}, declared.{config.Config.Config, operations.Op.Op, views.{Traced.Traced, View.View}}}
 use Rattle.gate_world.specs.declared.work.Phase.{Phase, TheVariants.Closes}
 use Rattle.freeze_levels.proofs.holder_laws.{HolderLaws.held_exactly, Words.held_word}
-use Rattle.percpu_rwsem.specs.{Transitions.transition_next, Writers.{down_write_next, up_write_next}, declared.transitions.Transition.Transition}
+use Rattle.percpu_rwsem.specs.{Writers.{down_write_next, up_write_next}}
 use Rattle.percpu_rwsem.specs.declared.writers.{DownWrite.DownWrite, DownWriteStep.DownWriteStep, UpWrite.UpWrite, UpWriteStep.UpWriteStep}
 use Rattle.std.proofs.{Common.{Bool, ap, arith, false, if◌then◌else◌, inl, inr, refl, subst, sym, true, ℕ, ◌<◌, ◌∙◌, ◌≡◌}, lemmas.Bool.{cases_lt, le-ltb}}
-use Rattle.std.proofs.lemmas.Bool.{lt-ltb, Decides.eqb_tells}
+use Rattle.std.proofs.lemmas.Bool.{lt-ltb}
 use Rattle.std.specs.Prelude.{Err, List, None, Ok, Option, Some, [], ◌==◌, ◌∷◌}
 
 abbrev bit : Bool → ℕ
@@ -41,14 +41,11 @@ Spares w n =
     ((put w n.0 (left n.1 (read w n.0))).stage ≡ w.stage) × ((put w n.0 (left n.1 (read w n.0))).holders ≡ w.holders) ×
     (stores_stage 4 n.0 n.1 ≡ false) × (stores_nobody n.0 n.1 ≡ false)
 
-transition_spares : (w : Words) (level : ℕ) (transition : Transition) → Spares w (transition_next level transition)
-transition_spares w level a2 = grind arith
-
 down_write_spares : (w : Words) (d : DownWrite) (s : DownWriteStep) → Spares w (down_write_next d s)
 down_write_spares w d s = grind arith
 
 up_write_spares : (w : Words) (u : UpWrite) (s : UpWriteStep) → Spares w (up_write_next u s)
-up_write_spares w u a2 = grind arith
+up_write_spares w u s = grind arith
 
 -- a freeze, or a thaw, that is not between two stores after an event that is the first of none
 freeze_unstored : (next : Next Freeze) (e : Traced) (trace : List Traced) → stores_stage 4 e.event.word e.event.touch ≡ false →

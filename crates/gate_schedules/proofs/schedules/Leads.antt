@@ -1,5 +1,5 @@
 -- While a freeze sums a level's words, nobody is on the level's fast path, so what is held there is all that is admitted.
-use Rattle.std.proofs.Common.{◌≡◌, ◌+◌, refl, ap, ◌∙◌, subst, arith}
+use Rattle.std.proofs.Common.{◌≡◌, ◌+◌, ap, ◌∙◌, subst, arith}
 use Rattle.finite_sums.{proofs.Totals.{total_add, total_at, total_none, total_same}, specs.Sums.total}
 use Rattle.cpu_words.specs.gate_counts.{Gates.{bars, admitted, unread, BarringHolds}, Levels.{Summing, barring_of, level_as_gate}}
 use Rattle.freeze_laws.specs.levels.Roles.{SyncRole, Fast, fast}

@@ -1,6 +1,6 @@
 -- Each task's own list is its part of the history.
 use Rattle.std.proofs.{Common.{ℕ, inl, inr, arith}, lemmas.Bool.{cases_Bool}}
-use Rattle.std.specs.Prelude.{nat_lt, Option, Some, None, List, [], ◌∷◌}
+use Rattle.std.specs.Prelude.{nat_lt, Option, Some, List, [], ◌∷◌}
 use Rattle.access_model.specs.{Histories.{Done, IsMerge}, declared.{actions.Action.Action, errors.GateError.GateError}}
 use Rattle.cpu_words.specs.Hooks.{HookAnswer}
 use Rattle.gate_world.specs.{Beginnings.{view_refusal}}
@@ -20,7 +20,7 @@ beside_lists others w earlier t hook phase m x = grind arith
 
 step_lists : (w : World) (earlier : List Done) (t : ℕ) (hook : HookAnswer) (p : Option Phase) → IsMerge (lists w) earlier →
     IsMerge (lists (step_of w t hook p)) (with_action t (phase_action w hook p) earlier)
-step_lists w earlier t hook a4 m x = grind arith
+step_lists w earlier t hook p m x = grind arith
 
 pub begin_lists : (c : Config) (w : World) (earlier : List Done) (t : ℕ) (op : Op) (r : Option GateError) → IsMerge (lists w) earlier →
     IsMerge (lists (begin_of c w t op r)) earlier

@@ -1,7 +1,7 @@
 -- Schedules, entry by entry.
 use Rattle.std.proofs.Common.{arith}
 use Rattle.std.proofs.Common.{◌≡◌, ℕ, List, [], ◌∷◌, ◌++◌, append_assoc, refl, sym, ap, ◌∙◌}
-use Rattle.std.specs.Prelude.{Option, Some, None}
+use Rattle.std.specs.Prelude.{Option}
 use Rattle.access_model.specs.{Histories.Done, declared.actions.Action.Action}
 use Rattle.gate_world.specs.{Worlds.{World, happens, run, history, with_action, action_of, task_of}, declared.config.Config.Config}
 use Rattle.gate_world.specs.declared.entries.Entry.{Entry}
@@ -12,7 +12,7 @@ run_more c w (x ∷ es) e = run_more c (happens c w x) es e
 
 -- one action more, or none, goes before all earlier ones
 with_earlier : (t : ℕ) (a : Option Action) (earlier : List Done) → with_action t a earlier ≡ with_action t a [] ++ earlier
-with_earlier t a1 earlier = grind arith
+with_earlier t a earlier = grind arith
 
 -- the actions of a schedule go before all earlier ones
 pub history_on : (c : Config) (w : World) (earlier : List Done) (es : List Entry) → history c w earlier es ≡ history c w [] es ++ earlier

@@ -1,5 +1,5 @@
 -- Every schedule keeps the rule, and its actions are one run of the access model.
-use Rattle.access_model.specs.{Actions.{IsAllowed, after_action}, Histories.{Done, IsLegal, end_of}, States.{State, most_tasks, one_if, openers}}
+use Rattle.access_model.specs.{Histories.{Done, IsLegal, end_of}, States.{State, most_tasks, one_if, openers}}
 use Rattle.access_model.specs.{States.opening_state, declared.{actions.Action.Action, errors.GateError.GateError}}
 use Rattle.cpu_words.specs.Hooks.{HookAnswer}
 use Rattle.cpu_words.specs.gate_counts.{Gates.{below, counted as counted_of}, Levels.{level_as_gate, processor_of as level_processor}}
@@ -21,12 +21,12 @@ use Rattle.node_words.specs.Nodes.{opens_in}
 use Rattle.freeze_levels.proofs.holder_laws.HolderLaws.{opens as holders_open}
 use Rattle.freeze_laws.proofs.{levels.CitedLaws.{opening_is_right}, stages.CitedLaws.{opening_is_right as stages_open}}
 use Rattle.mount_counts.specs.Roles.{counted, mount_shut, processor_of, sought}
-use Rattle.std.proofs.{Common.{ap, arith, false, inl, inr, refl, subst, sym, true≢false, ℕ, ◌%◌, ◌*◌, ◌<◌, ◌∙◌, ◌≡◌, ◌≤◌}, Math.Path.fun_ext}
+use Rattle.std.proofs.{Common.{ap, arith, false, inl, inr, refl, sym, true≢false, ℕ, ◌%◌, ◌*◌, ◌<◌, ◌∙◌, ◌≡◌, ◌≤◌}, Math.Path.fun_ext}
 use Rattle.std.proofs.lemmas.Bool.{cases_Bool, ltb-true, Decides.eqb_tells}
 use Rattle.std.specs.Prelude.{List, None, Option, Some, [], is_some, nat_lt, ◌∷◌}
 
 pub idle_is : (p : Option Phase) → is_some p ≡ false → p ≡ None
-idle_is a0 h = grind arith
+idle_is p h = grind arith
 
 -- a task with this view may begin the operation
 abbrev pub MayBeginAt : Config → View → Op → Type 0
@@ -88,7 +88,7 @@ module _ (c : Config) (lim : IsWithin c) where
   pub legal_more : (old new : State) (t : ℕ) (a : Option Action) (earlier : List Done) → Moves c old t a new →
       IsLegal (model_limits c) earlier → end_of earlier ≡ old →
       IsLegal (model_limits c) (with_action t a earlier) × (end_of (with_action t a earlier) ≡ new)
-  legal_more old new t a3 earlier m legal ends = grind arith
+  legal_more old new t a earlier m legal ends = grind arith
 
   pub run_keeps : (es : List Entry) (w : World) (earlier : List Done) → IsGood c w → IsLegal (model_limits c) earlier →
       end_of earlier ≡ shown c w →

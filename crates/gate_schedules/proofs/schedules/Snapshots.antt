@@ -2,7 +2,7 @@
 use Rattle.std.proofs.{Common.{◌≡◌, ℕ, ◌<◌, refl, sym, subst, ap, ◌∙◌, inl, inr, arith}, lemmas.Bool.{cases_Bool, ltb-true}}
 use Rattle.std.specs.Prelude.{nat_lt, Option, Some, None, List, [], ◌∷◌, length, slice_index}
 use Rattle.finite_sums.proofs.Totals.{each_updated, total_same}
-use Rattle.access_model.specs.{Histories.{Done, end_of, IsLegal, own_part, IsMerge}, States.{State, size_of, IsDirectory}}
+use Rattle.access_model.specs.{Histories.{Done, end_of, IsLegal, own_part, IsMerge}, States.{State, size_of}}
 use Rattle.access_model.specs.declared.{actions.{Action.Action, NodeInfo.NodeInfo}, errors.GateError.GateError}
 use Rattle.freeze_laws.{proofs.moments.Moments.{is_now, stays}, specs.moments.Moments.HaveDone}
 use Rattle.cpu_words.specs.Hooks.{HookAnswer}
@@ -19,7 +19,7 @@ use Rattle.gate_schedules.proofs.trees.worlds.Frozen.{frozen_whole}
 -- the parent of a node is a directory also in a tree that shows the same nodes
 directory_as : (nodes : ℕ) (old new : ℕ → Option NodeInfo) → ((n : ℕ) → n < nodes → old n ≡ new n) → (node : Option NodeInfo) →
     HasDirectory nodes old node → HasDirectory nodes new node
-directory_as nodes old new same a4 h = grind arith
+directory_as nodes old new same node h = grind arith
 
 -- and such a tree is as sound
 pub sound_as : (nodes used used' : ℕ) (old new : ℕ → Option NodeInfo) (kids kids' : ℕ → ℕ) → used ≡ used' →

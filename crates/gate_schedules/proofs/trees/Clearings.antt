@@ -1,7 +1,7 @@
 -- A clearing of the dirty marks; the tree is sealed and opened again; a snapshot; what holds where nothing is charged.
 use Rattle.std.proofs.Common.{◌≡◌, ℕ, suc, ◌<◌, ◌≤◌, false, sym, ap, ◌∙◌, subst, inl, inr, arith}
 use Rattle.std.proofs.lemmas.Bool.{ne_eqb, Decides.eqb_tells}
-use Rattle.std.specs.Prelude.{Option, Some, None}
+use Rattle.std.specs.Prelude.{Option, None}
 use Rattle.finite_sums.{proofs.Totals.{update_same, each_updated, total_none}, specs.Sums.update}
 use Rattle.access_model.specs.{States.{is_dirty}, declared.actions.{Action.Action, NodeInfo.NodeInfo}}
 use Rattle.node_words.proofs.{ClearedMarks.{clean_stays, cleared_is, marked_file, file_shown, directory_clean}, Packing.{word_returns}}
@@ -15,7 +15,7 @@ use Rattle.gate_schedules.specs.trees.Events.{turned, with_node, cleared_word, t
 
 parent_there : (nodes : ℕ) (node : ℕ → ℕ) (entry : Option NodeInfo) → HasParent nodes node entry →
     HasDirectory nodes (tree_shown node) entry
-parent_there nodes node a2 h = grind arith
+parent_there nodes node entry h = grind arith
 
 module _ (c : Bounds) (s : TreeState) (good : TreeHolds c s) where
   -- with other flags, where these have what they ask for

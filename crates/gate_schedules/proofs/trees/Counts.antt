@@ -27,7 +27,7 @@ pub child_charge_le : (d : ℕ) (r : Role) → child_charge d r ≤ 1
 child_charge_le d r = grind arith
 
 removal_le : (r : Role) → removal r ≤ 1
-removal_le a0 = grind arith
+removal_le r = grind arith
 
 -- what the tree says of the parent of a file that was loaded
 file_parent : (c : Bounds) (node : ℕ → ℕ) (word : ℕ) (file : NodeWord) → node_shown word ≡ info_of file → file.kind ≡ Some Kind.File →

@@ -1,32 +1,18 @@
 -- The numbers of a phase stay in range, and each word of its events is there.
-use Rattle.std.proofs.{Common.{◌≡◌, ℕ, Bool, true, false, ◌<◌, arith}, lemmas.Grind.{common_steps}}
-use Rattle.std.specs.Prelude.{◌==◌, Option, Some, Result, Ok, if◌then◌else◌}
-use Rattle.access_model.specs.{Replies.map_next, declared.{errors.GateError.GateError, replies.Next.Next}}
+use Rattle.std.proofs.{Common.{◌≡◌, ℕ, ◌<◌, arith}, lemmas.Grind.{common_steps}}
+use Rattle.access_model.specs.{Replies.map_next}
 use Rattle.cpu_words.specs.Hooks.{HookAnswer}
-use Rattle.node_words.proofs.Words.{file_narrow}
 use Rattle.gated_tree.specs.Calls.{CreateStepFits, RemoveStepFits, MoveStepFits, SnapshotStepFits, TreePhaseFits, NextFits}
 use Rattle.gated_tree.specs.Phases.{after, create_after, remove_after, grow_after}
-use Rattle.gated_tree.specs.{Phases.{move_after, at_move, mark_after, open_after, snapshot_after}, Roles.{Bounds, AreWithin}}
+use Rattle.gated_tree.specs.{Phases.{move_after, mark_after, open_after, snapshot_after}, Roles.{Bounds, AreWithin}}
 use Rattle.gated_tree.specs.declared.changes.{Create.Create, CreateStep.CreateStep, MoveStep.MoveStep, MoveTo.MoveTo, Remove.Remove, RemoveStep.RemoveStep}
 use Rattle.gated_tree.specs.declared.{growth.{Grow.{Grow}, GrowStep.{GrowStep}}, marks.{Mark.{Mark}, MarkStep.{MarkStep}}}
 use Rattle.gated_tree.specs.declared.{opens.{OpenFile.{OpenFile}, OpenStep.{OpenStep}}, phases.TreePhase.{TreePhase}}
 use Rattle.gated_tree.specs.declared.snapshots.{Snapshot.Snapshot, SnapshotStep.SnapshotStep}
-use Rattle.node_words.specs.{Nodes.{word_of, file_in, directory_in}, Phases.{after_look, clear_after}}
-use Rattle.node_words.specs.declared.{marks.ClearMarks.{ClearMarks}, nodes.NodeWord.{NodeWord}}
+use Rattle.node_words.specs.{Phases.{clear_after}}
+use Rattle.node_words.specs.declared.{marks.ClearMarks.{ClearMarks}}
 
 module _ (c : Bounds) (within : AreWithin c) (t : ℕ) where
-  -- what comes after a look at a node
-  looked_fits : {P : Type 0} (to : P → TreePhase) (again : P) (from : NodeWord → P) (r : Option (Result NodeWord GateError)) →
-      TreePhaseFits c t (to again) → ((node : NodeWord) → r ≡ Some (Ok node) → TreePhaseFits c t (to (from node))) →
-      NextFits c t (map_next to (after_look again from r))
-  looked_fits to again from r fits found = grind arith
-
-  -- either of two that fit
-  either : {P : Type 0} (to : P → TreePhase) (b : Bool) (x y : Next P) → NextFits c t (map_next to x) → NextFits c t (map_next to y) →
-      NextFits c t (map_next to (if b then x else y))
-  either to true x y f g = f
-  either to false x y f g = g
-
   create_fits : (x : Create) (step : CreateStep) (found : ℕ) → x.dir < c.nodes → x.nodes ≡ c.nodes → CreateStepFits c step →
       NextFits c t (map_next TreePhase.Create (create_after x step found).0)
   create_fits x step found d same fits = grind (arith, common_steps)
@@ -41,7 +27,7 @@ module _ (c : Bounds) (within : AreWithin c) (t : ℕ) where
 
   move_fits : (x : MoveTo) (step : MoveStep) (found : ℕ) → x.file < c.nodes → x.dir < c.nodes → MoveStepFits step →
       NextFits c t (map_next TreePhase.MoveTo (move_after x step found).0)
-  move_fits x a1 found n d fits = grind (arith, common_steps)
+  move_fits x step found n d fits = grind (arith, common_steps)
 
   mark_fits : (x : Mark) (step : MarkStep) (found : ℕ) → x.file < c.nodes → NextFits c t (map_next TreePhase.Mark (mark_after x step found).0)
   mark_fits x step found n = grind (arith, common_steps)

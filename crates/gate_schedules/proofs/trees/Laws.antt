@@ -1,7 +1,7 @@
 -- Any event at the tree: a role changes with the counts, or with one node word.
 use Rattle.std.proofs.Common.{◌≡◌, ℕ, zero, suc, ◌+◌, ◌<◌, ◌≤◌, true, false, refl, sym, ap, ◌∙◌, subst, inl, inr, arith}
 use Rattle.std.proofs.lemmas.Bool.{cases_Bool, cases_lt, eq-eqb, ne_eqb}
-use Rattle.std.specs.Prelude.{◌⊎◌, Option, Some, None, nat_lt}
+use Rattle.std.specs.Prelude.{◌⊎◌, Option, Some, nat_lt}
 use Rattle.finite_sums.{proofs.Totals.{each_updated, total_updated, total_changed_by, total_at}, specs.Sums.{update, total}}
 use Rattle.access_model.specs.{States.{size_of, is_dirty, is_removed, one_if, IsDirectory}, declared.actions.{Kind.Kind, NodeInfo.NodeInfo}}
 use Rattle.node_words.proofs.Words.{word_shows, word_opens}
@@ -53,7 +53,7 @@ freeing_is c used removed node kids n r e h = grind arith
 -- a node with this entry still has its parent where directories stay directories
 parent_kept : (nodes : ℕ) (node node' : ℕ → ℕ) → ((d : ℕ) → IsDirectory (node_shown (node d)) → IsDirectory (node_shown (node' d))) →
     (entry : Option NodeInfo) → HasParent nodes node entry → HasParent nodes node' entry
-parent_kept nodes node node' dirs a4 h = grind arith
+parent_kept nodes node node' dirs entry h = grind arith
 
 -- any node but the root is a child of its parent
 pub child_is : (d n : ℕ) (entry : Option NodeInfo) → 0 < n → is_child d n entry ≡ has_parent d entry

@@ -2,24 +2,24 @@
 use Rattle.std.proofs.lemmas.Grind.{common_steps}
 use Rattle.access_model.specs.{Replies.map_next, States.{Limits, State, openers}, declared.actions.{Action.Action, Holders.Holders, NodeInfo.NodeInfo}}
 use Rattle.access_model.specs.declared.replies.{Next.Next, Reply.Reply}
-use Rattle.cpu_words.specs.{Hooks.HookAnswer, Touches.{event_of, found_by}, Words.Words}
+use Rattle.cpu_words.specs.{Hooks.HookAnswer, Words.Words}
 use Rattle.finite_sums.proofs.Totals.{each_updated}
 use Rattle.finite_sums.specs.Sums.{update}
-use Rattle.freeze_levels.specs.{Freezes.{freeze_after, freeze_next}, Holders.holders_in}
-use Rattle.freeze_levels.specs.declared.{freezes.{Freeze.Freeze, FreezeStep.FreezeStep}, thaws.{Thaw.Thaw}}
+use Rattle.freeze_levels.specs.{Holders.holders_in}
+use Rattle.freeze_levels.specs.declared.{freezes.{Freeze.Freeze}, thaws.{Thaw.Thaw}}
 use Rattle.gate_schedules.proofs.frames.{Frames.{left_alone, opens_left, view_as}, Known.{IsOwnersWork, known_after}}
 use Rattle.gate_schedules.proofs.frames.Stages.{IsStageEvent, shown_by, stage_action, stage_effect, stages_after, stages_in}
 use Rattle.gate_schedules.proofs.{levels.LevelPositions.{LevelsHold, left_world}, mounts.Parts.{is_known_part, known_is}}
-use Rattle.gate_world.specs.{Configs.model_limits, Fits.{FreezeFits, HasFile, file_of}, traces.Found.is_load, Holdings.Holdings, Owners.{is_owned, takes_lock}}
-use Rattle.gate_world.specs.{SameRoles.{Roles, no_roles, roles_of}, Roles.{freeze_owns}, Rules.{AtLevel, AtMount, Files}}
+use Rattle.gate_world.specs.{Configs.model_limits, Fits.{FreezeFits, HasFile, file_of}, Holdings.Holdings}
+use Rattle.gate_world.specs.{SameRoles.{Roles, no_roles, roles_of}, Rules.{AtLevel, AtMount, Files}}
 use Rattle.gate_world.specs.Rules.{Fitting, Holding, Holds, IsGood, Known, Moves, Owner, OwnerHolds, Part, Sections, Stages, StepKeeps, SyncAt, Tree, ViewFits}
-use Rattle.gate_world.specs.{Rules.{owns, stage_role_of, stage_roles}, Shown.shown, Views.{added_by, has_open, held_of, phase_after, taken_by}, Worlds.World}
-use Rattle.gate_world.specs.{Worlds.{after_step, phase_action, value_at}, declared.{config.Config.Config, views.View.View, work.Phase.Phase}}
+use Rattle.gate_world.specs.{Rules.{stage_role_of, stage_roles}, Shown.shown, Views.{added_by, has_open, held_of, phase_after, taken_by}, Worlds.World}
+use Rattle.gate_world.specs.{Worlds.{after_step, phase_action}, declared.{config.Config.Config, views.View.View, work.Phase.Phase}}
 use Rattle.node_words.specs.Nodes.{node_shown, opens_in}
 use Rattle.percpu_rwsem.specs.Writers.{at_down_write, down_write_after}
 use Rattle.percpu_rwsem.specs.declared.writers.{DownWrite.DownWrite, DownWriteStep.DownWriteStep}
 use Rattle.freeze_laws.specs.stages.{Events.{StageEvent, action_of as stage_action_of}, Shown.{AsksOthers, ShowsStages, state_after}}
-use Rattle.std.proofs.{Common.{ap, arith, false, inl, inr, refl, subst, sym, true, true≢false, ℕ, ◌<◌, ◌∙◌, ◌≡◌, ◌⊎◌}, lemmas.Bool.cases_Bool}
+use Rattle.std.proofs.{Common.{ap, arith, false, inl, inr, refl, subst, sym, true≢false, ℕ, ◌<◌, ◌∙◌, ◌≡◌}, lemmas.Bool.cases_Bool}
 use Rattle.std.specs.Prelude.{None, Ok, Option, Some}
 
 -- of these roles those that no freeze and no thaw has
@@ -165,16 +165,6 @@ module _ (d : DownWrite) (P : Next DownWrite → Type 0) (go : (s : DownWriteSte
     (wait : (s : DownWriteStep) → P (Next.Wait (at_down_write d s))) (done : P (Next.Done (Ok Reply.Unit))) where
   pub down_write_comes : (s : DownWriteStep) (found : ℕ) → P (down_write_after d s found).0
   down_write_comes s found = grind arith
-
-freeze_changes : (x : Freeze) (s : FreezeStep) (hook : HookAnswer) → is_owned (freeze_next x s hook).0 ≡ true →
-    (is_load (freeze_next x s hook).1 ≡ true) ⊎ (freeze_owns s ≡ 1)
-freeze_changes x s hook h = grind arith
-
--- and comes to own `umount` by taking it
-freeze_comes_to : (c : Config) (x : Freeze) (s : FreezeStep) (hook : HookAnswer) (value : ℕ) → FreezeFits c x.holder s →
-    owns (phase_after (map_next Phase.Freezes (freeze_after x s (found_by (freeze_next x s hook).1 value) hook).0)) ≡ 1 →
-    (freeze_owns s ≡ 1) ⊎ (takes_lock (event_of (freeze_next x s hook).0 (freeze_next x s hook).1 value) ≡ true)
-freeze_comes_to c x s hook value f h = grind arith
 
 pub freeze_work : (c : Config) (w : World) (x : Freeze) (hook : HookAnswer) → FreezeFits c x.holder x.step → IsOwnersWork w (Phase.Freezes x) hook
 freeze_work c w x hook f = grind (arith, common_steps)

@@ -4,7 +4,6 @@ use Rattle.std.{proofs.{Common.{◌≡◌, ℕ, ◌<◌, refl, sym, ap, ◌∙�
 use Rattle.finite_sums.{proofs.Totals.update_same, specs.Sums.update}
 use Rattle.access_model.specs.{Actions.after_action, declared.actions.Action.Action}
 use Rattle.cpu_words.specs.Words.{Words}
-use Rattle.node_words.specs.Nodes.{dirty_in}
 use Rattle.gated_tree.specs.Roles.{TreeState, sealed_by}
 use Rattle.gate_schedules.specs.trees.Events.{Event, Opens}
 use Rattle.freeze_levels.specs.Holders.{holders_in}

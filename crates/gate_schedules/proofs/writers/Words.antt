@@ -1,19 +1,19 @@
 -- Events of a down-write and of an up-write: the words that they leave, the counts, and what they add.
-use Rattle.std.{proofs.Common.{◌≡◌, ℕ, ◌<◌, refl, sym, ◌∙◌, subst, arith}, specs.Prelude.{◌==◌, if◌then◌else◌, Option, Some, None}}
+use Rattle.std.{proofs.Common.{◌≡◌, ℕ, ◌<◌, refl, sym, ◌∙◌, subst, arith}, specs.Prelude.{Option, Some, None}}
 use Rattle.finite_sums.specs.Sums.{update}
 use Rattle.access_model.specs.{Actions.after_action, States.State, declared.{actions.Action.Action}}
-use Rattle.cpu_words.specs.{Sums.sum_taking, Touches.left, Words.{Words, read, put}, declared.sums.Taken.Taken}
+use Rattle.cpu_words.specs.{Touches.left, Words.{Words, read, put}}
 use Rattle.node_words.specs.Nodes.{node_shown, opens_in}
 use Rattle.gated_tree.specs.Roles.{Out, Clearing}
 use Rattle.gate_schedules.specs.trees.Events.{Event, turned, BeginsClearing}
-use Rattle.percpu_rwsem.specs.Writers.{down_write_next, down_write_after, down_write_summed, up_write_next, up_write_after}
+use Rattle.percpu_rwsem.specs.Writers.{down_write_next, down_write_after, up_write_next, up_write_after}
 use Rattle.percpu_rwsem.specs.declared.writers.{DownWrite.DownWrite, DownWriteStep.DownWriteStep, UpWrite.UpWrite, UpWriteStep.UpWriteStep}
 use Rattle.freeze_levels.specs.Holders.{holders_in}
 use Rattle.freeze_laws.specs.stages.{Events.{StageEvent, action_of as stage_action_of}, Shown.state_after}
 use Rattle.gate_world.specs.{Configs.{IsWithin, model_limits}, Levels.{level_added_after, level_taken_after}, Rules.{Holds, IsGood, Tree, ViewFits}}
 use Rattle.gate_world.specs.{Rules.{holder_role_of, owns}, Shown.shown, Trees.{is_bare_at, is_sealed, tree_bounds, tree_of, tree_role_of, tree_roles}}
 use Rattle.gate_world.specs.{Views.{added_after, taken_after}, Worlds.{World}, declared.{config.Config.{Config}, views.View.{View}}}
-use Rattle.gate_schedules.proofs.frames.{Frames.{unwritten, left_alone}, Holders.holders_stay, OperationLaws.by_bool, Stages.{IsStageEvent, stages_in}}
+use Rattle.gate_schedules.proofs.frames.{Frames.{unwritten, left_alone}, Holders.holders_stay, Stages.{IsStageEvent, stages_in}}
 use Rattle.gate_schedules.proofs.{levels.LevelPositions.{LevelsHold, left_world}, trees.worlds.Trees.{tree_then, tree_after}, writers.Owner.owner_stays}
 use Rattle.gate_schedules.proofs.writers.Parts.{IsWriter, SameAtMounts, LeavesRest, AsksWhere, WriterLaw, writer_law}
 
@@ -49,9 +49,6 @@ up_write_counts_none u s f = grind arith
 
 -- What an event of a down-write adds: nothing, or that its level is passed.
 module _ (d : DownWrite) (P : Option Action → Type 0) (none : P None) (pass : P (Some (Action.Pass d.level))) where
-  summed_adds : (n : Taken) → P (down_write_summed d n).1
-  summed_adds a0 = grind arith
-
   -- each event
   pub down_write_adds : (s : DownWriteStep) (found : ℕ) → P (down_write_after d s found).1
   down_write_adds s found = grind arith
@@ -59,7 +56,7 @@ module _ (d : DownWrite) (P : Option Action → Type 0) (none : P None) (pass : 
 -- and what one of an up-write adds: nothing, or that its level is reopened
 pub up_write_adds : (u : UpWrite) (P : Option Action → Type 0) → P None → P (Some (Action.Reopen u.level)) → (s : UpWriteStep) (found : ℕ) →
     P (up_write_after u s found).1
-up_write_adds u a1 none opens a4 found = grind arith
+up_write_adds u P none opens s found = grind arith
 
 pub pass_leaves : (s : State) (t i : ℕ) → LeavesRest s (after_action s t (Action.Pass i)) s.tree s.holders
 pass_leaves s t i = record { mounts_same = refl; levels_same = refl; opens_same = refl; ro_same = refl; tree_same = refl; holders_same = refl }

@@ -19,7 +19,7 @@ module _ {H : Type 0} (answers : HookCall → DealtNumbers → H → HookAnswer 
   -- so one more stands among all
   pub asks_more : (wanted : Option HookCall) (at : DealtNumbers) (hook : HookAnswer) (earlier : List Ask) (before h left : H) →
       WereAsked answers earlier before h → AskedFor wanted at hook h left → WereAsked answers (asks_with wanted at hook earlier) before left
-  asks_more a0 at hook earlier before h left were asked = grind arith
+  asks_more wanted at hook earlier before h left were asked = grind arith
 
   -- where a hook is wanted, and this one was asked
   pub was_asked : (wanted : Option HookCall) (at : DealtNumbers) (call : HookCall) → wanted ≡ Some call → (hook : HookAnswer) (h left : H)

@@ -1,15 +1,15 @@
 -- A refused call has its cause at a moment of a schedule, between call and return.
 use Rattle.std.proofs.Common.{arith}
-use Rattle.std.proofs.Common.{◌≡◌, ℕ, List, [], ◌∷◌, ◌++◌, refl, sym, ap, ◌∙◌, subst}
+use Rattle.std.proofs.Common.{◌≡◌, ℕ, List, [], ◌∷◌, ◌++◌, sym, ap, ◌∙◌, subst}
 use Rattle.std.specs.Prelude.{Some, Err}
 use Rattle.access_model.specs.declared.{errors.GateError.{GateError}, replies.Next.TheVariants.{Done}}
-use Rattle.cpu_words.specs.{Touches.{found_by}, declared.events.Touch.{Touch, TheVariants.{Load}}}
+use Rattle.cpu_words.specs.{Touches.{found_by}, declared.events.Touch.{Touch}}
 use Rattle.gate_schedules.proofs.{schedules.HeadlineProof.{whole_causes, whole_rule}, operations.AllOperations.{phase_keeps}}
 use Rattle.gate_world.specs.{refusals.Causes.HasCause, Headline.world_after, traces.TraceStates.{TraceState, state_of_trace}, Work.{next_of, after_of}}
 use Rattle.gate_world.specs.{Worlds.{World, found_at}, traces.Snapshots.{completes}, declared.entries.Entry.{Entry}}
 use Rattle.gate_world.specs.declared.{config.Config.Config, operations.Op.Op, views.Traced.Traced}
 use Rattle.gated_tree.specs.declared.trees.TreeWords.{TreeWords}
-use Rattle.gate_steps.specs.{Seating.{DealtNumbers}, call_events.{Caused.{IsCausedBy, HasItsCause}, Runs.{completed_by, AreMoves, Called}}}
+use Rattle.gate_steps.specs.{Seating.{DealtNumbers}, call_events.{Caused.{HasItsCause}, Runs.{completed_by, AreMoves, Called}}}
 use Rattle.gate_steps.specs.call_events.Spans.{HappensAfter, IsEventDuring, IsCausedDuring, HasItsCauseDuring, IsTreeDuring}
 use Rattle.gate_steps.specs.call_events.SeatedTasks.{SeatedTask, own_number}
 use Rattle.gate_steps.proofs.call_events.{Running.{course_is, completed_is}, Spanning.{last_event, each_event}}
@@ -46,10 +46,6 @@ module _ (c : Config) (items : DealtNumbers) (op : Op) (earlier : List Traced) (
             (whole_causes c during.within during.entries n h.phase e.hook refusal during.task h.at done);
       }
 
-  -- so the same in a schedule alone
-  alone : IsCausedDuring c items op earlier e refusal seen gone → IsCausedBy c n op earlier e refusal
-  alone caused = grind arith
-
 trace_caused : (c : Config) (items : DealtNumbers) (op : Op) (refusal : GateError) (seen gone : List (List Entry)) (trace : List Traced) →
     (state_of_trace c (own_number items) op trace).comes ≡ Done (Err refusal) → AreMoves c op items seen trace gone →
     HasItsCauseDuring c items op trace refusal seen gone
@@ -60,7 +56,7 @@ trace_caused c items op refusal seen gone (e ∷ earlier) ends moves =
 
 all_alone : (c : Config) (items : DealtNumbers) (op : Op) (refusal : GateError) (seen gone : List (List Entry)) (trace : List Traced) →
     HasItsCauseDuring c items op trace refusal seen gone → HasItsCause c (own_number items) op trace refusal
-all_alone c items op refusal seen gone a6 h = grind arith
+all_alone c items op refusal seen gone trace h = grind arith
 
 -- so a refused call has it
 pub call_caused_during : (op : Op) (old left : SeatedTask) (refusal : GateError) (called : Called op old left (Err refusal)) →

@@ -88,7 +88,7 @@ closing_next x level next added asks same is = grind arith
 -- the marks are cleared
 clearing_next : (x : Freeze) (marks : ClearMarks) (node : Option ℕ) (added : List Action) (asks : List Ask) → NoneAsked added asks →
     AtNext (after_clearing x (clears_at marks node)) added asks
-clearing_next x marks a2 added asks is = grind arith
+clearing_next x marks node added asks is = grind arith
 
 -- the levels are reopened
 reopening_next : (x : Freeze) (level code : ℕ) (next : Next UpWrite) (added : List Action) (asks : List Ask) →

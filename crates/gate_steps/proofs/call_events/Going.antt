@@ -1,6 +1,6 @@
 -- What an event leaves of a task's fields and view.
 use Rattle.std.proofs.lemmas.Grind.{common_steps}
-use Rattle.std.proofs.Common.{arith, ◌≡◌, ℕ, Bool, List, [], ◌∷◌, refl, sym, ap, ◌∙◌, subst}
+use Rattle.std.proofs.Common.{arith, ◌≡◌, ℕ, Bool, List, [], refl, sym, ap, ◌∙◌, subst}
 use Rattle.gate_world.specs.declared.entries.Entry.{Entry}
 use Rattle.gate_world.specs.{Accesses.accesses_after, Fits.{PhaseFits, Fits, ActionFits}, Holdings.{Agree, holdings_of, held_after}, Views.held_of}
 use Rattle.gate_world.specs.{Views.{phase_after, view_after_with_others}, Work.{next_of, after_of}}
@@ -20,11 +20,11 @@ use Rattle.atomic_table.specs.Seated.{TableId}
 
 -- a view stands where its phase says
 phase_ok : (c : Config) (n : ℕ) (v : View) (o : Option Phase) → v.phase ≡ o → PhaseOk c None o (numbered n v)
-phase_ok c n v a3 e = grind arith
+phase_ok c n v o e = grind arith
 
 -- a beginning leaves the accesses
 entered_actions : (v : View) (begins : Option Op) (phase : Phase) → (entered v begins phase).actions ≡ v.actions
-entered_actions v a1 phase = grind arith
+entered_actions v begins phase = grind arith
 
 module _ (number : ℕ) (c : Config) (begins : Option Op) (state : TaskState) (flags : List Bool) (phase : Phase) (is : state.phase ≡ Some phase)
     (hook : HookAnswer) (found : ℕ) where
@@ -86,11 +86,11 @@ module _ (number : ℕ) (c : Config) (begins : Option Op) (state : TaskState) (f
   -- the fields that follow an event are what the seat knows after it
   pub matches_after : (items : DealtNumbers) → GhostAgrees number c begins state flags items →
       GhostAgrees number c None kept_after flags (items_after begins phase hook found items)
-  matches_after a0 t = grind (arith, common_steps, ghost_agrees_after)
+  matches_after items t = grind (arith, common_steps, ghost_agrees_after)
 
   -- and the action can be done
   pub acts_after : (items : DealtNumbers) → GhostAgrees number c begins state flags items → ActionFits (task_holdings state) done.1
-  acts_after a0 t = grind arith
+  acts_after items t = grind arith
 
 -- the same of the values that the code has
 module _ (number : ℕ) (c : Config) (begins : Option Op) (state : TaskState) (flags : List Bool) (phase : Phase) (is : state.phase ≡ Some phase)

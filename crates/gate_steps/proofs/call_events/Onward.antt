@@ -1,5 +1,5 @@
 -- An operation that goes on after an event, at the phase that comes next.
-use Rattle.std.proofs.Common.{arith, ◌≡◌, ◌⊎◌, inl, inr, ap, ℕ, ◌<◌, Bool, List, subst}
+use Rattle.std.proofs.Common.{arith, ◌≡◌, ◌⊎◌, ap, ℕ, ◌<◌, Bool, List, subst}
 use Rattle.gate_steps.specs.{declared.seating.Knowledge.{Knowledge}, Seating.{DealtNumbers}}
 use Rattle.gate_steps.specs.call_events.{Runs.{OpUnderWay, OpAfterStep, Called, IsTrying}, Stepped.{Stepped}}
 use Rattle.gate_steps.specs.call_events.{SeatedTasks.{SeatedTask, task_state}, GhostAgrees.{GhostAgrees}, Turns.{state_at, step_was}}
@@ -16,7 +16,7 @@ use Rattle.gate_steps.proofs.call_events.{Running.{events_left, falls}, Turning.
 -- the phase that the operation stands at, where it goes on
 pub stands_at : {A : Type 0} (as_phase : A → Phase) (next : Next A) (x : A) → (next ≡ Go x) ⊎ (next ≡ Wait x) →
     phase_after (map_next as_phase next) ≡ Some (as_phase x)
-stands_at as_phase next x a3 = grind arith
+stands_at as_phase next x h = grind arith
 
 -- and what comes next, where it replied
 pub done_at : {A : Type 0} (as_phase : A → Phase) (next : Next A) (answer : Result Reply GateError) → next ≡ Done answer →

@@ -35,7 +35,7 @@ not_entered o l = grind arith
 -- an event that begins an operation is one of the numbers that have begun it
 after_entered : (begins : Option Op) (p : Phase) (h : HookAnswer) (found : ℕ) (l : DealtNumbers) →
     items_after None p h found (entered_items begins (Some p) l) ≡ items_after begins p h found l
-after_entered begins p h found a4 = grind arith
+after_entered begins p h found l = grind arith
 
 -- the event of the phase that stands comes next
 next_is : (s : Next Phase) (p : Phase) (e : Traced) → phase_after s ≡ Some p → IsEventOf p e → IsNext s e
@@ -49,7 +49,7 @@ move_is c op items earlier e seen gone s p is h = grind arith
 -- what an event found is what its word may hold
 move_holds : (c : Config) (begins : Option Op) (p : Phase) (hook : HookAnswer) (items : DealtNumbers) (found : ℕ)
     (seen gone : List (List Entry)) → HasWitness c begins p hook items found seen gone → ReadIsValid p (next_of p hook).0 found
-move_holds c begins p hook a4 found seen gone move = grind arith
+move_holds c begins p hook items found seen gone move = grind arith
 
 -- an event leaves one history
 move_has_history : (c : Config) (begins : Option Op) (p : Phase) (hook : HookAnswer) (items : DealtNumbers) (found : ℕ)
@@ -81,7 +81,7 @@ course_is s p added e is = grind arith
 
 -- its action goes before all earlier ones
 actions_append : (a : Option Action) (l m : List Action) → actions_after a (l ++ m) ≡ actions_after a l ++ m
-actions_append a0 l m = grind arith
+actions_append a l m = grind arith
 
 -- a step that ended has an answer
 done_is : (x : Next Phase) (a : Result Reply GateError) → progress_of x ≡ Ended a → x ≡ Done a
@@ -123,7 +123,7 @@ refused_none e o is at = grind arith
 
 -- what was not refused has no refusal
 pub not_refused : (o : Option GateError) → Ok tt ≡ unless_refused o → o ≡ None
-not_refused a0 is = grind arith
+not_refused o is = grind arith
 
 -- an admitted one has none
 pub admitted_some : (o : Option GateError) (r : GateError) → Ok tt ≡ unless_refused o → o ≡ Some r → ⊥
@@ -388,11 +388,11 @@ module _ (op : Op) (start now left : SeatedTask) (step : Step) (h : HookAnswer) 
 
 -- what is no more than the most is no more than the most of all
 few : (most : Option ℕ) (trace : List Traced) → IsBounded most → IsShort most trace → IsSmall most → length trace ≤ most_events_of_all
-few a0 trace bounded short small = grind arith
+few most trace bounded short small = grind arith
 
 -- the own view's trace is the operation's
 own_trace : (c : Config) (op : Op) (trace : List Traced) (l : DealtNumbers) → length (own_view (ran_items c op trace l)).trace ≤ length trace
-own_trace c op trace a3 = grind arith
+own_trace c op trace l = grind arith
 
 -- an operation that has a most number of events has no more than the most of all
 pub few_steps : (op : Op) (start now : SeatedTask) → IsWithin start.config → IsBounded (most_events start.config op) → OpUnderWay op start now →
@@ -451,12 +451,12 @@ was_done read op old left answer outcome told is called = record {
 
 -- an answer that is told whole
 pub told_whole : (answer : Result Reply GateError) → told_as the_reply answer ≡ answer
-told_whole a0 = grind arith
+told_whole answer = grind arith
 
 -- what is told of an answer that was told whole
 pub told_twice : {A : Type 0} (read : Reply → A) (answer : Result Reply GateError) → told_as read (told_as the_reply answer) ≡
     told_as read answer
-told_twice read a1 = grind arith
+told_twice read answer = grind arith
 
 -- a call that tells of another's answer what it reads of replies
 abbrev pub was_told : {A : Type 0} (read : Reply → A) (op : Op) (old left : SeatedTask) (answer : Result Reply GateError)

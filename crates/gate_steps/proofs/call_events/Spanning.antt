@@ -5,27 +5,23 @@ use Rattle.std.specs.Prelude.{is_some, false, Option, Some, None}
 use mathlib.Core.Option.{some}
 use lib.ListN.{get_elem?}
 use Rattle.access_model.specs.declared.replies.Next.{Next, TheVariants.{Go, Wait, Done}}
-use Rattle.cpu_words.specs.{Hooks.HookAnswer, Touches.{event_of}, Words.Words}
+use Rattle.cpu_words.specs.{Hooks.HookAnswer, Touches.{event_of}}
 use Rattle.gate_schedules.proofs.schedules.{Beginnings.may_begin, Entries.begun_on, Runs.run_more}
 use Rattle.gate_world.specs.{refusals.Causes.{since_begun, trail, trail_of}, traces.TraceStates.{state_of_trace}, Headline.{world_after}}
-use Rattle.gate_world.specs.{Views.{phase_after, with_hook, held_of}, Work.{next_of}, Worlds.{World, happens, run, opening, found_at}}
+use Rattle.gate_world.specs.{Views.{phase_after, with_hook, held_of}, Work.{next_of}, Worlds.{World, happens, run, opening}}
 use Rattle.gate_world.specs.declared.entries.Entry.{Entry, TheVariants.{Begins, Steps}}
 use Rattle.gate_world.specs.declared.{config.Config.Config, operations.Op.Op, views.{Traced.Traced, View.View}, work.Phase.Phase}
 use Rattle.gate_steps.specs.Histories.{IsLike}
-use Rattle.gate_steps.specs.Seating.{DealtNumbers, numbered, IsPrefix, HasRested, done_by, entered, world_entered, StepWitness}
+use Rattle.gate_steps.specs.Seating.{DealtNumbers, numbered, IsPrefix, HasRested, done_by, entered, StepWitness}
 use Rattle.gate_steps.specs.{declared.seating.Numbered.{Numbered}, call_events.Grown.{AllGoOn}}
 use Rattle.gate_steps.specs.call_events.Runs.{ran_view, IsMoveOf, IsNextMove, AreMoves}
 use Rattle.gate_steps.specs.call_events.{Spans.{own_entries, worlds_since, HappensAfter, IsEventDuring}, SeatedTasks.{own_number}}
 use Rattle.gate_steps.proofs.{Dealing.{times-at}, call_events.Grown.{only, next_on}}
 use Rattle.gate_steps.proofs.call_events.Moments.{own_more, own_none, own_one, run_append, run_quiet, idle_since, trail_more, one_since, one_run, more_since}
 
--- a beginning changes no word
-entered_words : (c : Config) (w : World) (t : ℕ) (begins : Option Op) → (world_entered c w t begins).words ≡ w.words
-entered_words c w t a3 = grind arith
-
 -- what isn't under way has no phase
 none_of : (o : Option Phase) → is_some o ≡ false → o ≡ None
-none_of a0 is = grind arith
+none_of o is = grind arith
 
 -- the moment of an event that was a move of a phase, of an operation that was under way with these earlier events
 happens_after : (c : Config) (op : Op) (earlier : List Traced) (e : Traced) (begins : Option Op) (phase : Phase) (x : Numbered)

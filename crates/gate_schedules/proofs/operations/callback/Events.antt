@@ -19,7 +19,7 @@ use Rattle.freeze_laws.specs.levels.Operations.{CallbackIsThere, HoldsOfNext, Kn
 use Rattle.freeze_laws.specs.levels.Roles.{Out as IsApart}
 use Rattle.percpu_rwsem.specs.{Callbacks.{at_callback, callback_after, callback_next}, declared.callbacks.Callback.{Callback}}
 use Rattle.percpu_rwsem.specs.declared.{callbacks.CallbackStep.{CallbackStep}}
-use Rattle.std.proofs.{Common.{ap, arith, inl, inr, refl, subst, sym, ℕ, ◌<◌, ◌∙◌, ◌≡◌, ◌≤◌}, lemmas.Bool.Decides.{eqb_tells}}
+use Rattle.std.proofs.{Common.{ap, arith, inl, inr, subst, sym, ℕ, ◌<◌, ◌∙◌, ◌≡◌, ◌≤◌}, lemmas.Bool.Decides.{eqb_tells}}
 use Rattle.std.specs.Prelude.{None, Some, if◌then◌else◌}
 
 pub event_of_level : (b : Callback) (s : CallbackStep) → IsEventAt b.level (callback_next b s).0 (callback_next b s).1
@@ -132,7 +132,7 @@ module _ (c : Config) (w : World) (good : IsGood c w) (t : ℕ) (lt : t < c.task
 
   -- what comes after it knows what is to come
   knows_next : HoldsOfNext (λ (x : Callback). (x.tasks ≡ b.tasks) × KnowsCallback x.step) coming
-  knows_next  = grind (arith, common_steps)
+  knows_next = grind (arith, common_steps)
 
   -- it is inside no section before its event and after it
   pub stays_outside : inside seen_after.phase ≡ inside (w.views t).phase

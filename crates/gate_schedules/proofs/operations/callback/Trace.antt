@@ -1,13 +1,11 @@
 -- Traces of a callback.
 use Rattle.std.proofs.lemmas.Grind.{common_steps}
-use Rattle.std.proofs.Common.{◌≡◌, ℕ, refl, sym, subst, arith}
+use Rattle.std.proofs.Common.{◌≡◌, ℕ, arith}
 use Rattle.std.specs.Prelude.{List, []}
 use Rattle.access_model.specs.{declared.{actions.Action.Action}}
-use Rattle.cpu_words.specs.Hooks.{HookAnswer}
 use Rattle.percpu_rwsem.specs.declared.{callbacks.{Callback.Callback, CallbackStep.CallbackStep}}
-use Rattle.percpu_rwsem.specs.declared.transitions.Transition.{Transition}
 use Rattle.gate_world.specs.{traces.Found.transitions_made, declared.{config.Config.Config, operations.Op.Op, views.Traced.Traced, work.Phase.Phase}}
-use Rattle.gate_schedules.proofs.traces.TraceInvariant.{InvariantAfterStep, IsInductive}
+use Rattle.gate_schedules.proofs.traces.TraceInvariant.{IsInductive}
 
 -- a callback of this level over so many tasks, at a step
 abbrev pub callback_on : ℕ → ℕ → CallbackStep → Callback
@@ -23,14 +21,6 @@ made_before (CallbackStep.CallsBack transition) = 1
 abbrev pub CallbackAt : ℕ → ℕ → List Traced → Phase → List Action → Type 0
 CallbackAt i tasks trace phase added =
     (s : CallbackStep) × (phase ≡ Phase.Callbacks (callback_on i tasks s)) × (added ≡ []) × (transitions_made i trace ≡ made_before s)
-
-module _ (c : Config) (i tasks value : ℕ) (hook : HookAnswer) (earlier : List Traced) (added : List Action) (none : added ≡ []) where
-  -- what the trace says after the event of a step
-  abbrev TraceAfterStep : CallbackStep → Type 0
-  TraceAfterStep s = InvariantAfterStep (CallbackAt i tasks) c (Op.Callback i) (Phase.Callbacks (callback_on i tasks s)) value hook earlier added
-
-  callback_event : (s : CallbackStep) → transitions_made i earlier ≡ made_before s → TraceAfterStep s
-  callback_event s h = grind arith
 
 pub callback_inductive : (c : Config) (t i : ℕ) → IsInductive (CallbackAt i c.tasks) c t (Op.Callback i)
 callback_inductive c t i = grind (arith, common_steps)

@@ -6,14 +6,8 @@ use Rattle.cpu_words.specs.Hooks.{HookAnswer}
 use Rattle.node_words.specs.Phases.{clear_after}
 use Rattle.gated_tree.specs.Phases.{create_after, remove_after, grow_after, move_after, mark_after, open_after, at_snapshot}
 use Rattle.gated_tree.specs.declared.{phases.TreePhase.TreePhase, snapshots.{Snapshot.Snapshot, SnapshotStep.SnapshotStep}}
-use Rattle.gate_world.specs.{refusals.KeptCauses.{SnapshotCause, TreeCause, CauseOf}, Views.phase_after, Work.after_of}
+use Rattle.gate_world.specs.{refusals.KeptCauses.{TreeCause, CauseOf}, Views.phase_after, Work.after_of}
 use Rattle.gate_world.specs.{Worlds.{World, found_at}, declared.{config.Config.Config, work.Phase.Phase}}
-
--- a snapshot whose view another entry leaves alone: the cause of each step stays
-snapshot_stays : (c : Config) (t : ℕ) (w next : World) (earlier : List World) (x : Snapshot) (s : SnapshotStep) →
-    (next.views t).phase ≡ Some (Phase.Trees (TreePhase.Snapshot (at_snapshot x s))) → SnapshotCause c t w earlier s →
-    SnapshotCause c t next (w ∷ earlier) s
-snapshot_stays c t w next earlier x s e h = grind arith
 
 -- so it is of each call at the tree
 pub tree_stays : (c : Config) (t : ℕ) (w next : World) (earlier : List World) (x : TreePhase) →

@@ -1,57 +1,23 @@
 -- A call at the tree that its next event refuses for what a node is: the event loads that node, and the shown model has it so.
 use Rattle.std.proofs.lemmas.Grind.{common_steps}
-use Rattle.std.proofs.Common.{inl, inr, ◌≡◌, ℕ, refl, subst, arith}
-use Rattle.std.specs.Prelude.{Some, None, Err, List, Option, Result, ◌==◌, ◌+◌, ◌∷◌, if◌then◌else◌, Bool, true, false, nat_lt, option_map}
-use Rattle.access_model.specs.{Replies.map_next, declared.{actions.Kind.Kind, errors.GateError.GateError, replies.{Next.Next, Reply.Reply}}}
+use Rattle.std.proofs.Common.{◌≡◌, ℕ, refl, arith}
+use Rattle.std.specs.Prelude.{Some, Err, List, Option, Result, ◌==◌, ◌+◌, ◌∷◌, if◌then◌else◌, Bool, true, false, nat_lt}
+use Rattle.access_model.specs.{Replies.map_next, declared.{errors.GateError.GateError, replies.{Next.Next, Reply.Reply}}}
 use Rattle.cpu_words.specs.Hooks.{HookAnswer}
-use Rattle.node_words.proofs.Packing.{fields_shown}
 use Rattle.gated_tree.specs.Calls.{IsMoveAnswer, MoveStepFits}
 use Rattle.gated_tree.specs.Phases.{create_after, create_looked, remove_after, grow_after, move_after, mark_after, open_after}
 use Rattle.gated_tree.specs.Phases.{at_open, at_create, at_remove, at_grow, at_move, at_mark}
 use Rattle.gated_tree.specs.declared.changes.{Create.Create, CreateStep.CreateStep, MoveStep.MoveStep, MoveTo.MoveTo, Remove.Remove, RemoveStep.RemoveStep}
 use Rattle.gated_tree.specs.declared.{growth.{Grow.{Grow}, GrowStep.{GrowStep}}, marks.{Mark.{Mark}, MarkStep.{MarkStep}}}
 use Rattle.gated_tree.specs.declared.{opens.{OpenFile.{OpenFile}, OpenStep.{OpenStep}}, phases.TreePhase.{TreePhase}}
-use Rattle.node_words.specs.Nodes.{word_of, unpacked, file_in, directory_in, node_after, node_of, node_shown, info_of, as_file, as_directory, kind_of, kind_in}
-use Rattle.node_words.specs.{Nodes.{is_stray}, Phases.{clear_after, after_look, clears_at}, declared.marks.ClearMarks.{ClearMarks}}
+use Rattle.node_words.specs.Nodes.{word_of, unpacked, file_in, directory_in, node_after, node_shown}
+use Rattle.node_words.specs.{Phases.{clear_after, after_look, clears_at}, declared.marks.ClearMarks.{ClearMarks}}
 use Rattle.node_words.specs.declared.nodes.NodeWord.{NodeWord}
 use Rattle.gate_world.specs.{refusals.Causes.{TellsOf, CallRefused, tree_sees}, Shown.shown, Work.after_of, Worlds.{World, found_at}}
 use Rattle.gate_world.specs.declared.{config.Config.Config, work.Phase.Phase}
 
 pub some_is : {A : Type 0} (a b : A) → Some a ≡ Some b → a ≡ b
 some_is a b e = cc
-
-refused_is : (a b : GateError) (r : Result NodeWord GateError) → r ≡ Err a → r ≡ Err b → a ≡ b
-refused_is a b r e f = cc
-
--- a node that a call refuses to take for a file is free or removed, or a directory
-file_refused : (node : NodeWord) (removed : Bool) (kind : Option Kind) (refusal : GateError) → as_file node removed kind ≡ Err refusal →
-    TellsOf (info_of (record node { kind = kind; removed = removed })) refusal
-file_refused node true None refusal e = subst (TellsOf None) (refused_is GateError.NoEntry refusal (Err GateError.NoEntry) refl e) (inl refl)
-file_refused node false None refusal e = subst (TellsOf None) (refused_is GateError.NoEntry refusal (Err GateError.NoEntry) refl e) (inl refl)
-file_refused node true (Some Kind.File) refusal e =
-    subst (TellsOf (info_of (record node { kind = Some Kind.File; removed = true }))) (refused_is GateError.NoEntry refusal (Err GateError.NoEntry) refl e)
-    (inr refl)
-file_refused node false (Some Kind.File) refusal e = absurd cc
-file_refused node true (Some Kind.Dir) refusal e =
-    subst (TellsOf (info_of (record node { kind = Some Kind.Dir; removed = true }))) (refused_is GateError.IsDir refusal (Err GateError.IsDir) refl e) refl
-file_refused node false (Some Kind.Dir) refusal e =
-    subst (TellsOf (info_of (record node { kind = Some Kind.Dir; removed = false }))) (refused_is GateError.IsDir refusal (Err GateError.IsDir) refl e) refl
-
--- one that it refuses to take for a directory is free, or a file
-directory_refused : (node : NodeWord) (kind : Option Kind) (refusal : GateError) → as_directory node kind ≡ Err refusal →
-    TellsOf (info_of (record node { kind = kind })) refusal
-directory_refused node kind refusal e = grind arith
-
-refused_unless : (look : NodeWord → Option Kind → Result NodeWord GateError) (stray : Bool) (node : NodeWord) (refusal : GateError) →
-    option_map (λ n. look n n.kind) (if stray then None else Some node) ≡ Some (Err refusal) → look node node.kind ≡ Err refusal
-refused_unless look true node refusal e = absurd cc
-refused_unless look false node refusal e = some_is _ _ e
-
-file_unless : (stray : Bool) (node : NodeWord) (refusal : GateError) →
-    option_map (λ n. as_file n n.removed n.kind) (if stray then None else Some node) ≡ Some (Err refusal) →
-    as_file node node.removed node.kind ≡ Err refusal
-file_unless true node refusal e = absurd cc
-file_unless false node refusal e = some_is _ _ e
 
 file_tells : (word : ℕ) (refusal : GateError) → file_in word ≡ Some (Err refusal) → TellsOf (node_shown word) refusal
 file_tells word refusal e = grind (arith, common_steps)
@@ -106,7 +72,7 @@ answer_not answer h = grind arith
 
 -- a clearing of marks is never refused
 clears_not : (x : ClearMarks) (o : Option ℕ) → NotOfNode (clears_at x o)
-clears_not x a1 = grind arith
+clears_not x o = grind arith
 
 module _ (c : Config) (w : World) where
   pub create_node : (x : Create) (s : CreateStep) → NodeHasCause c w (TreePhase.Create (at_create x s))

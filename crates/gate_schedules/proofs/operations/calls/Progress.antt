@@ -1,11 +1,9 @@
 -- The calls at the tree run out, a snapshot where it finds `umount` free.
-use Rattle.std.proofs.{Common.{◌≡◌, ℕ, ◌+◌, ◌<◌, true, sym, inl, inr, arith, true≢false}, lemmas.Grind.{common_steps}}
-use Rattle.std.proofs.lemmas.Bool.{cases_Bool, ltb-true, Decides.eqb_tells}
-use Rattle.std.specs.Prelude.{◌-◌, nat_lt, is_some, option_map, Option, Some, None, Result, Ok, Err}
-use Rattle.access_model.specs.declared.{errors.GateError.GateError}
+use Rattle.std.proofs.{Common.{ℕ, arith}, lemmas.Grind.{common_steps}}
+use Rattle.std.specs.Prelude.{◌-◌}
 use Rattle.cpu_words.specs.{Hooks.HookAnswer, Touches.found_by, Words.{Words, read}}
-use Rattle.node_words.specs.{Nodes.{word_of, unpacked, as_file, as_directory}, Phases.{after_look, clear_after}}
-use Rattle.node_words.specs.declared.{marks.ClearMarks.{ClearMarks}, nodes.NodeWord.{NodeWord}}
+use Rattle.node_words.specs.{Phases.{clear_after}}
+use Rattle.node_words.specs.declared.{marks.ClearMarks.{ClearMarks}}
 use Rattle.gated_tree.specs.Phases.{next as tree_next, after as tree_after, create_next, create_after}
 use Rattle.gated_tree.specs.Phases.{remove_next, remove_after, grow_next, grow_after, move_next, move_after, mark_next, mark_after, open_next, open_after}
 use Rattle.gated_tree.specs.Phases.{snapshot_next, snapshot_after}
@@ -18,15 +16,6 @@ use Rattle.gate_schedules.proofs.{frames.ValidWords.events_may_be, operations.de
 use Rattle.gate_schedules.specs.operations.Ranks.{rank, create_rank, remove_rank, grow_rank, move_rank, mark_rank, open_rank, snapshot_rank, tree_rank}
 use Rattle.gate_schedules.specs.operations.Unblocked.{IsUnblocked, SnapshotIsUnblocked, TreeIsUnblocked, RankDecreases, PhaseEnds}
 
-module _ {P : Type 0} (rank_of : P → ℕ) (free : P → Type 0) (n : ℕ) (again : P) (to : NodeWord → P)
-    (goes : (a : NodeWord) → (rank_of (to a) < n) × free (to a)) where
-  answer_falls : (r : Result NodeWord GateError) → RankDecreases rank_of free n (after_look again to (Some r))
-  answer_falls a0 = grind arith
-
-  look_falls : (kind_of : NodeWord → Result NodeWord GateError) (o : Option NodeWord) → is_some o ≡ true →
-      RankDecreases rank_of free n (after_look again to (option_map kind_of o))
-  look_falls kind_of a1 h = grind arith
-
 module _ (w : Words) where
   module _ (c : Create) where
     create_falls : (s : CreateStep) → WordIsValid (create_next c s).0 (read w (create_next c s).0) →
@@ -37,17 +26,17 @@ module _ (w : Words) where
   remove_falls : (r : Remove) (s : RemoveStep) → WordIsValid (remove_next r s).0 (read w (remove_next r s).0) →
       RankDecreases (λ (y : Remove). remove_rank y.step) (λ (y : Remove). Unit {0}) (remove_rank s)
       (remove_after r s (found_by (remove_next r s).1 (read w (remove_next r s).0))).0
-  remove_falls r a1 h = grind (arith, common_steps)
+  remove_falls r s h = grind (arith, common_steps)
 
   grow_falls : (g : Grow) (s : GrowStep) → WordIsValid (grow_next g s).0 (read w (grow_next g s).0) →
       RankDecreases (λ (y : Grow). grow_rank y.step) (λ (y : Grow). Unit {0}) (grow_rank s)
       (grow_after g s (found_by (grow_next g s).1 (read w (grow_next g s).0))).0
-  grow_falls g a1 h = grind (arith, common_steps)
+  grow_falls g s h = grind (arith, common_steps)
 
   move_falls : (m : MoveTo) (s : MoveStep) → WordIsValid (move_next m s).0 (read w (move_next m s).0) →
       RankDecreases (λ (y : MoveTo). move_rank y.step) (λ (y : MoveTo). Unit {0}) (move_rank s)
       (move_after m s (found_by (move_next m s).1 (read w (move_next m s).0))).0
-  move_falls m a1 h = grind (arith, common_steps)
+  move_falls m s h = grind (arith, common_steps)
 
   mark_falls : (m : Mark) (s : MarkStep) → WordIsValid (mark_next m s).0 (read w (mark_next m s).0) →
       RankDecreases (λ (y : Mark). mark_rank y.step) (λ (y : Mark). Unit {0}) (mark_rank s)

@@ -1,6 +1,6 @@
 -- What the trace of a call at the tree says, kept from each event to the next, whichever call it is.
-use Rattle.std.proofs.Common.{◌≡◌, ℕ, ◌<◌, ◌≤◌, Bool, true, false, refl, sym, ap, ◌∙◌, subst, arith}
-use Rattle.std.specs.Prelude.{◌||◌, Option, Some, None, Result, Err, List, ◌∷◌, length, is_some, option_map}
+use Rattle.std.proofs.Common.{◌≡◌, ℕ, ◌<◌, ◌≤◌, Bool, true, false, refl, arith}
+use Rattle.std.specs.Prelude.{◌||◌, Option, Result, Err, List, ◌∷◌, length, is_some, option_map}
 use Rattle.access_model.specs.{Replies.map_next, declared.{actions.Action.Action, errors.GateError.GateError, replies.{Next.Next, Reply.Reply}}}
 use Rattle.cpu_words.specs.declared.events.Event.{Event}
 use Rattle.node_words.specs.Phases.{after_look}
@@ -10,9 +10,6 @@ use Rattle.gate_world.specs.{traces.Found.SeenIn, traces.Traces.{actions_of, IsH
 use Rattle.gate_world.specs.declared.{config.Config.Config, operations.Op.Op, views.Traced.Traced, work.Phase.Phase}
 use Rattle.gate_schedules.proofs.traces.TraceInvariant.{InvariantAfter}
 
-or_one : (a b : Bool) → a ≡ true → (a || b) ≡ true
-or_one a b h = rw h refl
-
 pub or_other : (a b : Bool) → b ≡ true → (a || b) ≡ true
 or_other true b h = refl
 or_other false b h = h
@@ -20,11 +17,8 @@ or_other false b h = h
 pub sees : (e : Traced) (earlier : List Traced) → SeesMore (SeenIn earlier) (SeenIn (e ∷ earlier)) e.event
 sees e earlier = grind arith
 
-same_actions : (action : Option Action) (added : List Action) → with_action action added ≡ actions_after action added
-same_actions a0 added = grind arith
-
 pub made_some : {A B : Type 0} (f : A → B) (o : Option A) → is_some o ≡ true → is_some (option_map f o) ≡ true
-made_some f a1 h = grind arith
+made_some f o h = grind arith
 
 -- A look at a word that may be there goes on or is refused: it is never done again.
 pub looked : {A P : Type 0} (Holds : Next P → Type 0) (again : P) (to : A → P) (r : Option (Result A GateError)) → is_some r ≡ true →
@@ -61,11 +55,6 @@ module _ (P S : Type 0) (to : P → TreePhase) (at : S → P) (Knows : ((Event �
   module _ (IsOne : Reply → Type 0) (Honest : GateError → Type 0) (adds : Result Reply GateError → List Action) (e : Traced)
       (earlier : List Traced) (answers : Answers IsOne Honest adds (e ∷ earlier)) (n : ℕ)
       (within : waits ≡ false → length earlier ≤ n) where
-    -- what is known and what comes say what the trace says after an event
-    next_says : (next : Next P) (added : List Action) → NextIsJustified (Knows (SeenIn (e ∷ earlier))) so_far IsOne Honest adds next added →
-        GoesOnOrEnds (e ∷ earlier) n next → InvariantAfter CallAt c op (e ∷ earlier) (map_next Phase.Trees (map_next to next)) added
-    next_says next added h stays = grind arith
-
     -- the same, of what the event added on top of what was added before
     pub call_says : (next : Next P) (action : Option Action) (before added : List Action) → added ≡ before →
         NextIsJustified (Knows (SeenIn (e ∷ earlier))) so_far IsOne Honest adds next (with_action action before) → GoesOnOrEnds (e ∷ earlier) n next →

@@ -1,9 +1,9 @@
 -- Of the calls at the tree only a snapshot waits, and only where another task has `umount`; each is refused only for its cause.
 use Rattle.std.proofs.{Common.{◌≡◌, ℕ, ◌<◌, ap, inl, inr, refl, arith}, lemmas.{Bool.Decides.{eqb_tells}, Grind.{common_steps}}}
-use Rattle.std.specs.Prelude.{Some, None, Ok, Err, List, Option, Result, ◌==◌, if◌then◌else◌, Bool, true, false, is_some, ◌∷◌}
+use Rattle.std.specs.Prelude.{Some, Ok, Err, List, Option, ◌==◌, if◌then◌else◌, Bool, true, false, is_some, ◌∷◌}
 use Rattle.access_model.specs.{Replies.map_next, declared.{errors.GateError.GateError, replies.Next.Next}}
 use Rattle.cpu_words.specs.Hooks.{HookAnswer}
-use Rattle.node_words.specs.{Nodes.{word_of, unpacked, file_in, node_after}, Phases.{clear_after, after_look, clears_at}}
+use Rattle.node_words.specs.{Nodes.{unpacked, node_after}, Phases.{clear_after, clears_at}}
 use Rattle.node_words.specs.declared.{marks.ClearMarks.{ClearMarks}}
 use Rattle.gated_tree.specs.Phases.{create_after, remove_after, grow_after, move_after, mark_after, open_after}
 use Rattle.gated_tree.specs.Phases.{snapshot_locked_out, at_snapshot, node_step}
@@ -24,13 +24,6 @@ IsNoWait (Next.Go p) = Unit {0}
 IsNoWait (Next.Wait p) = ⊥
 IsNoWait (Next.Done answer) = Unit {0}
 
-either : {P : Type 0} (b : Bool) (n m : Next P) → IsNoWait n → IsNoWait m → IsNoWait (if b then n else m)
-either true n m h k = h
-either false n m h k = k
-
-look_goes : {A : Type 0} {P : Type 0} (again : P) (to : A → P) (r : Option (Result A GateError)) → IsNoWait (after_look again to r)
-look_goes again to r = grind arith
-
 -- so it never waits
 create_goes_on : (x : Create) (s : CreateStep) (found : ℕ) → IsNoWait (create_after x s found).0
 create_goes_on x s found = grind (arith, common_steps)
@@ -45,13 +38,13 @@ move_goes_on : (x : MoveTo) (s : MoveStep) (found : ℕ) → IsNoWait (move_afte
 move_goes_on x s found = grind (arith, common_steps)
 
 mark_goes_on : (x : Mark) (s : MarkStep) (found : ℕ) → IsNoWait (mark_after x s found).0
-mark_goes_on x a1 found = grind (arith, common_steps)
+mark_goes_on x s found = grind (arith, common_steps)
 
 open_goes_on : (x : OpenFile) (s : OpenStep) (found : ℕ) → IsNoWait (open_after x s found).0
-open_goes_on x a1 found = grind (arith, common_steps)
+open_goes_on x s found = grind (arith, common_steps)
 
 clear_goes_on : (x : ClearMarks) (o : Option ℕ) → IsNoWait (clears_at x o)
-clear_goes_on x a1 = grind arith
+clear_goes_on x o = grind arith
 
 module _ (c : Config) (w : World) (earlier : List World) (t : ℕ) where
   -- what is no wait waits for nobody, and a refusal of a call that is no snapshot has its cause at its own event

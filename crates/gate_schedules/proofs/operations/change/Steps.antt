@@ -22,7 +22,7 @@ use Rattle.std.specs.Prelude.{Err, None, Ok, Option, Result, Some, bit_or, nat_l
 -- who is to clear HOLD has it set, and seeks no access
 to_clear : (answer : Result Reply GateError) →
     SeeksNone (change_role (ChangeStep.ClearsHold answer)) × (has_hold (change_role (ChangeStep.ClearsHold answer)) ≡ 1)
-to_clear a0 = grind arith
+to_clear answer = grind arith
 
 module _ (c : Config) (lim : IsWithin c) (w : World) (good : IsGood c w) (t : ℕ) (lt : t < c.tasks)
     (m : ℕ) (ro wait : Bool) (task processors : ℕ) (hook : HookAnswer) where

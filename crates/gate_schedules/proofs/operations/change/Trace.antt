@@ -4,7 +4,7 @@ use Rattle.std.proofs.lemmas.Bool.{eq-eqb, ltb-true, ltb-false, cases_Bool, Deci
 use Rattle.std.specs.Prelude.{nat_lt, Result, Err, List, [], ◌∷◌, length}
 use Rattle.access_model.specs.declared.{actions.Action.Action, errors.GateError.GateError, replies.Reply.Reply}
 use Rattle.cpu_words.specs.{Hooks.HookAnswer, Touches.wrap_add, declared.sums.Sum.Sum}
-use Rattle.mount_counts.specs.{Phases.{has_flag, step_between}, declared.phases.{ChangeStep.ChangeStep, MountPhase.MountPhase}}
+use Rattle.mount_counts.specs.{declared.phases.{ChangeStep.ChangeStep, MountPhase.MountPhase}}
 use Rattle.gate_world.specs.{Configs.IsWithin, traces.Found.{found_read_only, counts_loaded, sum_loaded, IsEachCount, each_event, finds_taken}}
 use Rattle.gate_world.specs.{traces.Traces.{actions_of, IsHonestAnswer, most_events, IsShort}, Views.with_hook}
 use Rattle.gate_world.specs.declared.{config.Config.Config, operations.Op.Op, views.Traced.Traced, work.Phase.Phase}
@@ -78,15 +78,6 @@ within_most : (c : Config) (m : ℕ) (ro wait : Bool) (step : ChangeStep) (trace
     StepSays c m ro wait step trace added →
     length trace ≤ events_before c step → length trace ≤ c.processors + 7
 within_most c m ro wait step trace added h k = grind arith
-
--- the state was found, as it was asked for or not
-state_found : (c : Config) (m : ℕ) (ro wait b : Bool) (trace : List Traced) (added : List Action) → (wait ≡ false → length trace ≤ 3) →
-    added ≡ [] →
-    found_read_only m trace ≡ b → counts_loaded m trace ≡ [] → ChangeSays c m ro wait (step_between ro b) trace added
-state_found c m true wait true trace added h none e loads = (λ q. omega (arith, h q), (rw e none, tt))
-state_found c m true wait false trace added h none e loads = (h, (refl, (none, e, loads)))
-state_found c m false wait true trace added h none e loads = (h, (none, refl, e))
-state_found c m false wait false trace added h none e loads = (λ q. omega (arith, h q), (rw e none, tt))
 
 module _ (c : Config) (lim : IsWithin c) (t m : ℕ) (ro : Bool) (value : ℕ) (hook : HookAnswer) (earlier : List Traced)
     (added : List Action) where

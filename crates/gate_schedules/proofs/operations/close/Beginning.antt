@@ -1,9 +1,9 @@
 -- What is proved of the beginning of a close, given what its trace says.
-use Rattle.gate_schedules.proofs.{frames.OperationLaws.{IsSmall, OpLaws, by_bool}, operations.readers.Fits.{both_true, none_from_agree}}
-use Rattle.gate_world.specs.{Configs.IsWithin, traces.TraceStates.{IsTrace, state_of_trace}, Operations.holds_none_from, traces.Traces.{IsShort, Tells, most_events}}
+use Rattle.gate_schedules.proofs.{frames.OperationLaws.{OpLaws}}
+use Rattle.gate_world.specs.{Configs.IsWithin, traces.TraceStates.{IsTrace, state_of_trace}, traces.Traces.{IsShort, Tells, most_events}}
 use Rattle.gate_world.specs.declared.{config.Config.Config, operations.Op.Op, views.Traced.Traced}
-use Rattle.std.proofs.{Common.{Bool, arith, refl, true, ℕ, ◌≡◌}, lemmas.Bool.ltb-true}
-use Rattle.std.specs.Prelude.{List, nat_lt, ◌&&◌}
+use Rattle.std.proofs.{Common.{Bool, arith, ℕ}}
+use Rattle.std.specs.Prelude.{List}
 
 pub close_op_from : (c : Config) (file p : ℕ) (wait : Bool) →
     (IsWithin c → (t : ℕ) (trace : List Traced) → IsTrace c t (Op.Close file p wait) trace →

@@ -5,7 +5,7 @@ use Rattle.std.specs.Prelude.{◌==◌, ◌&&◌, Option, Some, None, Result, Ok
 use Rattle.finite_sums.{proofs.Totals.{total_at, total_updated, update_off}, specs.Sums.{update, total}}
 use Rattle.access_model.specs.{States.{one_if, is_removed, most_tasks, openers}, declared.errors.GateError.GateError}
 use Rattle.gate_schedules.proofs.{frames.Openers.{most_tasks_is}, trees.worlds.{Holders.{level_thawed}, Trees.{nobody_reads}}}
-use Rattle.gate_schedules.proofs.trees.{Counts.{finds_last, same_le}, Each.each_event, Laws.{role_says}, Steps.{leaves_word, as_event, stays_at}}
+use Rattle.gate_schedules.proofs.trees.{Counts.{finds_last}, Each.each_event, Laws.{role_says}, Steps.{leaves_word, as_event, stays_at}}
 use Rattle.cpu_words.specs.{Words.Words, declared.names.WordName.WordName}
 use Rattle.node_words.proofs.Words.{word_opens, word_shows}
 use Rattle.node_words.specs.{Nodes.{word_of, any_file_in, opens_in, node_shown, info_of}, Phases.{after_look}}
@@ -90,7 +90,7 @@ module _ (n : ℕ) where
   freer_file trace p e = grind arith
 
 frees_le : (n : ℕ) (r : Role) → frees n r ≤ 1
-frees_le n a1 = grind arith
+frees_le n r = grind arith
 
 frees_small : (n : ℕ) (r : Role) → (frees n r ≡ 1 → ⊥) → frees n r ≡ 0
 frees_small n r other = omega (arith, other, frees_le n r)

@@ -1,19 +1,14 @@
 -- What fits after an event of a close.
-use Rattle.std.proofs.Common.{◌≡◌, ℕ, ◌<◌, ◌≤◌, arith}
+use Rattle.std.proofs.Common.{ℕ, ◌<◌, ◌≤◌, arith}
 use Rattle.std.proofs.lemmas.{Grind.{common_steps}}
-use Rattle.access_model.specs.{Replies.map_next, declared.{replies.Next.Next}}
+use Rattle.access_model.specs.{Replies.map_next}
 use Rattle.cpu_words.specs.{Hooks.HookAnswer, Names.IsWord}
 use Rattle.node_words.specs.{declared.nodes.NodeWord.{NodeWord}}
 use Rattle.percpu_rwsem.specs.{Readers.down_read_after, declared.readers.DownRead.DownRead}
 use Rattle.composite_ops.specs.{file_closes.Phases.{next, after, then_frees}, declared.file_closes.phases.{ClosePhase.ClosePhase}}
 use Rattle.gate_world.specs.{Holdings.{Holdings, held_after, Agree}, Configs.IsWithin, Fits.{Fits, CloseFits, ActionFits}, Views.phase_after}
 use Rattle.gate_world.specs.declared.{config.Config.Config, work.Phase.Phase}
-use Rattle.gate_schedules.proofs.{frames.OperationLaws.{extents_touched}, operations.readers.Fits.{ReadGoes, read_goes}}
-
-module _ (c : Config) (t : ℕ) (held : Holdings) where
-  pub enters_goes : (file p i : ℕ) (node : NodeWord) (n : Next DownRead) → file < c.nodes → p < c.processors → i ≡ 3 →
-      ReadGoes c t i p held n → Fits c t held (phase_after (map_next Phase.Closes (then_frees file node p n)))
-  enters_goes file p i node n there cpu three h = grind arith
+use Rattle.gate_schedules.proofs.{frames.OperationLaws.{extents_touched}}
 
 pub enters_fits : (c : Config) (t : ℕ) (held : Holdings) (file : ℕ) (node : NodeWord) (r : DownRead) (found : ℕ) →
     CloseFits c t held (ClosePhase.Enters file node r) → Fits c t (held_after (down_read_after r r.step found).1 held)

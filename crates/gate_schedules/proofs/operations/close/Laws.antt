@@ -12,12 +12,12 @@ use Rattle.gate_world.specs.{SameRoles.{rephased, SameRolesOffTree}, refusals.Ca
 use Rattle.gate_world.specs.{Levels.sync_role_of, Rules.{IsGood, StepKeeps}, Views.{phase_after, held_of}, refusals.Waits.HasReason}
 use Rattle.gate_world.specs.{Worlds.{World, after_step, found_at, value_at}, declared.{config.Config.Config, work.Phase.Phase}}
 use Rattle.gate_schedules.proofs.frames.{OperationLaws.PhaseLaws, ValidWords.events_may_be, Snapshots.completes_none}
-use Rattle.gate_schedules.proofs.operations.close.Causes.{enters_asks, enters_cause, enters_waits, looked_cause, looked_waits}
+use Rattle.gate_schedules.proofs.operations.close.Causes.{enters_asks, enters_cause, looked_cause}
 use Rattle.gate_schedules.proofs.operations.close.Fits.{close_goes, close_there, close_acts, close_agrees}
 use Rattle.gate_schedules.proofs.operations.close.LevelEvents.{close_fits_now, enters_level, leaves_level, beside_reads, beside_ends, beside_runs}
 use Rattle.gate_schedules.proofs.operations.close.LevelEvents.{beside_enters}
 use Rattle.gate_schedules.proofs.operations.close.Parts.{loads_file, lowers_count, frees_node, refunds_blocks, uncounts, close_run}
-use Rattle.gate_schedules.proofs.operations.readers.{Causes.{read_stays, read_own, read_not_closed}, Laws.{read_phase, end_phase}, Waits.read_waits}
+use Rattle.gate_schedules.proofs.operations.readers.{Causes.{read_own, read_not_closed}, Laws.{read_phase, end_phase}}
 
 -- each event keeps the rule, and moves the shown model by its action or not at all
 pub close_keeps : (c : Config) → IsWithin c → (w : World) → IsGood c w → (t : ℕ) → t < c.tasks → (hook : HookAnswer) → (x : ClosePhase) →

@@ -17,8 +17,8 @@ use Rattle.node_words.specs.{Nodes.{opens_in}, declared.nodes.NodeWord.{NodeWord
 use Rattle.gated_tree.specs.Roles.{Freeing, Out as OffTree, TreeHolds, charge, child_charge, removal}
 use Rattle.freeze_laws.specs.levels.Events.{SyncStep}
 use Rattle.percpu_rwsem.specs.{Readers.{at_down_read, down_read_after}, declared.readers.{DownRead.DownRead, DownReadStep.DownReadStep}}
-use Rattle.std.proofs.{Common.{Bool, ap, arith, inl, inr, refl, subst, sym, true, ℕ, ◌<◌, ◌∙◌, ◌≡◌, ◌⊎◌}, lemmas.Bool.cases_Bool}
-use Rattle.std.specs.Prelude.{Err, List, Ok, Option, Some, ◌==◌}
+use Rattle.std.proofs.{Common.{Bool, ap, arith, inl, inr, refl, subst, sym, true, ℕ, ◌<◌, ◌∙◌, ◌≡◌, ◌⊎◌}}
+use Rattle.std.specs.Prelude.{List, Ok, Option, Some}
 
 -- what comes after an event at level 3 is beside what comes in its own operation
 pub beside_enters : (file p : ℕ) (node : NodeWord) (n : Next DownRead) →

@@ -18,11 +18,11 @@ use Rattle.freeze_levels.specs.declared.{freezes.FreezeStep.TheVariants.{LocksAg
 use Rattle.freeze_levels.specs.declared.thaws.ThawStep.{ThawStep, TheVariants.Locks as ThawLocks}
 use Rattle.gate_schedules.proofs.{frames.{Owners.owns_le, Words.load_same}, levels.Facts.blocked_slow}
 use Rattle.gate_schedules.proofs.operations.deadlocks.{RankDecreases.{after_event, happens_is, stands_after}, FreezeProgress.{next_same, not_none}}
-use Rattle.gate_schedules.proofs.operations.deadlocks.BlockedCloses.{StaysAtLevel, down_beside, down_blocks, down_nodes, down_stays}
-use Rattle.gate_schedules.proofs.operations.deadlocks.{BlockedStarts.{StaysKept, read_nodes, start_stays}, SectionExit.{StaysBeside, read_beside}, WhoCanStep.fits_at}
-use Rattle.gate_schedules.proofs.operations.{deadlocks.BlockedOrProgress.{first_finds, first_is, or_phase}, readers.Progress.read_blocks}
-use Rattle.node_words.proofs.{ClearedMarks.{IsCleared, clears_mark, without_mark}, Packing.{packed_unpacks}}
-use Rattle.node_words.specs.{Nodes.{IsPacked, kind_in, node_of, opens_in, removed_in}, declared.marks.ClearMarks.{ClearMarks}}
+use Rattle.gate_schedules.proofs.operations.deadlocks.BlockedCloses.{StaysAtLevel, down_stays}
+use Rattle.gate_schedules.proofs.operations.deadlocks.{BlockedStarts.{StaysKept, start_stays}, WhoCanStep.fits_at}
+use Rattle.gate_schedules.proofs.operations.{deadlocks.BlockedOrProgress.{first_finds, first_is, or_phase}}
+use Rattle.node_words.proofs.{ClearedMarks.{IsCleared, clears_mark, without_mark}}
+use Rattle.node_words.specs.{Nodes.{IsPacked, node_of, opens_in, removed_in}, declared.marks.ClearMarks.{ClearMarks}}
 use Rattle.gated_tree.specs.declared.{phases.TreePhase.TheVariants.Snapshot as Snapshots, snapshots.{Snapshot.Snapshot, SnapshotStep.SnapshotStep}}
 use Rattle.gated_tree.specs.declared.snapshots.SnapshotStep.TheVariants.{Locks as SnapshotLocks}
 use Rattle.mount_counts.specs.{Remounts.at_remount, declared.phases.{Change.Change, ChangeStep.{ChangeStep, TheVariants.Locks as ChangeLocks}}}
@@ -33,8 +33,8 @@ use Rattle.percpu_rwsem.specs.declared.writers.DownWrite.{DownWrite}
 use Rattle.gate_schedules.specs.operations.Progress.{AllAreBlocked, ChangeIsBlocked, EventsMoveModel, FreezeIsBlocked, HasReply, IsAgreed, IsHeldIdle, HeldLevelAhead, IsBlockedAt}
 use Rattle.gate_schedules.specs.operations.Progress.{BlockedIfFreeze, BlockedIsStable, LockIsBlocked, RemountIsBlocked, SnapshotIsBlocked, StartIsBlocked, ThawIsBlocked, begins_freeze}
 use Rattle.gate_schedules.specs.operations.Progress.{is_admitted, is_first_lock, is_last_close, next_level}
-use Rattle.freeze_laws.specs.stages.Roles.{KnowsStage, bit}
-use Rattle.std.proofs.{Common.{Bool, ap, arith, false, inl, inr, refl, subst, sym, true, true≢false, ℕ, ◌<◌, ◌∙◌, ◌≡◌, ◌≤◌}, lemmas.Bool.and_parts}
+use Rattle.freeze_laws.specs.stages.Roles.{KnowsStage}
+use Rattle.std.proofs.{Common.{Bool, ap, arith, false, inl, inr, refl, subst, sym, true, true≢false, ℕ, ◌<◌, ◌∙◌, ◌≡◌, ◌≤◌}}
 use Rattle.std.proofs.lemmas.Bool.{cases_Bool, eqb-true, ne_eqb, Decides.eqb_tells}
 use Rattle.std.specs.Prelude.{Option, Some, if◌then◌else◌, nat_lt, ◌&&◌, ◌+◌, ◌==◌}
 
@@ -192,12 +192,6 @@ module _ (c : Config) (w : World) (good : IsGood c w) (t : ℕ) (lt : t < c.task
     phase_stays y ly ne (FileCloses (EntersLevel f node r)) is h = reads_stay r h
     phase_stays y ly ne phase is h = absurd h
 
-  -- what an event that leaves most words leaves to others
-  aside_leaves : (q : Phase) → (next.views t).phase ≡ Some q → StaysBeside w.words next.words →
-      ((i : ℕ) → w.words.block i ≡ 1 → next.words.block i ≡ 1) → next.words.node ≡ w.words.node → owns (Some p) ≡ 0 →
-      (begins_freeze (Some p) ≡ false → begins_freeze (Some q) ≡ false) → LeavesKept c w next t p q
-  aside_leaves q here stays blocks nodes none begins = grind arith
-
 -- where `umount` is another's, a try for it leaves all words
 tried : (w : Words) (n : ℕ) → (w.umount ≡ 0 → ⊥) → put w Umount (left (Cas 0 n) w.umount) ≡ w
 tried w n taken = rw (ne_eqb w.umount 0 taken) (load_same w Umount)
@@ -250,7 +244,7 @@ module _ (c : Config) (w : World) (good : IsGood c w) (t : ℕ) (lt : t < c.task
   module _ (p q : Phase) (at : (w.views t).phase ≡ Some p) (here : ((after p).views t).phase ≡ Some q) (same : (after p).words ≡ w.words)
       (none : owns (Some p) ≡ 0) (begins : begins_freeze (Some p) ≡ false → begins_freeze (Some q) ≡ false) where
     tried_leaves : LeavesKept c w (after p) t p q
-    tried_leaves  = grind arith
+    tried_leaves = grind arith
 
     tried_locks : LockIsBlocked c w → LockIsBlocked c (after p)
     tried_locks l = locks_stay c w good t lt p at hook q tried_leaves l

@@ -1,6 +1,6 @@
 -- The rank of a phase that fits is small.
 use Rattle.std.proofs.Common.{◌≡◌, ℕ, zero, suc, ◌+◌, ◌*◌, ◌<◌, ◌≤◌, Bool, true, false, refl, sym, ap, ◌∙◌, inl, inr, arith}
-use Rattle.std.proofs.{Math.Nat.{suc-mul, zero-mul, le-max_left, le-max_right, max-le}, lemmas.Bool.{cases_lt}}
+use Rattle.std.proofs.{Math.Nat.{suc-mul, zero-mul, le-max_left, le-max_right}, lemmas.Bool.{cases_lt}}
 use Rattle.std.specs.Prelude.{◌-◌}
 use Rattle.cpu_words.specs.{Words.Words}
 use Rattle.gated_tree.specs.declared.{phases.TreePhase.TreePhase, snapshots.SnapshotStep.SnapshotStep}

@@ -1,7 +1,7 @@
 -- A freeze that no idle task keeps, and a callback, have a reply near, whoever is inside a section.
 use Rattle.gate_world.specs.Roles.{freeze_owns}
 use Rattle.gate_world.specs.{Configs.IsWithin, Fits.{FreezeFits, PhaseFits, ReadStepFits}, Levels.inside, Operations.holds_none_from, Roles.freeze_stage_role}
-use Rattle.gate_world.specs.{Roles.{place_of, reopening_role}, Rules.{IsGood, Owner, Sections, Stages, owns, stage_role_of, stage_roles}}
+use Rattle.gate_world.specs.{Roles.{place_of}, Rules.{IsGood, Owner, Sections, Stages, owns, stage_role_of, stage_roles}}
 use Rattle.gate_world.specs.{Views.{held_of, holds_level, view_after}, Worlds.{World, after_step, value_at}, declared.{config.Config.Config, views.View.View}}
 use Rattle.gate_world.specs.declared.work.Phase.{Phase}
 use Rattle.gate_schedules.proofs.{frames.ByPhase.freeze_owner, operations.deadlocks.{Bounds.{alone_settled, beside_settled}, RankDecreases.no_further}}
@@ -18,13 +18,13 @@ use Rattle.gated_tree.specs.declared.phases.TreePhase.{TreePhase}
 use Rattle.freeze_laws.specs.levels.Operations.{down_read_inside}
 use Rattle.freeze_laws.specs.stages.Roles.{Freezing, HasPassed, KnowsStage, Place, freezes, owns as stage_owns, under_way}
 use Rattle.mount_counts.specs.declared.phases.MountPhase.{MountPhase}
-use Rattle.percpu_rwsem.specs.declared.{callbacks.Callback.Callback, readers.DownReadStep.DownReadStep, writers.UpWriteStep.UpWriteStep}
+use Rattle.percpu_rwsem.specs.declared.{callbacks.Callback.Callback, readers.DownReadStep.DownReadStep}
 use Rattle.gate_schedules.specs.operations.{Progress.{EventsKeepRule, IsHeldIdle, HeldLevelAhead, ReplyWithin, next_level}, Ranks.{most_alone, most_beside, most_settled}}
 use Rattle.gate_schedules.specs.operations.Unblocked.{FreezeIsUnblocked, FreezeLocksFree, NobodyInside, PhaseEnds}
 use Rattle.freeze_laws.proofs.stages.Facts.{other_zero}
 use Rattle.std.proofs.Common.{Bool, ap, arith, false, inl, inr, refl, subst, suc, sym, true, true≢false, zero, ℕ, ◌<◌, ◌∙◌, ◌≡◌, ◌≤◌}
-use Rattle.std.proofs.lemmas.Bool.{cases_Bool, cases_lt, ne_eqb, Decides.eqb_tells}
-use Rattle.std.specs.Prelude.{None, Option, Some, is_some, nat_lt, ◌*◌, ◌+◌, ◌-◌, ◌==◌, ◌⊎◌}
+use Rattle.std.proofs.lemmas.Bool.{cases_Bool, cases_lt, Decides.eqb_tells}
+use Rattle.std.specs.Prelude.{None, Option, Some, is_some, nat_lt, ◌*◌, ◌+◌, ◌-◌, ◌⊎◌}
 
 -- one of the two for each number below a bound: the first for some, or the second for all
 pub search_below : (n : ℕ) (P Q : ℕ → Type 0) → ((i : ℕ) → i < n → P i ⊎ Q i) → ((i : ℕ) × (i < n) × P i) ⊎ ((i : ℕ) → i < n → Q i)
@@ -100,10 +100,6 @@ lock_or w nodes (FreezeStep.Closes d) free =
     ]
 lock_or w nodes FreezeStep.LocksAgain free = elim (eqb_tells w.umount 0) [ inl z ↦ inl z.1 | inr z ↦ inr (z.1, HasPassed 0, refl) ]
 lock_or w nodes s free = inl tt
-
--- who reopens levels is at stage 0
-reopening_knows : (stage sb level : ℕ) (s : UpWriteStep) → KnowsStage stage sb (reopening_role level s) → stage ≡ 0
-reopening_knows stage sb level a3 k = grind arith
 
 -- Another freeze that owns `umount` at stage 1 is to find so, or to release it.
 owner_step : (c : Config) (w : Words) (nodes : ℕ) (s : FreezeStep) → NobodyInside c w → w.stage ≡ 1 →

@@ -2,14 +2,14 @@
 use Rattle.composite_ops.specs.declared.{file_closes.phases.ClosePhase.{ClosePhase}, write_access.phases.WritePhase.{WritePhase}}
 use Rattle.finite_sums.proofs.Totals.{HasPlace, total_place}
 use Rattle.freeze_levels.specs.declared.{freezes.{Freeze.Freeze, FreezeStep.FreezeStep}, thaws.ThawStep.ThawStep}
-use Rattle.gate_world.specs.{Configs.IsWithin, Fits.PhaseFits, Levels.is_frozen_whole, Roles.{freeze_stage_role, remount_stage_role, snapshot_stage_role}}
+use Rattle.gate_world.specs.{Configs.IsWithin, Fits.PhaseFits, Levels.is_frozen_whole, Roles.{freeze_stage_role, remount_stage_role}}
 use Rattle.gate_world.specs.{Roles.{thaw_stage_role, tree_stage_role}, Rules.{IsGood, Stages, stage_role_of, stage_roles}, Views.held_of}
 use Rattle.gate_world.specs.{Worlds.World, declared.{config.Config.Config, work.Phase.Phase}}
-use Rattle.gated_tree.specs.declared.{phases.TreePhase.TreePhase, snapshots.SnapshotStep.SnapshotStep}
+use Rattle.gated_tree.specs.declared.{phases.TreePhase.TreePhase}
 use Rattle.mount_counts.specs.declared.{phases.{ChangeStep.ChangeStep, MountPhase.MountPhase}, remounts.RemountStep.RemountStep}
 use Rattle.gate_schedules.proofs.operations.{AllOperations.phase_ends, deadlocks.{WhoCanStep.fits_at, BlockedOrProgress.world_goes}}
-use Rattle.gate_schedules.specs.operations.Progress.{AFreezeIsKept, ChangeIsBlocked, EventsKeepRule, FreezeIsBlocked, HeldLevelAhead, IsBlockedAt, BlockedIfFreeze, LockIsBlocked, Progresses}
-use Rattle.gate_schedules.specs.operations.{Progress.{RemountIsBlocked, ReplyOrFrozen, SnapshotIsBlocked, ThawIsBlocked, TreeIsBlocked}, Ranks.most_events_to_reply}
+use Rattle.gate_schedules.specs.operations.Progress.{AFreezeIsKept, ChangeIsBlocked, EventsKeepRule, FreezeIsBlocked, HeldLevelAhead, IsBlockedAt, Progresses}
+use Rattle.gate_schedules.specs.operations.{Progress.{RemountIsBlocked, ReplyOrFrozen, ThawIsBlocked, TreeIsBlocked}, Ranks.most_events_to_reply}
 use Rattle.freeze_laws.specs.stages.Roles.{bit, closed_by, closes, up_to}
 use Rattle.std.proofs.{Common.{Bool, ap, arith, false, inl, inr, refl, true, ℕ, ◌<◌, ◌∙◌, ◌≡◌, ◌≤◌}, lemmas.Bool.lt-leb}
 use Rattle.std.specs.Prelude.{None, Option, Some, ◌&&◌, ◌==◌, ◌⊎◌}
@@ -19,9 +19,6 @@ up_to_none i one = rw (lt-leb i 0 one)
 
 remount_none : (nodes : ℕ) (s : RemountStep) → closed_by (remount_stage_role nodes s) ≡ 0
 remount_none nodes s = grind arith
-
-snapshot_none : (s : SnapshotStep) → closed_by (snapshot_stage_role s) ≡ 0
-snapshot_none s = grind arith
 
 tree_none : (x : TreePhase) → closed_by (tree_stage_role x) ≡ 0
 tree_none x = grind arith
@@ -68,12 +65,6 @@ module _ (c : Config) (w : World) (good : IsGood c w)
             inr (closer_at i place.0 one place.1 (w.views place.0).phase refl place.2)
       ]
 
-  owner_kept : (y : ℕ) → y < c.tasks → (p : Option Phase) → (w.views y).phase ≡ p → BlockedIfFreeze c w p → AFreezeIsKept c w
-  owner_kept y ly p at k = grind arith
-
-  lock_tells : LockIsBlocked c w → AFreezeIsKept c w
-  lock_tells k = owner_kept k.0 k.1 (w.views k.0).phase refl k.3
-
   change_tells : (s : ChangeStep) (wait : Bool) → ChangeIsBlocked c w s wait → AFreezeIsKept c w
   change_tells s wait k = grind arith
 
@@ -82,9 +73,6 @@ module _ (c : Config) (w : World) (good : IsGood c w)
 
   thaw_tells : (s : ThawStep) → ThawIsBlocked c w s → AFreezeIsKept c w
   thaw_tells s k = grind arith
-
-  snapshot_tells : (s : SnapshotStep) (wait : Bool) → SnapshotIsBlocked c w s wait → AFreezeIsKept c w
-  snapshot_tells s wait k = grind arith
 
   tree_tells : (x : TreePhase) → TreeIsBlocked c w x → AFreezeIsKept c w
   tree_tells x k = grind arith

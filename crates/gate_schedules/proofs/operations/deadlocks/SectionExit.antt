@@ -1,6 +1,6 @@
 -- Who is inside a read-side section leaves it by a few events of its own, so where a reply is near once nobody is inside one, it is near.
-use Rattle.std.proofs.{Common.{◌≡◌, ℕ, zero, suc, ◌+◌, ◌*◌, ◌<◌, ◌≤◌, false, refl, sym, ap, ◌∙◌, inl, inr, arith}, lemmas.Bool.Decides.eqb_tells}
-use Rattle.std.specs.Prelude.{◌⊎◌, Option, Some, None}
+use Rattle.std.proofs.{Common.{◌≡◌, ℕ, zero, suc, ◌+◌, ◌*◌, ◌<◌, ◌≤◌, false, sym, ap, ◌∙◌, inl, inr, arith}, lemmas.Bool.Decides.eqb_tells}
+use Rattle.std.specs.Prelude.{◌⊎◌, Option, Some}
 use Rattle.finite_sums.specs.Sums.{total}
 use Rattle.finite_sums.proofs.Totals.{total_updated, total_place, HasPlace}
 use Rattle.access_model.specs.{declared.replies.Next.{Next, TheVariants.{Go, Wait, Done}}}
@@ -62,7 +62,7 @@ all_within c w = total c.tasks (λ y. inside (w.views y).phase)
 
 -- a task that is inside one is at a phase
 pub phase_inside : (p : Option Phase) → inside p ≡ 1 → (phase : Phase) × (p ≡ Some phase)
-phase_inside a0 h = grind arith
+phase_inside p h = grind arith
 
 module _ (c : Config) (lim : IsWithin c)
     (keeps : EventsKeepRule c)

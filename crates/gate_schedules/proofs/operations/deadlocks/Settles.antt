@@ -15,7 +15,7 @@ is_going None = 0
 is_going (Some phase) = 1
 
 going_at_most : (p : Option Phase) → is_going p ≤ 1
-going_at_most a0 = grind arith
+going_at_most p = grind arith
 
 -- of how many tasks one is
 abbrev going_in : Config → World → ℕ

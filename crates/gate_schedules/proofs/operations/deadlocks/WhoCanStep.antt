@@ -26,7 +26,7 @@ pub owner_free : (c : Config) (w : Words) (phase : Phase) → owns (Some phase) 
 owner_free c w phase h = grind arith
 
 phase_owns : (p : Option Phase) → owns p ≡ 1 → (phase : Phase) × (p ≡ Some phase)
-phase_owns a0 h = grind arith
+phase_owns p h = grind arith
 
 -- a task that owns `umount`
 pub record HasOwner (c : Config) (w : World) : Type 0 where

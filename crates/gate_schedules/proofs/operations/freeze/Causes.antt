@@ -1,13 +1,13 @@
 -- The causes of a freeze's refusal and of the sums of its levels, along a schedule.
 use Rattle.std.proofs.Common.{◌≡◌, ℕ, suc, ◌+◌, ◌%◌, ◌<◌, ◌≤◌, true, false, refl, sym, ap, ◌∙◌, inl, inr, arith, add-one}
 use Rattle.std.proofs.lemmas.Bool.{cases_Bool, Decides.eqb_tells}
-use Rattle.std.specs.Prelude.{nat_lt, Option, Some, None, Ok, Err, List, [], ◌∷◌, ◌==◌}
+use Rattle.std.specs.Prelude.{nat_lt, Option, Some, Ok, Err, List, [], ◌∷◌, ◌==◌}
 use Rattle.finite_sums.specs.Sums.{total}
 use Rattle.access_model.specs.{Holders.held_by, Replies.map_next, declared.{errors.GateError.GateError, replies.Next.Next}}
 use Rattle.cpu_words.specs.{Hooks.HookAnswer, Sums.{lead, ahead}, Touches.wrap_add, Words.Words, declared.{names.WordName.WordName, sums.Sum.Sum}}
 use Rattle.cpu_words.proofs.gate_counts.{Events.words_sum, Numbers.{ahead_none, ahead_step, ahead_past}}
 use Rattle.node_words.specs.{Phases.{clear_after}, declared.marks.ClearMarks.{ClearMarks}}
-use Rattle.percpu_rwsem.specs.{Graces.looked, SyncWords.{unpack, is_passed, on_enter, on_callback}, Transitions.transition_after}
+use Rattle.percpu_rwsem.specs.{Graces.looked, SyncWords.{unpack, on_enter, on_callback}, Transitions.transition_after}
 use Rattle.percpu_rwsem.specs.Writers.{down_write_after, at_down_write, enter_step, callback_step, sections_awaited, passed_awaited, up_write_after}
 use Rattle.percpu_rwsem.specs.declared.{grace.GraceNext.GraceNext, sync_word.{SyncWord.SyncWord}, transitions.TransitionNext.TransitionNext}
 use Rattle.percpu_rwsem.specs.declared.writers.{DownWrite.DownWrite, DownWriteStep.DownWriteStep, UpWrite.UpWrite}
@@ -145,7 +145,7 @@ module _ (c : Config) (t : ℕ) (w next : World) (earlier : List World) (after :
     sections_own other e = grind arith
 
     passed_own : (o : Option SyncWord) → Own (after_closing x d.level (passed_awaited d o))
-    passed_own a0 e = grind arith
+    passed_own o e = grind arith
 
     -- after the swap of `block` a sum begins, or the swap is done again
     block_own : (found : ℕ) → 1 ≤ d.level → d.level ≤ 3 → Own (after_closing x d.level (down_write_after d DownWriteStep.SetsBlock found).0)

@@ -5,7 +5,7 @@ use Rattle.gate_schedules.proofs.levels.DownWrite.{down_write_levels, entered_by
 use Rattle.gate_schedules.proofs.{levels.LevelPositions.{LevelsHold, HasPosition, left_world, position_after_closing}, operations.freeze.Fits.freeze_goes}
 use Rattle.gate_schedules.proofs.operations.freeze.Stages.{FitsHere, IsHere, Keeps, freeze_stands, here_fits, here_stands, here_tree, here_writes}
 use Rattle.gate_schedules.proofs.{trees.worlds.Trees.shown_clean, writers.Parts.{AsksWhere, LeavesRest, WriterLaw, down_write_comes, freeze_comes}}
-use Rattle.gate_schedules.proofs.writers.Stages.{none_leaves, stays_there, still_plays}
+use Rattle.gate_schedules.proofs.writers.Stages.{none_leaves, still_plays}
 use Rattle.gate_schedules.proofs.writers.Words.{down_write_adds, down_write_counts_none, down_write_words, pass_leaves, tree_begins, tree_beside}
 use Rattle.gate_schedules.proofs.writers.Words.{writer_at_level}
 use Rattle.access_model.specs.{Replies.map_next, declared.{actions.Action.Action, replies.{Next.Next, Reply.Reply}}}
@@ -56,11 +56,6 @@ sections_place d other = grind arith
 
 passed_place : (d : DownWrite) (o : Option SyncWord) → IsAtPlace d Before (passed_awaited d o)
 passed_place d o = grind arith
-
--- what a freeze does with the stage at such a place
-place_role : (x : Freeze) (d : DownWrite) (p : Place) (n : Next DownWrite) → IsAtPlace d p n →
-    stage_role_of (phase_after (map_next Phase.Freezes (after_closing x d.level n))) ≡ Freezing d.level p (nat_lt 1 d.level)
-place_role x d p n h = grind arith
 
 -- and once the level is closed
 closed_role : (x : Freeze) (level : ℕ) → 1 ≤ level → level ≤ 3 →

@@ -17,7 +17,7 @@ use Rattle.gate_schedules.proofs.operations.freeze.Stages.{freeze_stands, idle_s
 -- with level 2 closed, a freeze clears another mark or asks the file system for its sync
 cleared_stands : (x : Freeze) (marks : ClearMarks) (node : Option ℕ) →
     HasPosition (phase_after (map_next Phase.Freezes (after_clearing x (clears_at marks node)))) (Some (closed_to 2))
-cleared_stands x marks a2 = grind arith
+cleared_stands x marks next = grind arith
 
 -- an attempt at `umount` leaves how a freeze stands with the levels, where the step that it is for stands so
 locked_stands : (x : Freeze) (again step : FreezeStep) (found : ℕ) (stand : Option LevelPosition) →

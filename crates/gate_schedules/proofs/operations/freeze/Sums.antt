@@ -1,11 +1,11 @@
 -- What the trace of an operation says while it closes a level: which events are added to it, and why it waits.
-use Rattle.std.proofs.Common.{◌≡◌, ℕ, suc, ◌+◌, ◌%◌, ◌<◌, ◌⊎◌, true, refl, ap, ◌∙◌, subst, inl, inr, add-one, arith}
+use Rattle.std.proofs.Common.{◌≡◌, ℕ, suc, ◌+◌, ◌<◌, ◌⊎◌, true, refl, ap, ◌∙◌, subst, inl, inr, add-one, arith}
 use Rattle.std.proofs.lemmas.Bool.{ltb-true, ltb-false, cases_Bool, Decides.eqb_tells}
-use Rattle.std.specs.Prelude.{◌==◌, nat_lt, Option, Some, None, List, ◌∷◌}
+use Rattle.std.specs.Prelude.{nat_lt, Option, Some, None, List, ◌∷◌}
 use Rattle.access_model.specs.declared.{actions.Action.Action, replies.Next.Next}
 use Rattle.cpu_words.specs.{Hooks.HookAnswer, Touches.{wrap_add, event_of, found_by}, declared.sums.Sum.Sum}
-use Rattle.percpu_rwsem.specs.{Graces.{is_first, passed_on}, SyncWords.{unpack, on_enter, on_callback}, Transitions.transition_after}
-use Rattle.percpu_rwsem.specs.Writers.{down_write_next, down_write_after, enter_step, callback_step, sections_awaited, passed_awaited, sum_begun}
+use Rattle.percpu_rwsem.specs.{SyncWords.{unpack, on_enter, on_callback}, Transitions.transition_after}
+use Rattle.percpu_rwsem.specs.Writers.{down_write_next, down_write_after, enter_step, callback_step, passed_awaited, sum_begun}
 use Rattle.percpu_rwsem.specs.declared.{grace.Grace.{Grace}, sync_word.SyncWord.{SyncWord}, transitions.TransitionNext.{TransitionNext}}
 use Rattle.percpu_rwsem.specs.declared.writers.{DownWrite.DownWrite, DownWriteStep.DownWriteStep}
 use Rattle.gate_world.specs.Configs.{IsWithin}
@@ -67,11 +67,6 @@ module _ (c : Config) (lim : IsWithin c) (i value : ℕ) (hook : HookAnswer) (ea
 
   callback_goes : (trace : List Traced) (n : TransitionNext) → ClosingGoes c i trace (closing_at c i (callback_step n))
   callback_goes trace n = grind arith
-
-  -- a task is passed
-  passed_goes : (trace : List Traced) (g : Grace) →
-      ClosingNext c i trace (sections_awaited (closing_at c i (DownWriteStep.AwaitsSections g)) (passed_on g)) None
-  passed_goes trace g = grind arith
 
   -- a task is passed, or it is still inside its section
   looks_at_section : (g : Grace) → AfterClosing (DownWriteStep.AwaitsSections g)

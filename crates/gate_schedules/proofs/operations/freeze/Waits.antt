@@ -6,9 +6,9 @@ use Rattle.std.specs.Prelude.{nat_lt, Some, Ok, Err, List, ◌⊎◌}
 use Rattle.access_model.specs.{Replies.map_next, declared.{errors.GateError.GateError, replies.Next.Next}}
 use Rattle.cpu_words.specs.{Hooks.HookAnswer, Touches.wrap_add, declared.sums.Sum.Sum}
 use Rattle.node_words.specs.{Phases.{clear_after}, declared.marks.ClearMarks.{ClearMarks}}
-use Rattle.percpu_rwsem.specs.{Graces.{is_first, passed_on}, SyncWords.{is_passed, is_queued, on_exit}, Transitions.transition_after}
-use Rattle.percpu_rwsem.specs.Writers.{down_write_after, at_down_write, sections_awaited, up_write_after, exit_made}
-use Rattle.percpu_rwsem.specs.declared.{grace.Grace.Grace, sync_word.GpState.GpState, transitions.TransitionNext.TransitionNext}
+use Rattle.percpu_rwsem.specs.{Graces.{is_first, passed_on}, SyncWords.{is_passed, is_queued}}
+use Rattle.percpu_rwsem.specs.Writers.{down_write_after, at_down_write, sections_awaited, up_write_after}
+use Rattle.percpu_rwsem.specs.declared.{grace.Grace.Grace, sync_word.GpState.GpState}
 use Rattle.percpu_rwsem.specs.declared.writers.{DownWrite.DownWrite, DownWriteStep.DownWriteStep, UpWrite.UpWrite, UpWriteStep.UpWriteStep}
 use Rattle.freeze_levels.specs.{Freezes.{at_freeze, after_closing, after_clearing, after_reopening}, declared.freezes.{Freeze.Freeze, FreezeStep.FreezeStep}}
 use Rattle.freeze_laws.proofs.levels.CitedLaws.{writers_find}
@@ -106,15 +106,10 @@ module _ (c : Config) (w : World) (earlier : List World) (good : IsGood c w) (t 
     closing_waits hook DownWriteStep.SetsBlock e same f h = rw (eq-eqb (w.words.block d.level) 0 (found_there DownWriteStep.SetsBlock e refl).0) tt
     closing_waits hook (DownWriteStep.Sums sum) e same f h = sum_waits sum f same h
 
-  -- no event of the transition with which a level is left is a wait
-  exits_waits : (s : FreezeStep) (u : UpWrite) (level code : ℕ) (n : TransitionNext) →
-      Waits s (after_reopening x level code (exit_made u n))
-  exits_waits s u level code other = grind arith
-
   -- so none of its reopening is
   reopening_waits : (s : FreezeStep) (u : UpWrite) (step : UpWriteStep) (level code found : ℕ) →
       Waits s (after_reopening x level code (up_write_after u step found).0)
-  reopening_waits s u a2 level code found = grind arith
+  reopening_waits s u step level code found = grind arith
 
   clearing_waits : (s : FreezeStep) (marks : ClearMarks) (found : ℕ) → Waits s (after_clearing x (clear_after marks found).0)
   clearing_waits s marks found = elim (cases_Bool (nat_lt (marks.node + 1) marks.nodes)) [ inl h ↦ rw h tt | inr h ↦ rw h tt ]

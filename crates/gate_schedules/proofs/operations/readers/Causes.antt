@@ -7,8 +7,8 @@ use Rattle.finite_sums.proofs.Totals.{HasPlace, total_place}
 use Rattle.access_model.specs.{Replies.map_next, declared.replies.Next.{Next, TheVariants.{Go, Wait, Done}}}
 use Rattle.cpu_words.specs.Hooks.{HookAnswer}
 use Rattle.percpu_rwsem.specs.{Readers.{down_read_after, at_down_read, left_blocked}, SyncWords.unpack, declared.readers.DownRead.DownRead}
-use Rattle.percpu_rwsem.specs.declared.readers.DownReadStep.{DownReadStep, TheVariants.{LoadsSync, CountsUpFast, LoadsBlock, CountsDown, LeavesBlocked}}
-use Rattle.freeze_laws.specs.levels.{Operations.down_read_role, Roles.{SyncRole, Out, closed}}
+use Rattle.percpu_rwsem.specs.declared.readers.DownReadStep.{DownReadStep, TheVariants.{LoadsSync, LoadsBlock, CountsDown, LeavesBlocked}}
+use Rattle.freeze_laws.specs.levels.{Operations.down_read_role, Roles.{SyncRole, closed}}
 use Rattle.gate_world.specs.{refusals.Causes.{last_asked, asks_level, read_asks, WasClosed}, refusals.KeptCauses.{ReadCause, CauseOf}, Levels.{sync_role_of, is_frozen_whole}}
 use Rattle.gate_world.specs.{Roles.sync_role_if, Rules.{IsGood, SyncAt, SyncHoldsIn}, Views.phase_after, Worlds.{World, found_at}}
 use Rattle.gate_world.specs.declared.{config.Config.Config, work.Phase.TheVariants.DownReads}

@@ -18,10 +18,10 @@ use Rattle.gate_world.specs.{Levels.sync_role_of, Operations.holds_none_from, Ro
 use Rattle.gate_world.specs.{Rules.StepKeeps, Shown.shown, Views.{has_open, held_at, held_of, holds_level, phase_after, view_with}, Worlds.World}
 use Rattle.gate_world.specs.{Worlds.after_step, declared.{config.Config.Config, views.View.View, work.Phase.{Phase, TheVariants.DownReads}}}
 use Rattle.freeze_laws.specs.levels.Roles.{Fast}
-use Rattle.percpu_rwsem.specs.{Readers.{at_down_read, left_blocked, step_found, step_in}, SyncWords.unpack, declared.readers.DownRead.DownRead}
+use Rattle.percpu_rwsem.specs.{Readers.{at_down_read, left_blocked, step_found}, SyncWords.unpack, declared.readers.DownRead.DownRead}
 use Rattle.percpu_rwsem.specs.declared.readers.DownReadStep.{DownReadStep, TheVariants.{CountsDown, CountsUpFast, CountsUpSlow, EntersSection}}
-use Rattle.percpu_rwsem.specs.declared.{readers.DownReadStep.TheVariants.{LeavesAdmitted, LeavesBlocked, LoadsBlock, LoadsSync}, sync_word.GpState.GpState}
-use Rattle.percpu_rwsem.specs.declared.sync_word.{GpState.TheVariants.Idle, SyncWord.SyncWord}
+use Rattle.percpu_rwsem.specs.declared.{readers.DownReadStep.TheVariants.{LeavesAdmitted, LeavesBlocked, LoadsBlock, LoadsSync}}
+use Rattle.percpu_rwsem.specs.declared.sync_word.{SyncWord.SyncWord}
 use Rattle.std.proofs.Common.{Bool, ap, arith, false, inl, inr, refl, subst, suc, sym, true, true≢false, zero, ℕ, ◌+◌, ◌<◌, ◌∙◌, ◌≡◌, ◌≤◌}
 use Rattle.std.proofs.lemmas.Bool.Decides.{eqb_tells, nat_tests}
 use Rattle.std.specs.Prelude.{None, Ok, Option, Some, nat_lt, not, ◌&&◌, ◌==◌, ◌||◌}
@@ -57,17 +57,9 @@ record IsPath (s : DownReadStep) : Type 0 where
   -- it fits what a start that holds nothing from its level up holds
   fits_still : (i : ℕ) (levels : ℕ → Bool) → holds_none_from i levels ≡ true → ReadStepFits i levels s
 
--- the slow path has it
-slow_path : IsPath CountsUpSlow
-slow_path = record { counts_not = λ p. refl; fits_still = λ i levels h. h }
-
--- whatever the state is
-path_in : (s : GpState) → IsPath (step_in s)
-path_in other = grind arith
-
 -- and where the number is no word, which is loaded again
 path_found : (o : Option SyncWord) → IsPath (step_found o)
-path_found a0 = grind arith
+path_found o = grind arith
 
 -- a start that was blocked begins anew or is done, and counts at no level
 blocked_counts : (r : DownRead) (b : Bool) (j : ℕ) → level_role_of j (phase_after (map_next DownReads (left_blocked r b))) ≡ CountsNot

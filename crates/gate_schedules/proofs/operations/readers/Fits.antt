@@ -1,22 +1,17 @@
 -- What fits after an event of a down-read, an up-read and a callback.
 use Rattle.std.proofs.lemmas.Grind.{common_steps}
-use Rattle.std.proofs.Common.{◌≡◌, ℕ, ◌<◌, ◌≤◌, Bool, true, false, refl, sym, subst, ◌∙◌, inl, inr, arith}
-use Rattle.std.proofs.lemmas.Bool.{cases_Bool, ltb-true}
-use Rattle.std.specs.Prelude.{◌==◌, ◌&&◌, nat_lt, Some, None, Ok, Err}
-use Rattle.finite_sums.proofs.Totals.{update_at}
-use Rattle.access_model.specs.declared.{actions.{Action.TheVariants.{Grant}, Gate.TheVariants.{Level}}, replies.Next.{Next}}
+use Rattle.std.proofs.Common.{◌≡◌, ℕ, ◌<◌, ◌≤◌, Bool, true, false, refl, arith}
+use Rattle.std.specs.Prelude.{◌&&◌, None, Ok, Err}
+use Rattle.access_model.specs.declared.{replies.Next.{Next}}
 use Rattle.access_model.specs.{declared.replies.Next.TheVariants.{Go, Wait, Done}, Replies.{map_next}}
 use Rattle.cpu_words.specs.Names.{IsWord}
 use Rattle.percpu_rwsem.specs.declared.readers.{DownRead.{DownRead}, DownReadStep.{DownReadStep}}
-use Rattle.percpu_rwsem.specs.declared.readers.DownReadStep.TheVariants.{EntersSection, LoadsSync, CountsUpFast, CountsUpSlow, LoadsBlock, CountsDown, LeavesAdmitted, LeavesBlocked}
-use Rattle.percpu_rwsem.specs.declared.callbacks.{Callback.{Callback}, CallbackStep.{CallbackStep, TheVariants.{Claims}}}
-use Rattle.percpu_rwsem.specs.{SyncWords.{unpack}, Readers.{down_read_next, down_read_after, at_down_read, left_blocked}}
+use Rattle.percpu_rwsem.specs.declared.callbacks.{Callback.{Callback}, CallbackStep.{CallbackStep}}
+use Rattle.percpu_rwsem.specs.{Readers.{down_read_next, down_read_after}}
 use Rattle.percpu_rwsem.specs.Callbacks.{callback_next, callback_after, at_callback}
-use Rattle.freeze_laws.specs.levels.Operations.{KnowsCallback, HoldsOfNext}
 use Rattle.gate_world.specs.declared.{config.Config.{Config}, work.Phase.TheVariants.{DownReads, Callbacks}}
 use Rattle.gate_world.specs.{Configs.{IsWithin, extents_of}, Views.{phase_after}, Operations.{holds_none_from, is_level_number}}
 use Rattle.gate_world.specs.{Fits.{ReadStepFits, ReadFits, GraceFits, PhaseFits, Fits, ActionFits}, Holdings.{Holdings, held_after}}
-use Rattle.gate_schedules.proofs.{frames.OperationLaws.by_bool, operations.readers.Trace.by_word}
 
 -- each is true where both are
 pub both_true : (a b : Bool) → (a && b) ≡ true → (a ≡ true) × (b ≡ true)
@@ -56,15 +51,10 @@ ReadGoes c t i p held (Done (Ok reply)) = held.levels i ≡ true
 ReadGoes c t i p held (Done (Err refusal)) = Unit {0}
 
 module _ (c : Config) (t : ℕ) (r : DownRead) (l1 : 1 ≤ r.level) (l3 : r.level ≤ 3) (p : r.cpu < c.processors) (same : r.task ≡ t) where
-  -- the next step fits these accesses
-  goes_on : (held : Holdings) (s : DownReadStep) → ReadStepFits r.level held.levels s →
-      ReadGoes c t r.level r.cpu held (Go (at_down_read r s))
-  goes_on held s h = ((l1, l3, p, same, h), refl, refl)
-
   -- so it is after each event
   pub read_goes : (held : Holdings) (s : DownReadStep) (found : ℕ) → ReadStepFits r.level held.levels s →
       ReadGoes c t r.level r.cpu (held_after (down_read_after r s found).1 held) (down_read_after r s found).0
-  read_goes held a1 found h = grind (arith, common_steps)
+  read_goes held s found h = grind (arith, common_steps)
 
 -- what comes after an event of a down-read that stands alone fits
 pub read_fits : (c : Config) (t i p : ℕ) (held : Holdings) (n : Next DownRead) → ReadGoes c t i p held n →
@@ -80,37 +70,7 @@ callback_there c b s l1 l3 f = grind arith
 pub callback_acts_none : (b : Callback) (s : CallbackStep) (found : ℕ) → (callback_after b s found).1 ≡ None
 callback_acts_none b other found = grind arith
 
--- the grace period of a callback that comes next is of all tasks, and has a task more to look at
-abbrev NextGraceFits : ℕ → Next Callback → Type 0
-NextGraceFits tasks next = HoldsOfNext (λ (x : Callback). GraceFits tasks x.step) next
-
--- so its grace period fits after each event of a callback
-grace_goes : (b : Callback) (s : CallbackStep) (found : ℕ) → 0 < b.tasks → GraceFits b.tasks s →
-    NextGraceFits b.tasks (callback_after b s found).0
-grace_goes b s found some f = grind arith
-
--- what comes next knows the words of its exchange, and is of as many tasks
-abbrev KnowsNext : Callback → Next Callback → Type 0
-KnowsNext b next = HoldsOfNext (λ (x : Callback). (x.tasks ≡ b.tasks) × KnowsCallback x.step) next
-
--- and so at each step
-knows_next : (b : Callback) (s : CallbackStep) (found : ℕ) → 0 < b.tasks → KnowsCallback s → KnowsNext b (callback_after b s found).0
-knows_next b s found some k = grind arith
-
--- and it is at the same level
-abbrev AtLevelOf : Callback → Next Callback → Type 0
-AtLevelOf b next = HoldsOfNext (λ (x : Callback). x.level ≡ b.level) next
-
--- so after each event
-same_level : (b : Callback) (s : CallbackStep) (found : ℕ) → AtLevelOf b (callback_after b s found).0
-same_level b s found = grind arith
-
 module _ (c : Config) (within : IsWithin c) (t : ℕ) (held : Holdings) (b : Callback) where
-  -- all this together says that what comes next fits
-  all_fit : 1 ≤ b.level → b.level ≤ 3 → b.tasks ≡ c.tasks → (n : Next Callback) → AtLevelOf b n → NextGraceFits b.tasks n →
-      KnowsNext b n → Fits c t held (phase_after (map_next Callbacks n))
-  all_fit l1 l3 same n l g k = grind arith
-
   -- what comes after each event of a callback fits
   pub callback_goes : (s : CallbackStep) (found : ℕ) → PhaseFits c t held (Callbacks (at_callback b s)) →
       Fits c t held (phase_after (map_next Callbacks (callback_after b s found).0))

@@ -2,7 +2,7 @@
 use Rattle.std.proofs.{Common.{◌≡◌, ℕ, ◌-◌, ◌<◌, ◌≤◌, refl, sym, ap, ◌∙◌, subst, inl, inr, arith}, lemmas.Bool.Decides.{eqb_tells}}
 use Rattle.std.specs.Prelude.{Some, Bool, true, false, ◌==◌}
 use Rattle.finite_sums.specs.Sums.{update}
-use Rattle.access_model.specs.{Replies.map_next, declared.replies.Next.{Next, TheVariants.{Go}}}
+use Rattle.access_model.specs.{Replies.map_next, declared.replies.Next.{Next}}
 use Rattle.cpu_words.specs.{Hooks.HookAnswer, Touches.found_by, Words.read, declared.{events.Touch.Touch, names.WordName.WordName}}
 use Rattle.percpu_rwsem.specs.{Readers.{at_down_read, down_read_next, down_read_after, left_blocked}, declared.readers.DownRead.DownRead}
 use Rattle.percpu_rwsem.specs.declared.readers.DownReadStep.{DownReadStep, TheVariants.{EntersSection, LoadsSync, CountsUpFast, CountsUpSlow, LoadsBlock}}

@@ -2,9 +2,9 @@
 use Rattle.std.proofs.lemmas.Grind.{common_steps}
 use Rattle.access_model.specs.{Replies.map_next}
 use Rattle.std.proofs.{Common.{arith, ap, inl, inr, refl, subst, sym, ℕ, ◌-◌, ◌<◌, ◌∙◌, ◌≡◌, ◌≤◌}, lemmas.Bool.Decides.{eqb_tells}}
-use Rattle.cpu_words.specs.{Hooks.HookAnswer, Touches.{found_by, left, wrap_add}, Words.{put, read}, declared.events.Touch.{Touch, TheVariants.Load}}
-use Rattle.cpu_words.specs.declared.names.WordName.{WordName, TheVariants.{Block, LevelCount, Section, Sync}}
-use Rattle.finite_sums.proofs.Totals.{update_off, update_same}
+use Rattle.cpu_words.specs.{Hooks.HookAnswer, Touches.{found_by, left, wrap_add}, Words.{put, read}, declared.events.Touch.{Touch}}
+use Rattle.cpu_words.specs.declared.names.WordName.{WordName, TheVariants.{Section}}
+use Rattle.finite_sums.proofs.Totals.{update_same}
 use Rattle.finite_sums.specs.Sums.{update}
 use Rattle.gate_schedules.proofs.levels.{Steps.{level_kept, level_moved, level_stays}, Worlds.{IsEventAt, IsOfLevel, sync_off}}
 use Rattle.gate_schedules.proofs.operations.callback.Events.{event_of_level, seen_after as callback_seen, stays_apart, stays_outside}

@@ -1,18 +1,18 @@
 -- Traces of a start and of an end. What is said of a down-read is said of it alone, so that an operation that goes through one as a part of
 -- its own has it too, after so many events of its own.
-use Rattle.std.proofs.{Common.{◌≡◌, ℕ, ◌≤◌, Bool, true, false, refl, sym, ap, subst, arith}}
-use Rattle.std.specs.Prelude.{◌+◌, Option, Some, None, Ok, Err, List, [], ◌∷◌, length}
-use Rattle.access_model.specs.{Replies.map_next, declared.actions.{Action.{Action, TheVariants.{Grant, Return}}, Gate.TheVariants.Level}}
+use Rattle.std.proofs.{Common.{◌≡◌, ℕ, ◌≤◌, Bool, true, false, arith}}
+use Rattle.std.specs.Prelude.{◌+◌, Option, Ok, Err, List, [], ◌∷◌, length}
+use Rattle.access_model.specs.{declared.actions.{Action.{Action, TheVariants.{Grant}}, Gate.TheVariants.Level}}
 use Rattle.access_model.specs.declared.{errors.GateError.TheVariants.Again, replies.Next.{Next, TheVariants.{Go, Wait, Done}}}
 use Rattle.cpu_words.specs.{Hooks.HookAnswer, Touches.{event_of, found_by}}
-use Rattle.percpu_rwsem.specs.{Readers.{down_read_next, down_read_after, step_in, step_found}, declared.readers.DownRead.DownRead}
+use Rattle.percpu_rwsem.specs.{Readers.{down_read_next, down_read_after, step_found}, declared.readers.DownRead.DownRead}
 use Rattle.percpu_rwsem.specs.declared.readers.DownReadStep.{DownReadStep, TheVariants.{EntersSection, LoadsSync, CountsUpFast, CountsUpSlow, LoadsBlock}}
-use Rattle.percpu_rwsem.specs.declared.{readers.DownReadStep.TheVariants.{CountsDown, LeavesAdmitted, LeavesBlocked}, sync_word.GpState.GpState}
+use Rattle.percpu_rwsem.specs.declared.{readers.DownReadStep.TheVariants.{CountsDown, LeavesAdmitted, LeavesBlocked}}
 use Rattle.percpu_rwsem.specs.declared.sync_word.{SyncWord.SyncWord}
-use Rattle.gate_world.specs.{traces.TraceStates.{WordIsValid, ReadIsValid}, traces.Found.{newest, finds_closed, backed_off, left_closed, found_closed}, traces.Traces.{most_events, IsShort}}
-use Rattle.gate_world.specs.{Views.{with_hook, actions_after}, Work.next_of, declared.{config.Config.Config, operations.Op.TheVariants.{Start, End}}}
+use Rattle.gate_world.specs.{traces.TraceStates.{WordIsValid}, traces.Found.{newest, finds_closed, backed_off, left_closed, found_closed}}
+use Rattle.gate_world.specs.{Views.{with_hook, actions_after}, declared.{config.Config.Config, operations.Op.TheVariants.{Start, End}}}
 use Rattle.gate_world.specs.declared.{views.Traced.Traced, work.Phase.{Phase, TheVariants.{DownReads, UpReads}}}
-use Rattle.gate_schedules.proofs.traces.TraceInvariant.{InvariantAfter, InvariantAfterStep, IsInductive, IsInductiveGivenReads}
+use Rattle.gate_schedules.proofs.traces.TraceInvariant.{IsInductive, IsInductiveGivenReads}
 
 -- a down-read of this level, processor, task and wait, at a step
 abbrev pub read_at : ℕ → ℕ → ℕ → Bool → DownReadStep → DownRead
@@ -56,13 +56,9 @@ ReadNext base i p t wait trace added (Done (Err Again)) =
     (added ≡ []) × ((wait ≡ false) × (found_closed i trace ≡ true)) × (wait ≡ false → length trace ≤ base + 6)
 ReadNext base i p t wait trace added (Done (Err refusal)) = ⊥
 
--- what holds of both additions holds of the one that a state leads to
-by_state : (P : DownReadStep → Type 0) → P CountsUpFast → P CountsUpSlow → (state : GpState) → P (step_in state)
-by_state P fast slow state = grind arith
-
 -- what holds of another load too holds of the step that any number leads to
 pub by_word : (P : DownReadStep → Type 0) → P LoadsSync → P CountsUpFast → P CountsUpSlow → (word : Option SyncWord) → P (step_found word)
-by_word a0 again fast slow a4 = grind arith
+by_word P again fast slow word = grind arith
 
 module _ (base i p t : ℕ) (value : ℕ) (hook : HookAnswer) (earlier : List Traced) (added : List Action) where
   -- what the trace says after the event of a step
@@ -81,22 +77,6 @@ module _ (base i p t : ℕ) (value : ℕ) (hook : HookAnswer) (earlier : List Tr
 -- what a start's trace says at a phase
 abbrev pub StartAt : ℕ → ℕ → ℕ → Bool → List Traced → Phase → List Action → Type 0
 StartAt i p t wait trace phase added = (s : DownReadStep) × (phase ≡ DownReads (read_at i p t wait s)) × ReadSays 0 i wait s trace added
-
--- a short trace of a start
-start_short : (c : Config) (i p : ℕ) (wait : Bool) (trace : List Traced) → (wait ≡ false → length trace ≤ 6) →
-    IsShort (most_events c (Start i p wait)) trace
-start_short c i p true trace h = tt
-start_short c i p false trace h = h refl
-
--- a step comes after at most six events
-within_six : (s : DownReadStep) (n : ℕ) → n ≤ 0 + events_before s → n ≤ 6
-within_six s n h = grind arith
-
--- what is said of a down-read is said of a start, by what comes next
-start_says : (c : Config) (i p t : ℕ) (wait : Bool) (e : Traced) (earlier : List Traced) (added : List Action) (n : Next DownRead) →
-    ReadNext 0 i p t wait (e ∷ earlier) added n →
-    InvariantAfter (StartAt i p t wait) c (Start i p wait) (e ∷ earlier) (map_next DownReads n) added
-start_says c i p t wait e earlier added n h = grind arith
 
 -- so it is kept along every trace of a start
 pub start_inductive : (c : Config) (t i p : ℕ) (wait : Bool) → IsInductiveGivenReads (StartAt i p t wait) c t (Start i p wait)

@@ -7,7 +7,7 @@ use Rattle.percpu_rwsem.specs.{Callbacks.{at_callback, claimed, callback_looked,
 use Rattle.percpu_rwsem.specs.{SyncWords.{on_claim, on_callback}, Transitions.transition_after}
 use Rattle.percpu_rwsem.specs.declared.callbacks.{Callback.Callback, CallbackStep.{CallbackStep, TheVariants.{Claims, AwaitsSections, CallsBack}}}
 use Rattle.percpu_rwsem.specs.declared.{grace.Grace.Grace, readers.{DownRead.DownRead, DownReadStep.{DownReadStep}}}
-use Rattle.percpu_rwsem.specs.declared.transitions.TransitionNext.{TransitionNext, TheVariants.More}
+use Rattle.percpu_rwsem.specs.declared.transitions.TransitionNext.{TransitionNext}
 use Rattle.gate_world.specs.{refusals.Causes.{last_asked, WasClosed}, Fits.GraceFits, refusals.KeptCauses.ReadCause, Levels.inside, Rules.{IsGood, Sections}}
 use Rattle.gate_world.specs.{refusals.Waits.{HasCulprit, HasReason}, Work.after_of, Worlds.{World, found_at}, declared.config.Config.Config}
 use Rattle.gate_world.specs.declared.work.Phase.TheVariants.{DownReads, Callbacks}

@@ -1,6 +1,6 @@
 -- The roles of a remount at each mount.
-use Rattle.std.proofs.Common.{Bool, ℕ, nat_lt, ◌≡◌, ◌+◌, false, ◌<◌, ◌==◌, true, arith, inl, eq-eqb, ne_eqb, if◌then◌else◌, ◌∙◌, inr, sym, ltb-true}
-use Rattle.std.proofs.{Common.{ltb-false, refl}, lemmas.Bool.{cases_Bool, Decides.{nat_tests}}}
+use Rattle.std.proofs.Common.{Bool, ℕ, nat_lt, ◌≡◌, ◌+◌, false, ◌<◌, ◌==◌, true, arith, eq-eqb, ne_eqb, if◌then◌else◌}
+use Rattle.std.proofs.{Common.{refl}, lemmas.Bool.{Decides.{nat_tests}}}
 use Rattle.cpu_words.specs.declared.sums.Sum.{Sum}
 use Rattle.mount_counts.specs.{Remounts.{let_go, leave_holds, give_up, past_node, past_mount}, Roles.{Out, Summing, Role}, Sets.has_mount}
 use Rattle.mount_counts.specs.declared.{remounts.RemountStep.RemountStep, sets.MountSet.MountSet}

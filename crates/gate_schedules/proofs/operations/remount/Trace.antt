@@ -1,10 +1,10 @@
 -- Traces of a remount of the superblock.
-use Rattle.std.proofs.Common.{◌≡◌, ℕ, suc, ◌+◌, ◌<◌, ◌≤◌, Bool, true, false, refl, sym, ap, ◌∙◌, subst, inl, inr, add-one, arith}
+use Rattle.std.proofs.Common.{◌≡◌, ℕ, suc, ◌+◌, ◌<◌, ◌≤◌, Bool, true, false, refl, sym, ◌∙◌, subst, inl, inr, add-one, arith}
 use Rattle.std.proofs.lemmas.{Bool.{eq-eqb, ne_eqb, ltb-true, ltb-false, cases_Bool, Decides.eqb_tells}, List.Sums.sum_by-cons}
 use Rattle.std.specs.Prelude.{◌==◌, nat_lt, if◌then◌else◌, Result, Ok, Err, List, [], ◌∷◌, ◌++◌}
 use Rattle.access_model.specs.declared.{actions.Action.Action, errors.GateError.GateError, replies.Reply.Reply}
 use Rattle.cpu_words.specs.{Hooks.HookAnswer, Touches.{wrap_add, event_of}, declared.{events.Touch.Touch, names.WordName.WordName, sums.Sum.Sum}}
-use Rattle.mount_counts.specs.{Phases.has_flag, Remounts.{past_mount, let_go, leave_holds, give_up, past_node}}
+use Rattle.mount_counts.specs.{Remounts.{past_mount, let_go, leave_holds, give_up}}
 use Rattle.mount_counts.specs.{Sets.{with_mount, without_lowest}, declared.{remounts.RemountStep.RemountStep, sets.MountSet.MountSet}}
 use Rattle.gate_world.specs.{Configs.IsWithin, traces.Found.{found_sealed, counts_loaded, sum_loaded, IsEachCount, each_event, finds_taken, cleans}}
 use Rattle.gate_world.specs.{traces.Traces.{actions_of, IsHonestAnswer}, Views.with_hook}
@@ -107,12 +107,6 @@ leave_holds_says : (c : Config) (ro : Bool) (held : MountSet) (trace : List Trac
 leave_holds_says c ro held trace added h =
     by_bool (held.bits == 0) (λ b. StepSays c ro (if b then RemountStep.Releases (Err GateError.Busy) else RemountStep.LeavesHolds held) trace added) h h
 
--- a mark is still to be cleared, or no more
-past_node_says : (c : Config) (ro : Bool) (n : ℕ) (trace : List Traced) (added : List Action) → HasSealed ro trace added →
-    StepSays c ro (past_node c.nodes n) trace added
-past_node_says c ro n trace added h =
-    by_bool (nat_lt (n + 1) c.nodes) (λ b. StepSays c ro (if b then RemountStep.ClearsMark (n + 1) else RemountStep.SetsReadOnly) trace added) h h
-
 module _ (c : Config) (lim : IsWithin c) (t : ℕ) (ro : Bool) (value : ℕ) (earlier : List Traced) (added : List Action) where
   -- the trace after the event of a step
   abbrev longer : HookAnswer → RemountStep → List Traced
@@ -132,7 +126,7 @@ module _ (c : Config) (lim : IsWithin c) (t : ℕ) (ro : Bool) (value : ℕ) (ea
   loads_superblock hook h = grind arith
 
   sets_writable : (hook : HookAnswer) → StepSays c ro RemountStep.SetsWritable earlier added → TraceAfterStep hook RemountStep.SetsWritable
-  sets_writable a0 h = grind arith
+  sets_writable hook h = grind arith
 
   -- no file is found removed, or one is
   loads_removed : (hook : HookAnswer) → StepSays c ro RemountStep.LoadsRemoved earlier added → TraceAfterStep hook RemountStep.LoadsRemoved

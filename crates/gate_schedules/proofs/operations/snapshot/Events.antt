@@ -13,15 +13,15 @@ use Rattle.gate_world.specs.{Roles.stage_at_end, Rules.{AtLevel, AtMount, Files,
 use Rattle.gate_world.specs.{Rules.{StepKeeps, SyncAt, Tree, marks_of, owns, remounts, stage_role_of, stage_roles}, traces.Snapshots.values_noted}
 use Rattle.gate_world.specs.{Trees.{tree_bounds, tree_role_of}, Views.{held_of, phase_after, view_with}, Worlds.{World, after_step}}
 use Rattle.gate_world.specs.declared.{config.Config.Config, views.{Traced.Traced, View.View}, work.Phase.Phase}
-use Rattle.node_words.specs.Nodes.{dirty_in, node_after, unpacked}
-use Rattle.gated_tree.specs.{Calls.{phase_role, role_after}, Phases.{at_snapshot, kids_step, node_step}}
+use Rattle.node_words.specs.Nodes.{node_after}
+use Rattle.gated_tree.specs.{Calls.{phase_role, role_after}, Phases.{at_snapshot, kids_step}}
 use Rattle.gated_tree.specs.{Phases.{snapshot_after, snapshot_locked_out, snapshot_next}, declared.{phases.TreePhase.TreePhase, snapshots.Snapshot.Snapshot}}
 use Rattle.gated_tree.specs.declared.snapshots.SnapshotStep.{SnapshotStep}
 use Rattle.freeze_laws.specs.stages.Events.{SameDuties, Locks as LocksStage, Recalls, Releases as ReleasesStage, Stages as StageMoment, playing}
 use Rattle.freeze_laws.specs.stages.Roles.{Aside, KnowsStage, Owning, StageRole, clean_by, owns as stage_owns}
 use Rattle.std.proofs.Common.{Bool, List, ap, arith, false, inl, inr, refl, subst, suc, sym, true, ℕ, ◌<◌, ◌∙◌, ◌≡◌}
 use Rattle.std.proofs.lemmas.Bool.{Decides.eqb_tells}
-use Rattle.std.specs.Prelude.{Err, None, Option, Result, Some, if◌then◌else◌, is_some, ◌==◌}
+use Rattle.std.specs.Prelude.{Err, None, Option, Result, Some, if◌then◌else◌, ◌==◌}
 use Rattle.gate_schedules.specs.trees.Steps.{words_left}
 
 -- the words but `umount`
@@ -35,19 +35,15 @@ event_beside w x s = grind arith
 -- What comes after it is the same snapshot at another step, or it is done.
 module _ (x : Snapshot) (P : Next Snapshot → Type 0) (go : (s : SnapshotStep) → P (Next.Go (at_snapshot x s)))
     (wait : P (Next.Wait (at_snapshot x SnapshotStep.Locks))) (done : (answer : Result Reply GateError) → P (Next.Done answer)) where
-  locked_out_comes : (b : Bool) → P (snapshot_locked_out x b)
-  locked_out_comes true = wait
-  locked_out_comes false = done _
-
   snapshot_comes : (s : SnapshotStep) (found : ℕ) → P (snapshot_after x s found).0
-  snapshot_comes a0 found = grind (arith, common_steps)
+  snapshot_comes s found = grind (arith, common_steps)
 
 -- what comes after an event, among all phases
 abbrev later : Next Snapshot → Option Phase
 later n = phase_after (map_next Phase.Trees (map_next TreePhase.Snapshot n))
 
 kids_step_role : (o : Option ℕ) → snapshot_stage_role (kids_step o) ≡ Owning (Some 4) None
-kids_step_role a0 = grind arith
+kids_step_role o = grind arith
 
 locked_out_role : (x : Snapshot) (b : Bool) → stage_role_of (later (snapshot_locked_out x b)) ≡ Aside
 locked_out_role x true = refl

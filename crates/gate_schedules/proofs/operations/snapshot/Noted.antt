@@ -1,7 +1,7 @@
 -- What the loads of a trace have noted of the tree, and what a snapshot's next load adds.
 use Rattle.std.proofs.Common.{◌≡◌, ℕ, zero, suc, ◌+◌, ◌-◌, ◌<◌, ◌≤◌, List, [], ◌∷◌, length, refl, sym, ap, ◌∙◌, subst, inl, inr, arith, get_or-set_same}
 use Rattle.std.proofs.{lemmas.Grind.{common_steps}, Common.{get_or-set_other}}
-use Rattle.std.proofs.{lemmas.{Bool.{cases_Bool, lt-ltb, le-ltb, cases_lt, Decides.eqb_tells}, List.length-replicate}}
+use Rattle.std.proofs.{lemmas.{Bool.{cases_Bool, lt-ltb, le-ltb, Decides.eqb_tells}, List.length-replicate}}
 use Rattle.std.specs.Prelude.{slice_index}
 use Rattle.cpu_words.specs.{Hooks.HookAnswer, Touches.{event_of, found_by}, declared.names.WordName.WordName}
 use Rattle.node_words.specs.Nodes.{node_shown}
@@ -47,16 +47,6 @@ notes_node : (nodes n : ℕ) (words : TreeWords) (value : ℕ) → IsLong nodes 
     NotesOne (suc n) (values_of nodes words) (values_of nodes (loaded words (WordName.Node n) value)) value
 notes_node nodes n words value long ln =
     (rw (lt-ltb n nodes ln) (get_or-set_same words.nodes n value 0 (omega (arith, long.0, ln))), node_kept nodes n words value ln)
-
--- a load of a node's children leaves the values before it
-kids_kept : (nodes n : ℕ) (words : TreeWords) (value : ℕ) → (i : ℕ) → i < suc (nodes + n) →
-    values_of nodes (loaded words (WordName.Kids n) value) i ≡ values_of nodes words i
-kids_kept nodes n words value zero l = refl
-kids_kept nodes n words value (suc i) l =
-    elim (cases_lt i nodes) [
-      | inl h ↦ rw (lt-ltb i nodes h) refl
-      | inr h ↦ rw (le-ltb i nodes h) (get_or-set_other words.kids n (i - nodes) value 0 (λ q. absurd (omega (arith, q, l, h))))
-    ]
 
 -- and is the next value
 pub notes_kids : (nodes n : ℕ) (words : TreeWords) (value : ℕ) → IsLong nodes words → n < nodes →

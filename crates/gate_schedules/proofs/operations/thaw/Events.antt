@@ -8,11 +8,11 @@ use Rattle.gate_world.specs.{Rules.{holder_role_of, holder_roles, marks_of, owns
 use Rattle.gate_world.specs.Views.{actions_after}
 use Rattle.gate_world.specs.{Views.{added_after, added_by, held_of, phase_after, taken_after, taken_by, view_with}, Worlds.World}
 use Rattle.gate_world.specs.declared.{config.Config.Config, views.{Traced.Traced, View.View}, work.Phase.Phase}
-use Rattle.gate_schedules.proofs.frames.{Accesses.holdings_of_after, ByPhase.thaw_owner, Frames.{added_load, taken_load}}
+use Rattle.gate_schedules.proofs.frames.{ByPhase.thaw_owner, Frames.{added_load, taken_load}}
 use Rattle.gate_schedules.proofs.frames.{Holders.{holders_after, holders_at, holders_stay, nobody_minds}}
 use Rattle.gate_schedules.proofs.frames.Stages.{IsStageEvent, nobody_owns, owners_alike, stages_in}
 use Rattle.gate_schedules.proofs.levels.{LevelPositions.{LevelsHold, HasPosition, left_world, position_after_opening}, UpWrite.up_write_levels, FreezeCompletes.thaws_all}
-use Rattle.gate_schedules.proofs.{mounts.Parts.{level_added_load, level_taken_load}, operations.thaw.Fits.{finds_cases, thaw_goes}}
+use Rattle.gate_schedules.proofs.{mounts.Parts.{level_added_load, level_taken_load}, operations.thaw.Fits.{finds_cases}}
 use Rattle.gate_schedules.proofs.writers.Owner.{lock_given, lock_taken, owner_stays}
 use Rattle.gate_schedules.proofs.writers.Parts.{AsksWhere, IsWriter, LeavesRest, WriterKeeps, WriterLaw, idle_writes, thaw_comes, thaw_work, thaws_write}
 use Rattle.gate_schedules.proofs.writers.Parts.{whole_writer}

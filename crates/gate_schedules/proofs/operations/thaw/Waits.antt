@@ -3,22 +3,17 @@ use Rattle.std.proofs.Common.{arith}
 use Rattle.std.{proofs.{Common.{◌≡◌, ℕ, ◌<◌, ap, inl, inr, refl}, lemmas.Bool.Decides.eqb_tells}, specs.Prelude.{Some, Ok, Err, List}}
 use Rattle.access_model.specs.{Replies.map_next, declared.errors.GateError.GateError}
 use Rattle.cpu_words.specs.Hooks.{HookAnswer}
-use Rattle.percpu_rwsem.specs.{SyncWords.on_exit, Transitions.transition_after, Writers.{exit_made, up_write_after}}
-use Rattle.percpu_rwsem.specs.declared.{transitions.TransitionNext.TransitionNext, writers.{UpWrite.UpWrite, UpWriteStep.UpWriteStep}}
+use Rattle.percpu_rwsem.specs.{Writers.{up_write_after}}
+use Rattle.percpu_rwsem.specs.declared.{writers.{UpWrite.UpWrite, UpWriteStep.UpWriteStep}}
 use Rattle.freeze_levels.specs.{Thaws.{at_thaw, after_opening}, declared.thaws.{Thaw.Thaw, ThawStep.ThawStep}}
 use Rattle.gate_world.specs.{refusals.KeptCauses.ThawCause, Rules.{owns, IsGood}, refusals.Waits.HasReason, Work.after_of, Worlds.{World, found_at}}
 use Rattle.gate_world.specs.declared.{config.Config.Config, work.Phase.Phase}
 use Rattle.gate_schedules.proofs.frames.Owners.{umount_taken}
 
 module _ (c : Config) (w : World) (earlier : List World) (t : ℕ) where
-  -- an up-write of a thaw goes on after an event of its transition, or the next level is reopened
-  exit_waits : (phase : Phase) (x : Thaw) (level : ℕ) (u : UpWrite) (n : TransitionNext) →
-      HasReason c w earlier t phase (map_next Phase.Thaws (after_opening x level (exit_made u n)))
-  exit_waits phase x level u other = grind arith
-
   reopening_waits : (phase : Phase) (x : Thaw) (u : UpWrite) (s : UpWriteStep) (found : ℕ) →
       HasReason c w earlier t phase (map_next Phase.Thaws (after_opening x u.level (up_write_after u s found).0))
-  reopening_waits phase x u a3 found = grind arith
+  reopening_waits phase x u s found = grind arith
 
   module _ (good : IsGood c w) (lt : t < c.tasks) (x : Thaw) where
     pub thaw_waits : (hook : HookAnswer) (s : ThawStep) → (w.views t).phase ≡ Some (Phase.Thaws (at_thaw x s)) →

@@ -1,12 +1,11 @@
 -- Each phase of a write access is alike to the phase of its gate, before an event and after it; and what fits then, and what is said of
 -- causes and of waits.
 use Rattle.access_model.specs.{Replies.map_next, declared.replies.Next.Next}
-use Rattle.std.proofs.Common.{arith, refl, ℕ}
-use Rattle.gate_schedules.proofs.{frames.Frames.role_none}
-use Rattle.gate_world.specs.{SameRoles.{SameRoles, no_roles}, Views.{phase_after}, Work.{inner_phase}, declared.work.Phase.{Phase}}
+use Rattle.std.proofs.Common.{arith, ℕ}
+use Rattle.gate_world.specs.{SameRoles.{SameRoles}, Views.{phase_after}, Work.{inner_phase}, declared.work.Phase.{Phase}}
 use Rattle.mount_counts.specs.declared.phases.{MountPhase.MountPhase, Want.Want}
 use Rattle.percpu_rwsem.specs.declared.readers.DownRead.{DownRead}
-use Rattle.std.specs.Prelude.{Ok, Some}
+use Rattle.std.specs.Prelude.{Some}
 use Rattle.composite_ops.specs.{write_access.Phases.{then_gives_back, then_wants}, declared.write_access.phases.WritePhase.WritePhase}
 
 pub alike_plain : (x : WritePhase) → SameRoles (Some (Phase.Writes x)) (Some (inner_phase x))

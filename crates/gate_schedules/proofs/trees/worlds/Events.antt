@@ -1,11 +1,11 @@
 -- The law of one event of a call at the tree that is no snapshot: the rule holds after it, and it moves the shown model by its action.
-use Rattle.std.{proofs.Common.{◌≡◌, ℕ, ◌<◌, ◌∙◌, refl, sym, arith, true, false, true≢false, ap}, specs.Prelude.{Option, Some, List}}
+use Rattle.std.{proofs.Common.{◌≡◌, ℕ, ◌<◌, ◌∙◌, refl, sym, arith, true, false, ap}, specs.Prelude.{Option, Some, List}}
 use Rattle.access_model.specs.{Replies.map_next, declared.replies.Next.Next}
 use Rattle.cpu_words.specs.{Hooks.HookAnswer, Touches.left, Words.{Words, read, put}, declared.names.WordName.WordName}
 use Rattle.gated_tree.specs.{Calls.{phase_role, role_after}, Phases.{after}, declared.phases.TreePhase.{TreePhase}}
 use Rattle.gate_schedules.specs.trees.Steps.{Notes}
 use Rattle.freeze_laws.specs.{levels.Events.{SyncStep}, stages.Roles.{Aside}}
-use Rattle.gate_world.specs.{Configs.IsWithin, LevelRuns.level_in, Owners.is_owned, Roles.nodes_noted, Rules.{Files, Fitting, Holds, IsGood, Known, Owner}}
+use Rattle.gate_world.specs.{Configs.IsWithin, LevelRuns.level_in, Roles.nodes_noted, Rules.{Files, Fitting, Holds, IsGood, Known, Owner}}
 use Rattle.gate_world.specs.{Rules.{Part, Stages, StepKeeps, SyncAt, Tree, owns, stage_role_of}, traces.Snapshots.values_noted, Trees.tree_role_of}
 use Rattle.gate_world.specs.{Views.phase_after, Work.{next_of, after_of}, Worlds.{World, after_step, found_at, words_after}, declared.config.Config.Config}
 use Rattle.gate_world.specs.declared.{views.Traced.Traced, work.Phase.Phase}
@@ -48,10 +48,6 @@ notes_nothing x values noted found other = grind arith
 pub umount_same : (w : Words) (word : WordName) (n : ℕ) → is_node_word word ≡ true → (put w word n).umount ≡ w.umount
 umount_same w word n h = grind arith
 
--- and is none that only the owner changes
-pub not_owned : (word : WordName) → is_node_word word ≡ true → is_owned word ≡ false
-not_owned word h = grind arith
-
 -- each level stays at an event at the tree
 pub tree_run : (tasks : ℕ) (w : World) (t : ℕ) → t < tasks → (phase : Phase) (hook : HookAnswer) → (w.views t).phase ≡ Some phase →
     IsAtTree w phase hook → (i : ℕ) → SyncStep tasks (level_in w i) (level_in (after_step w t phase hook) i)
@@ -65,7 +61,7 @@ module _ (c : Config) (w : World) (good : IsGood c w) (t : ℕ) (lt : t < c.task
     (e : (w.views t).phase ≡ Some phase) (at : IsAtTree w phase hook) (word : is_node_word (next_of phase hook).0 ≡ true)
     (was : IsPlain (Some phase)) (now : IsPlain (phase_after (after_of phase (found_at w.words phase hook) hook).0)) where
   plain_work : IsOwnersWork w phase hook
-  plain_work  = grind arith
+  plain_work = grind arith
 
   pub plain_parts : Holds c (after_step w t phase hook) Fitting → Holds c (after_step w t phase hook) Tree →
       Holds c (after_step w t phase hook) Files → (part : Part) → Holds c (after_step w t phase hook) part

@@ -1,23 +1,19 @@
 -- Who is at a level with an access at some mount: nobody has shut what it came through.
 use Rattle.finite_sums.proofs.Totals.{total_at}
 use Rattle.finite_sums.specs.Sums.{total}
-use Rattle.freeze_levels.specs.declared.{freezes.FreezeStep.FreezeStep, thaws.ThawStep.ThawStep}
 use Rattle.cpu_words.proofs.gate_counts.LevelLaws.{none_frozen, none_passed}
-use Rattle.cpu_words.specs.gate_counts.{Gates.past, Levels.{LevelRole, Passed}}
-use Rattle.gate_schedules.proofs.{frames.Stages.{stages_in, stages_right}, levels.ClosedBelow.below}
-use Rattle.gate_world.specs.{Levels.{at_level, is_frozen_whole, level_role_of}, Operations.{is_writer, some_mount}, Roles.{count_beside, down_count_role}}
-use Rattle.gate_world.specs.Roles.{freeze_stage_role, freeze_position, place_of, remount_stage_role, reopening_role, snapshot_stage_role, position_count}
-use Rattle.gate_world.specs.{Roles.{thaw_stage_role, thaw_position, tree_stage_role, up_count_role}, Rules.{AtLevel, AtMount, IsGood, MountHoldsIn, Owner, Stages}}
+use Rattle.cpu_words.specs.gate_counts.{Gates.past, Levels.{Passed}}
+use Rattle.gate_schedules.proofs.{frames.Stages.{stages_in, stages_right}}
+use Rattle.gate_world.specs.{Levels.{at_level, is_frozen_whole, level_role_of}, Operations.{is_writer, some_mount}}
+use Rattle.gate_world.specs.{Rules.{AtLevel, AtMount, IsGood, MountHoldsIn, Owner, Stages}}
 use Rattle.gate_world.specs.{Rules.{at_mount, stage_role_of, stage_roles}, Views.{held_at, held_of, holds_level}, Worlds.World}
 use Rattle.gate_world.specs.declared.{config.Config.Config, work.Phase.Phase}
-use Rattle.gated_tree.specs.declared.{phases.TreePhase.TreePhase, snapshots.SnapshotStep.SnapshotStep}
-use Rattle.mount_counts.specs.{Roles.{mount_as_gate, ro_bit}, declared.remounts.RemountStep.RemountStep}
-use Rattle.percpu_rwsem.specs.declared.writers.{DownWriteStep.DownWriteStep, UpWriteStep.UpWriteStep}
+use Rattle.mount_counts.specs.{Roles.{mount_as_gate, ro_bit}}
 use Rattle.freeze_laws.proofs.stages.CitedLaws.{freeze_is_under_way}
-use Rattle.freeze_laws.specs.stages.Roles.{Before, Freezing, Place, passed_by}
+use Rattle.freeze_laws.specs.stages.Roles.{Freezing, Place, passed_by}
 use Rattle.std.proofs.{Common.{Bool, ap, arith, false, inl, inr, refl, suc, sym, true, true≢false, zero, ℕ, ◌<◌, ◌≡◌, ◌≤◌, ◌⊎◌}, lemmas.Bool.cases_Bool}
-use Rattle.std.proofs.lemmas.Bool.{cases_lt, ltb-true, ne_eqb}
-use Rattle.std.specs.Prelude.{Option, Some, nat_lt, ◌&&◌, ◌==◌}
+use Rattle.std.proofs.lemmas.Bool.{cases_lt, ltb-true}
+use Rattle.std.specs.Prelude.{Option, ◌&&◌}
 
 pub both_true : (a b : Bool) → (a && b) ≡ true → (a ≡ true) × (b ≡ true)
 both_true true b h = (refl, h)
@@ -31,40 +27,8 @@ mount_there (suc n) held h =
       | inr e ↦ (n, omega arith, ltb-true 0 (held n) (rw e at h))
     ]
 
-below_stand : (i level : ℕ) (r : LevelRole) → i < level → count_beside (i == level) (nat_lt i level) r ≡ Passed
-below_stand i level r lt = rw (ne_eqb i level (λ e. omega (arith, e, lt)), below i level lt) refl
-
-up_to_stand : (i level : ℕ) (r : LevelRole) → i ≤ level → r ≡ Passed → count_beside (i == level) (nat_lt i level) r ≡ Passed
-up_to_stand i level r le is = grind arith
-
 place_passed : (stage : ℕ) (place : Place) (owner : Bool) → stage ≤ suc (passed_by (Freezing stage place owner))
 place_passed stage other owner = grind arith
-
--- a level that is being closed isn't passed
-closing_passed : (i level : ℕ) (s : DownWriteStep) (owner : Bool) → 1 ≤ i → i ≤ passed_by (Freezing level (place_of s) owner) → i < level
-closing_passed i level s owner low le = grind arith
-
--- one that is being opened is passed until its store
-reopening_passed : (i level : ℕ) (s : UpWriteStep) → 1 ≤ i → i ≤ passed_by (reopening_role level s) →
-    count_beside (i == level) (nat_lt i level) (up_count_role s) ≡ Passed
-reopening_passed i level a2 low le = grind arith
-
--- a level that a freeze has passed, it has passed at the level's counts
-freeze_passed : (nodes i : ℕ) (s : FreezeStep) → 1 ≤ i → i ≤ passed_by (freeze_stage_role nodes s) →
-    position_count i (freeze_position s) ≡ Passed
-freeze_passed nodes i s low le = grind arith
-
-thaw_passed : (i : ℕ) (s : ThawStep) → 1 ≤ i → i ≤ passed_by (thaw_stage_role s) → position_count i (thaw_position s) ≡ Passed
-thaw_passed i s low le = grind arith
-
-remount_passed : (nodes : ℕ) (s : RemountStep) → passed_by (remount_stage_role nodes s) ≡ 0
-remount_passed nodes s = grind arith
-
-snapshot_passed : (s : SnapshotStep) → passed_by (snapshot_stage_role s) ≡ 0
-snapshot_passed s = grind arith
-
-tree_passed : (x : TreePhase) → passed_by (tree_stage_role x) ≡ 0
-tree_passed x = grind arith
 
 pub passed_there : (i : ℕ) → 1 ≤ i → (p : Option Phase) → i ≤ passed_by (stage_role_of p) → level_role_of i p ≡ Passed
 passed_there i low p le = grind arith

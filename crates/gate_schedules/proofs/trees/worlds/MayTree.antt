@@ -19,8 +19,8 @@ use Rattle.gated_tree.specs.declared.{growth.{Grow.Grow, GrowStep.GrowStep}, mar
 use Rattle.gated_tree.specs.declared.{opens.OpenStep.OpenStep, phases.TreePhase.TreePhase, snapshots.{Snapshot.Snapshot, SnapshotStep.SnapshotStep}}
 use Rattle.mount_counts.specs.{Roles.{barring_of, mount_as_gate, skips}, Sets.has_mount, declared.remounts.RemountStep.RemountStep}
 use Rattle.freeze_laws.specs.stages.Roles.{passed_by}
-use Rattle.std.proofs.{Common.{Bool, ap, arith, false, inl, inr, leb-true, refl, subst, true, ℕ, ◌<◌, ◌≡◌, ◌≤◌}, lemmas.Bool.{cases_Bool, Decides.eqb_tells}}
-use Rattle.std.specs.Prelude.{List, None, Option, Some, if◌then◌else◌, nat_le, ◌==◌}
+use Rattle.std.proofs.{Common.{Bool, ap, arith, false, inl, inr, refl, subst, true, ℕ, ◌<◌, ◌≡◌, ◌≤◌}, lemmas.Bool.{Decides.eqb_tells}}
+use Rattle.std.specs.Prelude.{List, None, Option, Some, if◌then◌else◌, ◌==◌}
 use Rattle.gate_schedules.specs.trees.{Events.{HasLeave, MayClean}, Steps.{MayMark, TreeAllowsStep}}
 
 pub open_unsealed : (sb stage : ℕ) → sb ≡ 0 → stage < 3 → sealed_by sb stage ≡ 0
@@ -171,7 +171,7 @@ module _ (c : Config) (w : World) (good : IsGood c w) where
     mark_leave x (MarkStep.MarksFile file) found may = leave_if (found == word_of file) _ (mark_leave_now x.dirty x.file may)
 
     open_leave : (x : OpenFile) (s : OpenStep) (found : ℕ) → has_open (w.views t) x.file ≡ false → LeaveFor (open_after x s found).1
-    open_leave x a1 found own = grind arith
+    open_leave x s found own = grind arith
 
     snapshot_leave : (x : Snapshot) (s : SnapshotStep) (found : ℕ) → LeaveFor (snapshot_after x s found).1
     snapshot_leave x other found = grind arith

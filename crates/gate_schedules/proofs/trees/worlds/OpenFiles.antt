@@ -1,13 +1,13 @@
 -- How many tasks have each file open, after an action of one of them.
-use Rattle.std.proofs.{Common.{◌≡◌, ℕ, ◌+◌, ◌-◌, ◌<◌, Bool, true, false, refl, sym, ap, ◌∙◌, inl, inr, arith}, lemmas.Bool.Decides.eqb_tells}
-use Rattle.std.specs.Prelude.{Option, Some, None, Result, Ok, Err, nat_lt}
+use Rattle.std.proofs.{Common.{◌≡◌, ℕ, ◌+◌, ◌-◌, ◌<◌, Bool, true, false, sym, ap, ◌∙◌, inl, inr, arith}, lemmas.Bool.Decides.eqb_tells}
+use Rattle.std.specs.Prelude.{Option, Some, None}
 use Rattle.finite_sums.{proofs.Totals.{update_at, update_off, update_same, total_updated}, specs.Sums.update}
-use Rattle.access_model.specs.{Actions.{tree_after, after_remove, after_close}, Replies.map_next, States.{Limits, State, one_if, most_tasks, openers}}
-use Rattle.access_model.specs.declared.{actions.{Action.Action, NodeInfo.NodeInfo}, errors.GateError.GateError, replies.Next.Next}
+use Rattle.access_model.specs.{Actions.{tree_after}, Replies.map_next, States.{Limits, State, one_if, most_tasks, openers}}
+use Rattle.access_model.specs.declared.{actions.{Action.Action, NodeInfo.NodeInfo}}
 use Rattle.cpu_words.specs.Hooks.{HookAnswer}
-use Rattle.node_words.specs.{Nodes.{opens_in, word_of, file_in}, Phases.{after_look, clear_after}, declared.nodes.NodeWord.{NodeWord}}
-use Rattle.gated_tree.specs.Phases.{after, at_open, opens_from, open_after, create_after, remove_after, grow_after, move_after, mark_after}
-use Rattle.gated_tree.specs.{Phases.{snapshot_after}, Roles.{Bounds}, declared.opens.{OpenFile.{OpenFile}, OpenStep.{OpenStep}}}
+use Rattle.node_words.specs.{Nodes.{opens_in}}
+use Rattle.gated_tree.specs.Phases.{after}
+use Rattle.gated_tree.specs.{Roles.{Bounds}}
 use Rattle.gated_tree.specs.declared.phases.TreePhase.{TreePhase}
 use Rattle.gate_schedules.specs.trees.Events.{TreeAllows, MovesBy, HasLeave, opens_shown, bounds_of}
 use Rattle.gate_world.specs.{Fits.{HasFile, file_of}, Holdings.{Holdings, held_after}, Views.phase_after, declared.work.Phase.Phase}
@@ -15,7 +15,7 @@ use Rattle.gate_world.specs.{Fits.{HasFile, file_of}, Holdings.{Holdings, held_a
 -- an action's effect on the tree asks only how many tasks have its own node open
 pub same_counts : (c : Bounds) (f g : ℕ → ℕ) (tree : ℕ → Option NodeInfo) (action : Action) → TreeAllows c tree action →
     ((n : ℕ) → n < c.nodes → f n ≡ g n) → tree_after action f tree ≡ tree_after action g tree
-same_counts c f g tree a4 allows same = grind arith
+same_counts c f g tree action allows same = grind arith
 
 -- how many tasks have a file open, where one task has it open or not
 module _ (opens : ℕ → ℕ → Bool) (t : ℕ) (lt : t < most_tasks) where
@@ -104,23 +104,7 @@ module _ (l : Limits) (s : State) (t : ℕ) (lt : t < most_tasks) (node node' : 
   files_counted (Some (Action.Clean k)) leave moves counted n ln = stays_counted moves.opens counted n ln
   files_counted (Some action) leave moves counted n ln = absurd leave
 
--- a call but an open relies on no file
-no_file : {P : Type 0} (to : P → TreePhase) → ((y : P) → file_of (Some (Phase.Trees (to y))) ≡ None) → (files : ℕ → Bool) (n : Next P) →
-    HasFile files (file_of (phase_after (map_next Phase.Trees (map_next to n))))
-no_file to none files n = grind arith
-
--- an open relies on that its task doesn't have its file open, until it has
-look_file : (x again : OpenFile) (to : NodeWord → OpenFile) (files : ℕ → Bool) (r : Option (Result NodeWord GateError)) →
-    again.file ≡ x.file → ((node : NodeWord) → (to node).file ≡ x.file) → files x.file ≡ false →
-    HasFile files (file_of (phase_after (map_next Phase.Trees (map_next TreePhase.OpenFile (after_look again to r)))))
-look_file x again to files a4 same on own = grind arith
-
-open_file : (held : Holdings) (x : OpenFile) (s : OpenStep) (found : ℕ) → held.files x.file ≡ false →
-    HasFile (held_after (open_after x s found).1 held).files
-    (file_of (phase_after (map_next Phase.Trees (map_next TreePhase.OpenFile (open_after x s found).0))))
-open_file held x a2 found own = grind arith
-
 -- so after an event of a call its task has open, or not, what the phase relies on
 pub file_then : (held : Holdings) (x : TreePhase) (found : ℕ) (hook : HookAnswer) → HasFile held.files (file_of (Some (Phase.Trees x))) →
     HasFile (held_after (after x found hook).1 held).files (file_of (phase_after (map_next Phase.Trees (after x found hook).0)))
-file_then held a1 found hook own = grind arith
+file_then held x found hook own = grind arith

@@ -1,13 +1,13 @@
 -- An event of a call at the tree: it leaves the mounts, the levels and the sections alone, and all of the shown model but the tree. A
 -- snapshot is such a call, too.
 use Rattle.gate_schedules.proofs.frames.{Accesses.holdings_of_after, Agreeing.access_agrees}
-use Rattle.gate_schedules.proofs.frames.{Frames.{added_load, left_alone, level_view_as, shown_as, taken_load, view_as}}
-use Rattle.gate_schedules.proofs.{frames.Openers.most_tasks_is, mounts.Parts.{level_added_load, level_taken_load, load_left}}
+use Rattle.gate_schedules.proofs.frames.{Frames.{left_alone, level_view_as, shown_as, view_as}}
+use Rattle.gate_schedules.proofs.{frames.Openers.most_tasks_is}
 use Rattle.gate_schedules.proofs.trees.worlds.{MayTree.{LeaveFor, call_fits, leave, may_step}, OpenFiles.{file_then, files_counted, same_counts}}
 use Rattle.gate_schedules.proofs.trees.worlds.Trees.{tree_holds, tree_within}
 use Rattle.gate_schedules.proofs.trees.{Allowed.{may_do, tree_alone}, Fitting.fits_after, Phases.each_phase}
 use Rattle.std.proofs.lemmas.Grind.{common_steps}
-use Rattle.std.proofs.Common.{Bool, ap, arith, false, inl, inr, refl, subst, sym, true, true≢false, ℕ, ◌<◌, ◌∙◌, ◌≡◌, ◌⊎◌}
+use Rattle.std.proofs.Common.{Bool, ap, arith, false, refl, subst, sym, true, true≢false, ℕ, ◌<◌, ◌∙◌, ◌≡◌, ◌⊎◌}
 use Rattle.access_model.specs.{Replies.map_next, States.openers, declared.{actions.Action.Action, replies.Next.Next}}
 use Rattle.cpu_words.specs.{Hooks.HookAnswer, Touches.left, Words.{Words, put, read}, declared.{events.Touch.Touch, names.WordName.WordName}}
 use Rattle.finite_sums.proofs.Totals.{each_updated, update_map, update_same}
@@ -23,11 +23,11 @@ use Rattle.gate_world.specs.{Worlds.{World, after_step, found_at, value_at, word
 use Rattle.node_words.specs.Nodes.{node_shown}
 use Rattle.gated_tree.specs.{Calls.{NextFits, TreePhaseFits, phase_role, role_after}, Phases.{after}}
 use Rattle.gated_tree.specs.Phases.{create_after, grow_after, mark_after}
-use Rattle.gated_tree.specs.Phases.{move_after, next, open_after, remove_after, snapshot_after, snapshot_next}
+use Rattle.gated_tree.specs.Phases.{move_after, next, open_after, remove_after, snapshot_after}
 use Rattle.gated_tree.specs.{Roles.{Role, TreeHolds}, declared.changes.{Create.Create, MoveTo.MoveTo}}
 use Rattle.gated_tree.specs.declared.{changes.{Remove.{Remove}}, growth.{Grow.{Grow}}}
 use Rattle.gated_tree.specs.declared.{marks.{Mark.Mark, MarkStep.MarkStep}, opens.{OpenFile.OpenFile}, phases.TreePhase.TreePhase}
-use Rattle.gated_tree.specs.declared.snapshots.{Snapshot.Snapshot, SnapshotStep.SnapshotStep}
+use Rattle.gated_tree.specs.declared.snapshots.{Snapshot.Snapshot}
 use Rattle.mount_counts.specs.Roles.{ro_bit}
 use Rattle.freeze_laws.specs.stages.Roles.{Aside}
 use Rattle.std.specs.Prelude.{None, Option, Some, if◌then◌else◌, ◌==◌, ◌||◌}
@@ -65,9 +65,6 @@ node_word x hook other = grind arith
 abbrev pub IsCallTouch : WordName × Touch → Type 0
 IsCallTouch x = (is_load x.1 ≡ true) ⊎ (is_call_word x.0 ≡ true)
 
-snapshot_touch : (x : Snapshot) (s : SnapshotStep) → IsCallTouch (snapshot_next x s)
-snapshot_touch x s = grind arith
-
 pub call_touch : (x : TreePhase) (hook : HookAnswer) → IsCallTouch (next x hook)
 call_touch x hook = grind arith
 
@@ -79,10 +76,6 @@ beside_calls w = record w { umount = 0; used = 0; removed = 0; node = λ n. 0; k
 abbrev pub IsBesideTree : Words → Words → Type 0
 IsBesideTree old new = beside_calls new ≡ beside_calls old
 
--- where such a word is written
-pub write_beside : (w : Words) (word : WordName) (n : ℕ) → is_call_word word ≡ true → IsBesideTree w (put w word n)
-write_beside w word n h = grind arith
-
 -- so they are after each event that loads a word, or writes such a one
 pub touch_beside : (w : Words) (x : WordName × Touch) → IsCallTouch x → IsBesideTree w (put w x.0 (left x.1 (read w x.0)))
 touch_beside w x touches = grind arith
@@ -92,28 +85,6 @@ sealed_beside old new same = λ j. is_sealed (same j)
 
 pub bare_beside : (old new : Words) → IsBesideTree old new → is_bare_at new ≡ is_bare_at old
 bare_beside old new same = λ j. is_bare_at (same j)
-
--- a write of such a word counts at no mount and at no level
-added_call : (word : WordName) (touch : Touch) (added : ℕ → ℕ → ℕ) → is_call_word word ≡ true → added_after word touch added ≡ added
-added_call word touch added h = grind arith
-
-taken_call : (word : WordName) (touch : Touch) (taken : ℕ → ℕ → ℕ) → is_call_word word ≡ true → taken_after word touch taken ≡ taken
-taken_call word touch taken h = grind arith
-
-level_added_call : (word : WordName) (touch : Touch) (added : ℕ → ℕ → ℕ) → is_call_word word ≡ true →
-    level_added_after word touch added ≡ added
-level_added_call word touch added h = grind arith
-
-level_taken_call : (word : WordName) (touch : Touch) (taken : ℕ → ℕ → ℕ) → is_call_word word ≡ true →
-    level_taken_after word touch taken ≡ taken
-level_taken_call word touch taken h = grind arith
-
--- nor does a load
-added_loaded : (word : WordName) (touch : Touch) (added : ℕ → ℕ → ℕ) → is_load touch ≡ true → added_after word touch added ≡ added
-added_loaded word touch added h = grind arith
-
-taken_loaded : (word : WordName) (touch : Touch) (taken : ℕ → ℕ → ℕ) → is_load touch ≡ true → taken_after word touch taken ≡ taken
-taken_loaded word touch taken h = grind arith
 
 -- so no event of a call counts anywhere
 pub record CountsNowhere (x : WordName × Touch) : Type 0 where

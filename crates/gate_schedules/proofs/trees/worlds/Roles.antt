@@ -1,5 +1,5 @@
 -- What the phases of each operation are not at the tree.
-use Rattle.std.proofs.Common.{◌≡◌, ℕ, refl, arith}
+use Rattle.std.proofs.Common.{◌≡◌, ℕ, arith}
 use Rattle.gated_tree.specs.{Roles.{cleared, is_bare, words_read, frees}}
 use Rattle.mount_counts.specs.declared.remounts.RemountStep.{RemountStep}
 use Rattle.freeze_levels.specs.declared.freezes.FreezeStep.{FreezeStep}

@@ -5,14 +5,13 @@ use Rattle.finite_sums.proofs.Totals.{total_none}
 use Rattle.finite_sums.specs.Sums.{update}
 use Rattle.freeze_levels.specs.declared.{freezes.FreezeStep.{FreezeStep, TheVariants.Closes}, thaws.ThawStep.ThawStep}
 use Rattle.gate_world.specs.{Configs.IsWithin, Fits.{Fits, FreezeFits, PhaseFits}, Remounts.RemountFits, Roles.{freeze_stage_role, freeze_tree_role}}
-use Rattle.gate_world.specs.Roles.{place_of, remount_stage_role, remount_tree_role, reopening_role, snapshot_stage_role, thaw_stage_role}
+use Rattle.gate_world.specs.Roles.{place_of, remount_stage_role, remount_tree_role, reopening_role, thaw_stage_role}
 use Rattle.gate_world.specs.{Roles.tree_stage_role, Rules.{Fitting, Holds, IsGood, Stages, Tree, marks_of, stage_role_of, stage_roles}}
 use Rattle.gate_world.specs.{Trees.{is_bare_at, is_sealed, tree_bounds, tree_of, tree_role_of, tree_roles}, Views.held_of}
 use Rattle.gate_world.specs.{Worlds.World, declared.{config.Config.Config, views.{Traced.Traced, View.View}, work.Phase.{Phase, TheVariants.Closes}}}
 use Rattle.node_words.specs.Nodes.{dirty_in, kind_in, node_shown}
 use Rattle.gated_tree.specs.Roles.{AreWithin, Clearing, NobodyReads, RoleHolds}
 use Rattle.gated_tree.specs.{Roles.{TreeHolds, TreeState, sealed_by, words_read}, declared.{phases.TreePhase.TreePhase}}
-use Rattle.gated_tree.specs.declared.snapshots.SnapshotStep.{SnapshotStep}
 use Rattle.mount_counts.specs.declared.remounts.RemountStep.{RemountStep}
 use Rattle.percpu_rwsem.specs.declared.writers.{DownWriteStep.DownWriteStep, UpWriteStep.UpWriteStep}
 use Rattle.freeze_laws.specs.stages.Roles.{CleanBelow, Freezing, KnowsStage, MarksHold, clean_by}
@@ -95,10 +94,7 @@ module _ (c : Config) (w : World) (good : IsGood c w) where
   closing_clean (suc (suc level)) s owner = none_clean
 
   reopening_clean : (level : ℕ) (s : UpWriteStep) → CleanBelow (clean_by (reopening_role level s)) (marks_of w.words)
-  reopening_clean level a1 = grind arith
-
-  snapshot_clean : (s : SnapshotStep) → CleanBelow (clean_by (snapshot_stage_role s)) (marks_of w.words)
-  snapshot_clean s = grind arith
+  reopening_clean level s = grind arith
 
   -- those that a remount has cleared
   remount_clean : (nodes : ℕ) (s : RemountStep) (t : ℕ) → t < c.tasks → nodes ≡ c.nodes → RemountFits c s →
