@@ -1,6 +1,5 @@
 -- What a task holds is what its own list leaves.
-use Rattle.std.proofs.Common.{arith}
-use Rattle.std.proofs.{Common.{◌≡◌, ℕ, refl, sym, ap, ◌∙◌, subst, inl, inr}, lemmas.Bool.Decides.{eqb_tells}}
+use Rattle.std.proofs.{Common.{◌≡◌, ℕ, refl, sym, ap, ◌∙◌, subst, inl, inr, arith}, lemmas.Bool.Decides.{eqb_tells}}
 use Rattle.std.specs.Prelude.{cond, List, [], ◌∷◌}
 use Rattle.access_model.specs.declared.actions.Action.{Action}
 use Rattle.access_model.specs.{States.{State}, Actions.{after_action, mounts_after, levels_after, opens_after}}

@@ -1,6 +1,5 @@
 -- What comes after each event of the reopening of the levels.
-use Rattle.std.proofs.Common.{arith}
-use Rattle.std.proofs.Common.{◌≡◌, ℕ, Bool, true, false, refl, sym, ap, ◌∙◌}
+use Rattle.std.proofs.Common.{◌≡◌, ℕ, Bool, true, false, refl, sym, ap, ◌∙◌, arith}
 use Rattle.std.specs.Prelude.{Some, Ok, ◌==◌}
 use Rattle.access_model.specs.{Holders.{held_by, with_holder, is_unheld}, declared.actions.Holders.{Holders}}
 use Rattle.access_model.specs.declared.replies.Next.TheVariants.{Go}

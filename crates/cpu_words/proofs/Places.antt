@@ -1,7 +1,6 @@
 -- Each word has a place of its own, at whatever limits: a list that has every word has every word after a write of one.
-use Rattle.std.proofs.lemmas.Grind.{common_steps}
 use Rattle.std.proofs.Common.{◌≡◌, ℕ, ◌<◌, List, length, sym, ap, ◌∙◌, inl, inr, arith, get_or-set_same, get_or-set_other}
-use Rattle.std.proofs.{lemmas.{Bool.Decides.{eqb_tells}}}
+use Rattle.std.proofs.{lemmas.{Grind.{common_steps}, Bool.Decides.{eqb_tells}}}
 use Rattle.std.specs.Prelude.{slice_set, replicate}
 use Rattle.cpu_words.specs.{declared.names.WordName.{WordName, TheVariants.{Node}}, Names.{Extents, IsWord, place, words_in_all}}
 use Rattle.cpu_words.specs.{Words.{Words, put, opening_words}, Lists.{AreFew, ListShows, AreOpening}}

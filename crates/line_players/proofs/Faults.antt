@@ -1,8 +1,9 @@
 -- Which faults are a schedule's own: all but those of a read, a write or a growth that failed.
-use Rattle.std.proofs.Common.{◌≡◌, ℕ, refl, subst, Bool, true, false, List, [], Option, Some, None, Result, Ok, Err}
+use Rattle.std.proofs.lemmas.Grind.{common_steps}
+use Rattle.std.proofs.Common.{◌≡◌, ℕ, refl, subst, Bool, true, false, List, [], Option, Some, Result, Ok, Err, arith}
 use Rattle.std.specs.Prelude.{IfErr, ok_or, if◌then◌else◌, ◌==◌, bytes_eq, codes, not}
-use Rattle.access_model.specs.declared.errors.GateError.TheVariants.{NoMemory, Invalid}
-use Rattle.schedule_text.specs.declared.commands.Line.{Line, TheVariants.{Skipped, Config as ConfigLine, Request as RequestLine}}
+use Rattle.access_model.specs.declared.errors.GateError.TheVariants.{NoMemory}
+use Rattle.schedule_text.specs.declared.commands.Line.{Line, TheVariants.{Config as ConfigLine, Request as RequestLine}}
 use Rattle.schedule_text.specs.declared.commands.{Request.{Request, TheVariants.{Words, Tree, Model, Task}}, TaskCommand.{TaskCommand}}
 use Rattle.schedule_text.specs.declared.verbs.Verb.{Verb}
 use Rattle.schedule_text.specs.declared.verbs.Verb.TheVariants.{Want, TryWant, Drop, Start, TryStart, End, WantWrite, DropWrite, Change, TryChange, Remount, Callback, Freeze, Thaw, Create, Remove, Grow, Move, Fault as FaultVerb, Flush, Open, Close, TryClose, Snapshot, TrySnapshot, Step, Run}
@@ -11,7 +12,7 @@ use Rattle.schedule_text.specs.Verbs.{takes, verb_of}
 use Rattle.schedule_lines.specs.declared.faults.Fault.{Fault}
 use Rattle.schedule_lines.specs.declared.faults.Fault.TheVariants.{ConfigExpected, ConfigTwice, UnknownCommand, WrongNumberOfWords, NoSuchTask, BadNumber, BadWord, ReadFailed, WriteFailed, Refused}
 use Rattle.schedule_lines.specs.{Words.{first_word, after_word, word_count}, Numbers.{is_digits}}
-use Rattle.transcripts.specs.{Limits.{is_config}, Transcript.{ReplayState, line_effect, config_effect}}
+use Rattle.transcripts.specs.{Transcript.{ReplayState, line_effect}}
 use Rattle.line_players.specs.Replayed.{IsTranscript, EndsWhole, EndsBy}
 use Rattle.gate_world.specs.declared.config.Config.{Config}
 
@@ -25,16 +26,12 @@ is_own _ = true
 -- a fault of the schedule ends a replay by the transcript
 pub ends_by_own : (input : Option (List ℕ)) (taken written : List ℕ) (line : ℕ) (fault : Fault) → is_own fault ≡ true →
     IsTranscript input taken written (Some (line, fault)) → EndsWhole input taken written line fault
-ends_by_own input taken written line ReadFailed own h = cc
-ends_by_own input taken written line WriteFailed own h = cc
-ends_by_own input taken written line (Refused NoMemory) own h = cc
-ends_by_own input taken written line _ own h = h
+ends_by_own input taken written line fault own h = grind arith
 
 -- where all that was printed is written, a replay ends as its fault says
 pub ends_whole : (input : Option (List ℕ)) (taken written : List ℕ) (line : ℕ) (fault : Fault) →
     EndsWhole input taken written line fault → EndsBy input taken written line fault
-ends_whole input taken written line WriteFailed h = absurd h
-ends_whole input taken written line _ h = h
+ends_whole input taken written line fault h = grind arith
 
 -- where this fails, it is by a fault of the schedule
 record FailsByOwn {A : Type 0} (r : Result A Fault) : Type 0 where
@@ -51,13 +48,11 @@ err_own fault h = record { own = h }
 -- one after the other
 then_own : {A B : Type 0} (r : Result A Fault) (f : A → Result B Fault) → FailsByOwn r → ((x : A) → FailsByOwn (f x)) →
     FailsByOwn (r >>= f)
-then_own (Ok x) f h k = k x
-then_own (Err fault) f h k = err_own fault h.own
+then_own r f h k = grind arith
 
 -- an answer, or a fault of the schedule where there is none
 or_own : {A : Type 0} (o : Option A) (fault : Fault) → is_own fault ≡ true → FailsByOwn (ok_or o fault)
-or_own (Some x) fault h = ok_own x
-or_own None fault h = err_own fault h
+or_own o fault h = grind arith
 
 -- a test, or a fault of the schedule where it fails
 expect_own : (b : Bool) (fault : Fault) → is_own fault ≡ true → FailsByOwn (expect b fault)
@@ -287,8 +282,7 @@ config_line_own line =
 
 -- a line that is not skipped
 line_for_own : (tasks : Option ℕ) (line : List ℕ) → FailsByOwn (line_for tasks line)
-line_for_own None line = config_line_own line
-line_for_own (Some tasks) line = command_own line tasks
+line_for_own tasks line = grind (arith, common_steps, config_line_own, command_own)
 
 -- any line
 parsed_own : (line : List ℕ) (tasks : Option ℕ) → FailsByOwn (parsed line tasks)
@@ -299,20 +293,7 @@ parsed_own line tasks = if_own _ _ _ (ok_own _) (line_for_own tasks line)
 pub fault_of_parsed : (line : List ℕ) (tasks : Option ℕ) (fault : Fault) → parsed line tasks ≡ Err fault → is_own fault ≡ true
 fault_of_parsed line tasks fault e = (subst (λ (r : Result Line Fault). FailsByOwn r) e (parsed_own line tasks)).own
 
--- a configuration that is refused prints nothing
-config_fault : (c : Config) (b : Bool) (fault : Fault) → (config_effect c b).fault ≡ Some fault →
-    ((config_effect c b).printed ≡ []) × (is_own fault ≡ true)
-config_fault c true fault e = cc
-config_fault c false fault e = let is : Refused Invalid ≡ fault = cc in (refl, subst (λ (f : Fault). is_own f ≡ true) is refl)
-
--- that a configuration was expected is the schedule's fault
-expected : (fault : Fault) → Some ConfigExpected ≡ Some fault → is_own fault ≡ true
-expected fault e = let is : ConfigExpected ≡ fault = cc in subst (λ (f : Fault). is_own f ≡ true) is refl
-
 -- the fault of a line that is understood and refused, which prints nothing
 pub fault_of_effect : (p : Option ReplayState) (line : Line) (fault : Fault) → (line_effect p line).fault ≡ Some fault →
     ((line_effect p line).printed ≡ []) × (is_own fault ≡ true)
-fault_of_effect p Skipped fault e = cc
-fault_of_effect p (ConfigLine c) fault e = config_fault c (is_config c) fault e
-fault_of_effect None (RequestLine request) fault e = (refl, expected fault e)
-fault_of_effect (Some p) (RequestLine request) fault e = cc
+fault_of_effect p line fault e = grind arith

@@ -1,6 +1,7 @@
 -- A replay from one step to the next, and to its end.
+use Rattle.std.proofs.lemmas.Grind.{common_steps}
 use Rattle.std.proofs.Common.{◌≡◌, ℕ, zero, suc, ◌+◌, ◌-◌, ◌<◌, ◌≤◌, refl, sym, ap, subst, ◌∙◌, arith, List, [], ◌∷◌, ◌++◌, length, take, drop, append_assoc, append-nil, length-take, length-append, take-append-drop, true, false, Option, Some, None, Result, Ok, Err, ◌⊎◌, inl, inr}
-use Rattle.std.proofs.KnownBytes.{Consumes-nil, Consumes-trans, Consumes-kept, Appends-nil, Appends-trans}
+use Rattle.std.proofs.KnownBytes.{Consumes-nil, Consumes-kept, Appends-nil, Appends-trans}
 use Rattle.std.proofs.lemmas.List.{take-append-le, drop-append-le, drop-take, Sums.{sum_by-append}}
 use Rattle.std.specs.{Prelude.{IfSome, IsSome, IfOk, IfErr, OnOk, OnErr}, Result.{result_and}, List.{count_by}}
 use Rattle.std.specs.Io.KnownBytes.{Appends, Consumes, Keeps, IsAtEnd}
@@ -53,9 +54,7 @@ Follows left more = (left ≡ Some more) ⊎ (more ≡ [])
 -- what holds of the bytes read with all that is left holds of the input
 of_input : (input left : Option (List ℕ)) (taken : List ℕ) (t : Transcript) → Consumes input left taken →
     ((more : List ℕ) → left ≡ Some more → transcript (taken ++ more) ≡ t) → IfSome input (λ text. transcript text ≡ t)
-of_input None left taken t c h = tt
-of_input (Some text) None taken t c h = absurd c
-of_input (Some text) (Some more) taken t c h = ap transcript c ∙ h more refl
+of_input input left taken t c h = grind arith
 
 -- what holds of the bytes read with all that may follow holds of them alone, and of the input
 of_all : (input left : Option (List ℕ)) (taken : List ℕ) (t : Transcript) → Consumes input left taken →
@@ -66,8 +65,7 @@ of_all input left taken t c h =
 
 -- at the end nothing follows
 none_after : (left : Option (List ℕ)) (more : List ℕ) → IsAtEnd left → Follows left more → more ≡ []
-none_after left more at_end (inl e) = subst IsAtEnd e at_end
-none_after left more at_end (inr e) = e
+none_after left more at_end h = grind arith
 
 -- a line may follow
 line_left : (done : ℕ) → done < 1048576 → 1048576 - done ≡ suc (1048576 - (done + 1))
@@ -104,25 +102,12 @@ module _ {input held left holds : Option (List ℕ)} {done : ℕ} {pending print
   -- the same bytes in other places
   pub same : (pending_after printed_after : List ℕ) → pending_after ≡ pending → printed_after ≡ printed →
       ReplayUnderWay input held done pending_after left printed_after holds play
-  same pending_after printed_after a b =
-      subst (λ (x : List ℕ). ReplayUnderWay input held done x left printed_after holds play) (sym a)
-      (subst (λ (x : List ℕ). ReplayUnderWay input held done pending left x holds play) (sym b) way)
+  same pending_after printed_after a b = grind arith
 
   -- more is read
   pub reads_on : (left_after : Option (List ℕ)) (pending_after : List ℕ) (count : ℕ) →
       ReadsOn left left_after pending pending_after count → ReplayUnderWay input held done pending_after left_after printed holds play
-  reads_on left_after pending_after count reads =
-      let grown : taken ++ reads.more ≡ way.whole ++ pending_after =
-      append_assoc way.whole pending reads.more ∙ ap (λ (l : List ℕ). way.whole ++ l) (sym reads.grown) in
-      record {
-        whole = way.whole;
-        written = way.written;
-        reads = subst (λ (l : List ℕ). Consumes input left_after l) grown
-            (Consumes-trans input left left_after taken reads.more way.reads reads.lost);
-        writes = way.writes;
-        lines = way.lines;
-        prints = way.prints;
-      }
+  reads_on left_after pending_after count reads = grind (arith, common_steps)
 
   -- what was printed is written
   pub writes_out : (holds_after : Option (List ℕ)) → Appends holds holds_after printed →
@@ -205,14 +190,11 @@ module _ {input held left holds : Option (List ℕ)} {done : ℕ} {pending print
 
   -- a line that is too long
   pub too_long : done < 1048576 → front_of pending ≡ TooLong → Stops input held left printed holds done LineTooLong
-  too_long less front =
-      stops_before LineTooLong refl less (λ (more : List ℕ).
-      long_fault (1048576 - (done + 1)) done play (pending ++ more) (too_long_stays pending more front))
+  too_long less front = grind (arith, common_steps, stops_before, long_fault, too_long_stays)
 
   -- bytes with no line that may follow
   some_left : (fault : Fault) (p : Option ReplayState) (bytes : List ℕ) → 0 < length bytes → ends_or done p fault bytes ≡ stops done fault
-  some_left fault p [] some = absurd (omega arith)
-  some_left fault p (byte ∷ others) some = refl
+  some_left fault p bytes some = grind arith
 
   -- at the end of the input only what is pending is left
   at_end : (more : List ℕ) → IsAtEnd left → Follows left more → pending ++ more ≡ pending
@@ -229,12 +211,7 @@ module _ {input held left holds : Option (List ℕ)} {done : ℕ} {pending print
 
   -- one line more than there may be
   pub too_many : done ≡ 1048576 → 0 < length pending → Stops input held left printed holds done TooManyLines
-  too_many all some =
-      stops_by TooManyLines refl (λ (more : List ℕ) e.
-      let none : 1048576 - done ≡ 0 = omega arith in
-      ap (λ (n : ℕ). transcript_from n done play (pending ++ more)) none
-      ∙ lines_spent done play (pending ++ more)
-      ∙ some_left TooManyLines play (pending ++ more) (omega (arith, length-append pending more)))
+  too_many all some = grind (arith, common_steps, stops_by, transcript_from, lines_spent, some_left, length-append)
 
   -- the end of the input
   all_read : (more : List ℕ) → pending ≡ [] → IsAtEnd left → Follows left more → rest (pending ++ more) ≡ ends done play
@@ -247,8 +224,7 @@ module _ {input held left holds : Option (List ℕ)} {done : ℕ} {pending print
 
   -- with a play the end of the input is no fault
   ends_well : (p : Option ReplayState) → IsSome p → ends done p ≡ record { printed = []; fault = None }
-  ends_well None some = cc
-  ends_well (Some p) some = refl
+  ends_well p some = grind arith
 
   -- the end of the input, where all was done and written
   all_written : pending ≡ [] → printed ≡ [] → IsAtEnd left → IsSome play → Replayed input left held holds (Ok tt)
@@ -271,9 +247,7 @@ module _ {input held left holds : Option (List ℕ)} {done : ℕ} {pending print
   -- the end of the input, by whether there was a configuration
   pub lines_end : (outcome : Result (Unit {0}) Fault) → pending ≡ [] → IsAtEnd left → OnOk outcome (IsSome play) →
       IfErr outcome (λ fault. (fault ≡ ConfigExpected) × (play ≡ None)) → LinesEnd input held left printed holds done outcome
-  lines_end (Ok all) none end some without = all_done none end some
-  lines_end (Err fault) none end some without =
-      subst (λ (f : Fault). Stops input held left printed holds done f) (sym without.0) (no_config none end without.1)
+  lines_end outcome none end some without = grind (arith, common_steps, all_done, no_config)
 
   -- a read that failed
   pub read_failed : (left_after : Option (List ℕ)) → front_of pending ≡ Part → (done < 1048576) ⊎ (pending ≡ []) →
@@ -298,15 +272,7 @@ module _ {input held left holds : Option (List ℕ)} {done : ℕ} {pending print
   stops_writing : (holds_after : Option (List ℕ)) (at : ℕ) (part : AppendsPart holds holds_after printed) →
       EndsBy input taken ((way.written ++ take part.0 printed) ++ []) (at + 1) WriteFailed →
       Stops input held left [] holds_after at WriteFailed
-  stops_writing holds_after at part is = record {
-    taken = taken;
-    written = way.written ++ take part.0 printed;
-    reads = way.reads;
-    writes = Appends-trans held holds holds_after way.written (take part.0 printed) way.writes part.2;
-    within = front_of_front _ _ _ (written_front part.0) prints_front;
-    ends = is;
-    spent = λ e. refl;
-  }
+  stops_writing holds_after at part is = grind (arith, common_steps)
 
   -- a write that failed before a read
   pub write_failed : (holds_after : Option (List ℕ)) → front_of pending ≡ Part → (done < 1048576) ⊎ (pending ≡ []) →
@@ -334,15 +300,7 @@ module _ {input held left holds : Option (List ℕ)} {done : ℕ} {pending print
 
   -- memory that was refused for the next line
   pub out_of_memory : Stops input held left printed holds done (Refused NoMemory)
-  out_of_memory = record {
-    taken = taken;
-    written = way.written;
-    reads = way.reads;
-    writes = way.writes;
-    within = prints_front;
-    ends = (prints_front, before);
-    spent = λ e. cc;
-  }
+  out_of_memory = grind (arith, common_steps, prints_front, ends, before)
 
   -- ---- a line
 
@@ -387,17 +345,11 @@ module _ {input held left holds : Option (List ℕ)} {done : ℕ} {pending print
 
       -- the line is alone with its newline
       alone : (more : List ℕ) → take n (first ++ more) ≡ take n pending
-      alone more =
-          take-append-le n first more (omega (arith, length_first))
-          ∙ take-take n (n + 1) pending (omega arith)
+      alone more = grind (arith, common_steps, take-append-le, length_first, take-take)
 
       -- what follows the line
       behind : (more : List ℕ) → drop (n + 1) (first ++ more) ≡ more
-      behind more =
-          let whole : n + 1 ≡ (n + 1) + 0 = omega arith in
-          drop-append-le (n + 1) first more (omega (arith, length_first))
-          ∙ ap (λ (l : List ℕ). l ++ more)
-          (ap (λ (k : ℕ). drop (n + 1) (take k pending)) whole ∙ drop-take (n + 1) 0 pending)
+      behind more = grind (arith, common_steps, drop-append-le, length_first, drop, take, drop-take)
 
       -- what the line does, and then what follows it
       prints_line : (more : List ℕ) → (line_effect play line).fault ≡ None →
@@ -458,8 +410,7 @@ nothing_read (Ok n) left left_after first pending pending_after grows end is fro
 -- a failed call, whose only fault this is
 pub fails_by : {A : Type 0} (r : Result A Fault) (K : Type 0) (P : Fault → Type 0) (fault : Fault) → IfErr r (λ f. f ≡ fault) →
     OnErr r K → (K → P fault) → IfErr r P
-fails_by (Ok x) K P fault is kept h = tt
-fails_by (Err f) K P fault is kept h = subst P (sym is) (h kept)
+fails_by r K P fault is kept h = grind arith
 
 -- ---- the end by a fault
 
@@ -570,10 +521,8 @@ never_begun input held answer reports at = record {
 
 -- with a number of tasks there is one
 pub has_play : (play : Option ReplayState) (tasks : ℕ) → Some tasks ≡ tasks_of play → IsSome play
-has_play None tasks e = cc
-has_play (Some p) tasks e = refl
+has_play play tasks e = grind arith
 
 -- with none there is none
 pub no_play : (play : Option ReplayState) → ◌≡◌ {A = Option ℕ} None (tasks_of play) → play ≡ None
-no_play None e = refl
-no_play (Some p) e = cc
+no_play play e = grind arith

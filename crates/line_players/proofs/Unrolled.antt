@@ -1,5 +1,6 @@
 -- The transcript of bytes by their first line.
-use Rattle.std.proofs.Common.{◌≡◌, ℕ, zero, suc, ◌+◌, refl, ap, subst, ◌∙◌, sym, List, [], ◌∷◌, take, drop, Option, Some, None, Result, Ok, Err, inl, inr}
+use Rattle.std.proofs.Common.{arith}
+use Rattle.std.proofs.Common.{◌≡◌, ℕ, zero, suc, ◌+◌, refl, ap, subst, ◌∙◌, sym, List, [], take, drop, Option, Some, None, Result, Ok, Err}
 use Rattle.schedule_text.specs.{declared.commands.Line.{Line}, Parsing.{parsed}}
 use Rattle.schedule_lines.specs.declared.{faults.Fault.{Fault, TheVariants.{LineTooLong, CutOff, TooManyLines}}, lines.Front.{Front}}
 use Rattle.schedule_lines.specs.{declared.lines.Front.TheVariants.{Line as WholeLine, TooLong, Part}, Lines.{front_of}}
@@ -84,15 +85,9 @@ pub none_left : (left done : ℕ) (p : Option ReplayState) → transcript_from l
 none_left zero done p = lines_spent done p []
 none_left (suc left) done p = part_ends left done p [] none_part
 
--- at the end of the input nothing is printed
-ends_silent : (done : ℕ) (p : Option ReplayState) → (ends done p).printed ≡ []
-ends_silent done None = refl
-ends_silent done (Some p) = refl
-
 -- the same, or inside a line
 ends_or_silent : (done : ℕ) (p : Option ReplayState) (fault : Fault) (bytes : List ℕ) → (ends_or done p fault bytes).printed ≡ []
-ends_or_silent done p fault [] = ends_silent done p
-ends_or_silent done p fault (byte ∷ rest) = refl
+ends_or_silent done p fault bytes = grind arith
 
 -- nothing is printed of a part of a line
 pub part_silent : (left done : ℕ) (p : Option ReplayState) (bytes : List ℕ) → front_of bytes ≡ Part →
@@ -104,13 +99,11 @@ part_silent (suc left) done p bytes front =
 
 -- at the end of the input there is no fault but that no configuration came
 ends_sound : (done : ℕ) (p : Option ReplayState) → MayGoOn (done + 1) (ends done p).fault
-ends_sound done None = (refl, inr refl)
-ends_sound done (Some p) = tt
+ends_sound done p = grind arith
 
 -- nor is there one where it ends inside a line, but just that
 cut_sound : (done : ℕ) (p : Option ReplayState) (bytes : List ℕ) → MayGoOn (done + 1) (ends_or done p CutOff bytes).fault
-cut_sound done p [] = ends_sound done p
-cut_sound done p (byte ∷ rest) = (refl, inl refl)
+cut_sound done p bytes = grind arith
 
 -- no line has a fault where nothing follows
 pub none_sound : (left done : ℕ) (p : Option ReplayState) → MayGoOn (done + 1) (transcript_from left done p []).fault

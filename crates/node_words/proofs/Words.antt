@@ -1,9 +1,9 @@
 -- What the words of nodes say and show: of a node that a call makes, and of one that it loaded.
-use Rattle.std.proofs.Common.{◌≡◌, ℕ, Bool, true, false, ◌<◌, ◌≤◌, refl, sym, ap, ◌∙◌, subst, arith}
-use Rattle.std.specs.Prelude.{◌==◌, Option, Some, None, Ok, if◌then◌else◌, option_map}
+use Rattle.std.proofs.Common.{◌≡◌, ℕ, Bool, true, false, ◌<◌, ◌≤◌, refl, sym, ap, ◌∙◌, arith}
+use Rattle.std.specs.Prelude.{◌==◌, Option, Some, None, Ok, option_map}
 use Rattle.access_model.specs.{declared.actions.Kind.{Kind, TheVariants.{File, Dir}}, States.{is_dirty, is_removed, IsDirectory}}
 use Rattle.node_words.specs.declared.nodes.NodeWord.{NodeWord}
-use Rattle.node_words.specs.Nodes.{kind_in, dirty_in, removed_in, opens_in, IsPacked, IsNode, IsLawful, word_of, kind_of, node_of, is_stray, info_of, node_shown, new_node, as_file, as_any_file, file_in, any_file_in, directory_in}
+use Rattle.node_words.specs.Nodes.{kind_in, dirty_in, removed_in, opens_in, IsPacked, IsNode, IsLawful, word_of, kind_of, node_of, info_of, node_shown, new_node, as_file, as_any_file, file_in, any_file_in, directory_in}
 use Rattle.node_words.proofs.Packing.{packed_unpacks, fields_placed, fields_again, lawful_packed, fields_shown}
 
 -- a node whose parent and count fit their bits comes back from its word
@@ -144,12 +144,3 @@ dirty_shown word h = grind arith
 -- a word shows a removed file just where it has the mark
 pub removed_shown : (word : ℕ) → IsPacked word → is_removed (node_shown word) ≡ (removed_in word == 1)
 removed_shown word h = grind arith
-
--- the parent of a file that any word has fits its bits
-narrow_unless : (stray : Bool) (word : ℕ) (file : NodeWord) →
-    option_map (λ node. as_file node node.removed node.kind) (if stray then None else Some (node_of word)) ≡ Some (Ok file) →
-    node_of word ≡ file
-narrow_unless stray word file e = grind arith
-
-pub file_narrow : (word : ℕ) (file : NodeWord) → file_in word ≡ Some (Ok file) → file.parent < 64
-file_narrow word file e = subst (λ node. node.parent < 64) (narrow_unless (is_stray word) word file e) (omega arith)

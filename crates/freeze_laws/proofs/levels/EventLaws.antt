@@ -1,29 +1,22 @@
 -- each kind of event at one level keeps its predicate
 use Rattle.std.proofs.{Common.{◌≡◌, ℕ, true, false, ◌+◌, ◌%◌, ◌<◌, ◌≤◌, refl, sym, ap, subst, ◌∙◌, inl, inr, arith}, lemmas.Bool.Decides.{eqb_tells, nat_tests}}
-use Rattle.std.specs.Prelude.{Bool, Option, ◌==◌, ◌&&◌, nat_lt, if◌then◌else◌}
-use Rattle.finite_sums.{proofs.Totals.{update_off, each_updated, total_updated, total_at, total_none}, specs.Sums.{update, total}}
+use Rattle.std.specs.Prelude.{Bool, nat_lt, if◌then◌else◌}
+use Rattle.finite_sums.{proofs.Totals.{each_updated, total_updated, total_at, total_none}, specs.Sums.{update, total}}
 use Rattle.cpu_words.specs.Touches.{wrap_add}
 use Rattle.percpu_rwsem.proofs.SyncWords.{bit_small}
-use Rattle.percpu_rwsem.specs.Graces.{is_first, started, looked}
+use Rattle.percpu_rwsem.specs.Graces.{started, looked}
 use Rattle.percpu_rwsem.specs.SyncWords.{bit, is_queued, entered_state, left_state, emptied_state, on_enter, on_exit, on_claim, on_callback}
 use Rattle.percpu_rwsem.specs.declared.{grace.{Grace.Grace, GraceNext.GraceNext}, sync_word.{GpState.GpState, SyncWord.SyncWord}}
-use Rattle.freeze_laws.proofs.levels.SyncLaws.{role_kept, role_free, says, parts_of, open_while_fast, moves}
+use Rattle.freeze_laws.proofs.levels.SyncLaws.{role_free, says, parts_of, open_while_fast, moves}
 use Rattle.freeze_laws.proofs.levels.TransitionLaws.{Enters, enters, Exits, exits, passes, Calls, calls, Claims, claims_queued}
 use Rattle.freeze_laws.specs.levels.Changes.{Leaves, role_entered, waits, claims}
 use Rattle.freeze_laws.specs.levels.Roles.{SyncRole, Out, Fast, Waiting, Past, Entered, Closed, Claimed, Ready, fast, entering, entered, closed, claimed, enter_bit}
-use Rattle.freeze_laws.specs.levels.Roles.{idle_bit, StillFirst, RoleHolds, SyncHolds, SectionsHold}
+use Rattle.freeze_laws.specs.levels.Roles.{idle_bit, RoleHolds, SyncHolds, SectionsHold}
 
 -- a grace period that has not loaded yet says nothing
 entered_says : (section : ℕ → ℕ) (at : ℕ → SyncRole) (tasks : ℕ) → 0 < tasks → (s : GpState) →
     RoleHolds section at tasks (role_entered tasks s)
-entered_says section at tasks some GpState.Idle = (refl, some, λ u l. absurd (omega arith), tt)
-entered_says section at tasks some other = tt
-
--- a number whose load doesn't wait is not on the fast path
-not_waiting : (section : ℕ → ℕ) (at : ℕ → SyncRole) (j found : ℕ) (o : Option ℕ) → StillFirst section at j o → section j ≡ found →
-    fast (at j) ≤ found % 2 →
-    (found % 2 == 1) && is_first o found ≡ false → fast (at j) ≡ 0
-not_waiting section at j found next h s f e = grind arith
+entered_says section at tasks some other = grind arith
 
 pub by_test : {A : Type 0} (P : A → Type 0) (b : Bool) (x y : A) → (b ≡ true → P x) → (b ≡ false → P y) → P (if b then x else y)
 by_test P true x y f g = f refl
@@ -33,18 +26,7 @@ by_test P false x y f g = g refl
 looked_says : (section : ℕ → ℕ) (at : ℕ → SyncRole) (tasks : ℕ) (g : Grace) → fast (at g.task) ≤ section g.task % 2 →
     RoleHolds section at tasks (Waiting g) →
     RoleHolds section at tasks (waits (looked g (section g.task)))
-looked_says section at tasks g f h =
-    by_test (λ n. RoleHolds section at tasks (waits n)) _ _ _
-    (λ e. (h.0, h.1, h.2, λ q. refl))
-    (λ e.
-    let z : fast (at g.task) ≡ 0 = not_waiting section at g.task (section g.task) g.first h.3 refl f e in
-    let below : (u : ℕ) → u < g.task + 1 → fast (at u) ≡ 0 = λ u l. elim (eqb_tells u g.task) [
-      | inl q ↦ ap (λ x. fast (at x)) q.1 ∙ z
-      | inr q ↦ h.2 u (omega (arith, q.1))
-    ] in
-    by_test (λ n. RoleHolds section at tasks (waits n)) (nat_lt (g.task + 1) g.tasks) _ _
-    (λ more. (h.0, grind (arith, nat_tests), below, tt))
-    (λ last u l. below u (grind (arith, nat_tests))))
+looked_says section at tasks g f h = grind arith
 
 -- the numbers of a role, by what its load led to
 pub waits_entering : (n : GraceNext) →
@@ -260,18 +242,7 @@ module _ (tasks : ℕ) (word : SyncWord) (block full : ℕ) (section : ℕ → �
       (omega (arith, ap closed out)) refl tt
 
   pub section_keeps : (value : ℕ) → fast (at t) ≡ 0 → SyncHolds tasks word block full (update section t value) at
-  section_keeps value slow = record {
-    lawful = good.lawful;
-    count = good.count;
-    once = good.once;
-    enter = good.enter;
-    taken = good.taken;
-    slow = good.slow;
-    roles = λ x lx. role_kept section (update section t value) at at (λ u. omega arith)
-        (λ u e. update_off section t value u (λ q. absurd (omega (arith, e, slow, ap (λ y. fast (at y)) q)))) tasks (at x)
-        (good.roles x lx);
-    blocked = good.blocked;
-  }
+  section_keeps value slow = grind arith
 
 -- the sections: a task begins or ends its section by one addition
 pub section_turns : (tasks : ℕ) (section inside : ℕ → ℕ) (at : ℕ → SyncRole) → SectionsHold tasks section inside at → (t v : ℕ) →

@@ -1,21 +1,15 @@
 -- the transitions that phases make are those of the number in memory
-use Rattle.std.{proofs.{Common.{◌≡◌, ℕ, refl, ap, ◌∙◌, inl, inr}, lemmas.Bool.Decides.eqb_tells}, specs.Prelude.{Option, Some, None}}
-use Rattle.percpu_rwsem.proofs.SyncWords.{unpack_pack, unpack_lawful}
-use Rattle.percpu_rwsem.specs.{SyncWords.{pack, unpack}, Transitions.{exchange_for, word_loaded}}
+use Rattle.std.proofs.Common.{arith}
+use Rattle.std.{proofs.{Common.{◌≡◌, ℕ, refl, ap, ◌∙◌, inl, inr}, lemmas.Bool.Decides.eqb_tells}, specs.Prelude.{Option, Some}}
+use Rattle.percpu_rwsem.proofs.SyncWords.{unpack_pack}
+use Rattle.percpu_rwsem.specs.{SyncWords.{pack, unpack}, Transitions.{word_loaded}}
 use Rattle.percpu_rwsem.specs.declared.{sync_word.SyncWord.SyncWord, transitions.Transition.Transition}
 use Rattle.freeze_laws.specs.levels.{Changes.{put_by, transition_of, state_found_in}, Exchanges.{MakesTransition, ExchangesMakeTransitions}}
-
--- a lawful word was loaded
-exchange_shows : (makes : SyncWord → Option SyncWord) (found : ℕ) (from : SyncWord) (o : Option SyncWord) → unpack found ≡ Some from →
-    makes from ≡ o → MakesTransition makes found found (exchange_for from o)
-exchange_shows makes found from None e m = (refl, ap (transition_of makes) e ∙ ap put_by m)
-exchange_shows makes found from (Some to) e m = (refl, (unpack_lawful found from e, m))
 
 -- a number was loaded
 load_shows : (makes : SyncWord → Option SyncWord) (found : ℕ) (o : Option SyncWord) → unpack found ≡ o →
     MakesTransition makes found found (word_loaded makes o)
-load_shows makes found None e = (refl, tt)
-load_shows makes found (Some from) e = exchange_shows makes found from (makes from) e refl
+load_shows makes found o e = grind arith
 
 pub exchanges_make_transitions : ExchangesMakeTransitions
 exchanges_make_transitions makes level found Transition.Loads known = load_shows makes found (unpack found) refl

@@ -138,8 +138,7 @@ stays_more m t a i kind before now k le le2 = grind arith
 
 -- one moment more since the first value was read
 seen_more : (m : ℕ → SyncLevel) (a i u : ℕ) (o : Option ℕ) → FirstSeen m a i u o → FirstSeen m a (suc i) u o
-seen_more m a i u None h = tt
-seen_more m a i u (Some f) h = (h.0, h.1, omega (arith, h), h.3)
+seen_more m a i u o h = grind arith
 
 -- one moment more of a grace period under way
 under_more : (tasks : ℕ) (m : ℕ → SyncLevel) (t i : ℕ) (start : SyncRole) (kind : SyncRole → ℕ) (g : Grace) → kind ((m (suc i)).at t) ≡ 1 →

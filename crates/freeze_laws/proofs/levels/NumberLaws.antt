@@ -26,8 +26,7 @@ put_holds P tasks block full section at (Some w) put h e =
     (record { word = w; packed = unpack_pack w record { fits = h.1.lawful; few = omega (arith, h.1.once) }; holds = h.1 }, h.0)
 
 put_from : (o : Option SyncWord) (put : ℕ) → put_by o ≡ Some put → (w : SyncWord) × (o ≡ Some w)
-put_from None put e = cc
-put_from (Some w) put e = (w, refl)
+put_from o put e = grind arith
 
 pub state_is : (n : ℕ) (w : SyncWord) (s : GpState) → unpack n ≡ Some w → state_found n ≡ Some s → w.state ≡ s
 state_is n w s e h = let f : state_found n ≡ Some w.state = ap state_found_in e in cc

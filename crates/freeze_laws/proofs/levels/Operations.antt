@@ -1,4 +1,5 @@
 -- each event of an operation at a level is one of the level
+use Rattle.std.proofs.lemmas.Grind.{common_steps}
 use Rattle.std.proofs.{Common.{◌≡◌, ℕ, true, ◌+◌, ◌<◌, refl, sym, ap, ◌∙◌, arith}, lemmas.Bool.{eq-eqb}}
 use Rattle.std.specs.Prelude.{Option, Some, ◌==◌}
 use Rattle.finite_sums.{proofs.Totals.update_same, specs.Sums.{update, total}}
@@ -19,8 +20,7 @@ use Rattle.freeze_laws.specs.levels.Operations.{DownWriteIsThere, UpWriteIsThere
 use Rattle.freeze_laws.specs.levels.Roles.{SyncRole, Out, Past, Entered, Closed, Ready, entered}
 
 role_from : (tasks : ℕ) (s : GpState) → down_write_role (entered_from tasks s) ≡ role_entered tasks s
-role_from tasks GpState.Idle = refl
-role_from tasks other = refl
+role_from tasks other = grind arith
 
 module _ (tasks t : ℕ) (lt : t < tasks) (l : SyncLevel) where
   -- an event of this task
@@ -39,9 +39,7 @@ module _ (tasks t : ℕ) (lt : t < tasks) (l : SyncLevel) where
       ((s : GpState) (v : ℕ) → state_found l.sync ≡ Some s → transition makes l.sync ≡ Some v →
       SyncStep tasks l (record l { sync = v; at = update l.at t (role (TransitionNext.Made s)) })) →
       (v : ℕ) (n : TransitionNext) → MakesTransition makes l.sync v n → SyncStep tasks l (record l { sync = v; at = update l.at t (role n) })
-  exchanged_by makes role r here more none made v (TransitionNext.More x) h = unmoved v (role (TransitionNext.More x)) h.0 (here ∙ sym (more x))
-  exchanged_by makes role r here more none made v TransitionNext.Undefined h = unmoved v (role TransitionNext.Undefined) h.0 (here ∙ sym none)
-  exchanged_by makes role r here more none made v (TransitionNext.Made s) h = made s v h.0 h.1
+  exchanged_by makes role r here more none made v n h = grind (arith, common_steps, unmoved)
 
   enter_made : l.at t ≡ Out → total tasks (λ x. entered (l.at x)) + l.full ≡ 0 → (s : GpState) (v : ℕ) → state_found l.sync ≡ Some s →
       transition on_enter l.sync ≡ Some v →

@@ -1,6 +1,7 @@
 -- each event of a down-read is one of its level
+use Rattle.std.proofs.lemmas.Grind.{common_steps}
 use Rattle.std.proofs.Common.{◌≡◌, ℕ, true, false, ◌-◌, ◌<◌, refl, sym, ap, subst, ◌∙◌, arith}
-use Rattle.std.specs.Prelude.{Bool, Option, Some, None, ◌==◌, if◌then◌else◌}
+use Rattle.std.specs.Prelude.{Bool, Option, Some, ◌==◌, if◌then◌else◌}
 use Rattle.finite_sums.specs.Sums.{update}
 use Rattle.finite_sums.proofs.Totals.{update_same}
 use Rattle.access_model.specs.declared.replies.Next.TheVariants.{Go}
@@ -51,8 +52,7 @@ module _ (tasks t : ℕ) (lt : t < tasks) (l : SyncLevel) where
   -- a load of the sync word
   sync_by : (o : Option SyncWord) → unpack l.sync ≡ o → l.at t ≡ Out → l.inside t ≡ 1 → SyncStep tasks l
       (record l { at = update l.at t (down_read_role (step_found o)); inside = update l.inside t (down_read_inside (step_found o)) })
-  sync_by None e out in_it = unturned Out 1 out in_it
-  sync_by (Some w) e out in_it = state_by w.state (ap state_found_in e) out in_it
+  sync_by o e out in_it = grind (arith, common_steps, unturned, state_by, state_found_in)
 
   -- the addition on the fast path
   added_by : l.at t ≡ Fast → l.inside t ≡ 1 → SyncStep tasks l (record l { at = update l.at t Out; inside = update l.inside t 1 })

@@ -2,7 +2,7 @@
 use Rattle.std.{proofs.{Common.{◌≡◌, ℕ, true, ◌+◌, ◌<◌, ◌≤◌, refl, arith}}, specs.Prelude.{Bool}}
 use Rattle.finite_sums.{proofs.Totals.{update_off, each_updated, total_updated, total_le, total_add, total_at}, specs.Sums.{update, total}}
 use Rattle.percpu_rwsem.{proofs.SyncWords.bit_small, specs.{SyncWords.{bit, is_lawful}, declared.sync_word.{GpState.GpState, SyncWord.SyncWord}}}
-use Rattle.freeze_laws.specs.levels.Roles.{SyncRole, Closed, fast, entering, entered, closed, claimed, enter_bit, idle_bit, RoleHolds}
+use Rattle.freeze_laws.specs.levels.Roles.{SyncRole, fast, entering, entered, closed, claimed, enter_bit, idle_bit, RoleHolds}
 use Rattle.freeze_laws.specs.levels.Roles.{SyncHolds}
 
 -- what a lawful word with a count of at most 1 says in numbers
@@ -24,8 +24,7 @@ pub role_free : (section : ℕ → ℕ) (at : ℕ → SyncRole) (tasks : ℕ) (r
 role_free section at tasks r e = grind arith
 
 pub parts_entered : (r : SyncRole) → closed r + entering r ≤ entered r
-parts_entered Closed = omega arith
-parts_entered r = omega arith
+parts_entered r = grind arith
 
 -- closed writers and entering ones are apart
 pub parts_of : (tasks : ℕ) (at : ℕ → SyncRole) →

@@ -66,8 +66,7 @@ pub calls_idle : (s : GpState) (c : ℕ) → is_queued s ≡ true → c ≤ 1 �
 calls_idle other c q m e = grind arith
 
 pub entered_not_idle : (s : GpState) → entered_state s ≡ GpState.Idle → ⊥
-entered_not_idle GpState.Idle e = cc
-entered_not_idle other e = cc
+entered_not_idle other e = grind arith
 
 -- a claim of a callback that is queued and not taken
 pub record Claims (s : GpState) (t : Bool) (c : ℕ) : Type 0 where

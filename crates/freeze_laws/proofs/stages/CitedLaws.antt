@@ -8,7 +8,7 @@ use Rattle.freeze_laws.proofs.stages.{Positions.{passed_in_order}, StageLaws.{fr
 use Rattle.freeze_laws.specs.stages.Events.{Stages, Holds, StageEvent, Happens}
 use Rattle.freeze_laws.specs.stages.Laws.{opening, EventsKeep, ActionsAreAllowed, ActionsHaveTheirEffect, FreezeIsUnderWay, FreezeKeepsOthersOut, FrozenAsAWhole}
 use Rattle.freeze_laws.specs.stages.Laws.{OnlyTheFreezeMovesTheStage, OpenElsewhere, PositionsAreAlone, PositionsTellTheLevels, LevelsPassInOrder, NobodyAtStageFour}
-use Rattle.freeze_laws.specs.stages.Roles.{StageRole, Aside, Owning, Remounting, Freezing, KnowsStage, Place, closes, freezes, has_position, is_full}
+use Rattle.freeze_laws.specs.stages.Roles.{StageRole, Aside, Owning, Freezing, KnowsStage, Place, closes, freezes, has_position, is_full}
 use Rattle.freeze_laws.specs.stages.Roles.{remounts}
 
 pub opening_is_right : (tasks nodes : ℕ) → Holds tasks nodes opening
@@ -46,8 +46,7 @@ freeze_is_under_way tasks nodes x h low high =
     (w.0, w.1, r.0, r.1, r.2)
 
 remounts_at : (stage sb : ℕ) (r : StageRole) → KnowsStage stage sb r → (remounts r ≡ 0 → ⊥) → stage ≡ 0
-remounts_at stage sb (Remounting known clean) k h = k.0
-remounts_at stage sb r k h = absurd (h refl)
+remounts_at stage sb r k h = grind arith
 
 -- a freeze keeps out who relies on stage 0
 pub freeze_keeps_others_out : FreezeKeepsOthersOut

@@ -1,9 +1,9 @@
 -- What holds of every role, of the numbers that say how far a freeze has come, and of sums in which at most one place counts.
-use Rattle.std.proofs.Common.{◌≡◌, ℕ, zero, suc, ◌+◌, ◌*◌, ◌-◌, ◌/◌, ◌%◌, ◌<◌, ◌≤◌, Bool, refl, sym, arith, ap}
+use Rattle.std.proofs.Common.{◌≡◌, ℕ, zero, suc, ◌+◌, ◌*◌, ◌-◌, ◌/◌, ◌%◌, ◌<◌, ◌≤◌, Bool, refl, sym, arith}
 use Rattle.std.proofs.lemmas.Bool.{le-leb, lt-leb, Decides.{nat_tests}}
 use Rattle.std.specs.Prelude.{◌==◌, ◌&&◌, if◌then◌else◌}
 use Rattle.finite_sums.{proofs.Totals.{update_off, each_updated, total_same, total_updated, total_zero, total_at}, specs.Sums.{update, total}}
-use Rattle.freeze_laws.specs.stages.Roles.{Place, StageRole, Freezing, Reopening, owns, freezes, reopens, has_position}
+use Rattle.freeze_laws.specs.stages.Roles.{Place, StageRole, Freezing, owns, freezes, reopens, has_position}
 use Rattle.freeze_laws.specs.stages.Roles.{remounts, passed_by, up_to, closes, passes, sums, under_way, is_full, KnowsStage}
 
 pub owns_le : (r : StageRole) → owns r ≤ 1
@@ -33,8 +33,7 @@ pub parts : (i : ℕ) → 1 ≤ i → (r : StageRole) → sums i r + passes i r 
 parts i low r = grind arith
 
 pub reopens_at : (stage sb : ℕ) (r : StageRole) → KnowsStage stage sb r → 0 < reopens r → stage ≡ 0
-reopens_at stage sb (Reopening closed) k h = k.0
-reopens_at stage sb r k h = absurd (omega (arith, h))
+reopens_at stage sb r k h = grind arith
 
 -- a freeze knows the stage, and passes at most as many levels; nobody passes more than 3
 pub passed_three : (stage sb : ℕ) (r : StageRole) → KnowsStage stage sb r → stage * freezes r ≤ 3 → passed_by r ≤ 3
@@ -88,5 +87,4 @@ some_position r h = grind arith
 -- who is in a freeze at this stage has stored it last
 pub freeze_role : (stage sb : ℕ) (r : StageRole) → KnowsStage stage sb r → freezes r ≡ 1 →
     (place : Place) × (owner : Bool) × (r ≡ Freezing stage place owner)
-freeze_role stage sb (Freezing known place owner) k f = (place, owner, ap (λ s. Freezing s place owner) (sym k))
-freeze_role stage sb r k f = absurd (omega (arith, f))
+freeze_role stage sb r k f = grind arith

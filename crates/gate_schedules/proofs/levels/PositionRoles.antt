@@ -76,11 +76,6 @@ pub touched_whole : (w : Words) (i : ℕ) (name : WordName) (touch : Touch) → 
     is_frozen_whole (put w name (left touch (read w name))) ≡ is_frozen_whole w
 touched_whole w i name touch e = grind arith
 
--- and the sync words of the others
-pub touched_sync : (w : Words) (i j : ℕ) → (j ≡ i → ⊥) → (name : WordName) (touch : Touch) → IsEventAt i name touch →
-    (put w name (left touch (read w name))).sync j ≡ w.sync j
-touched_sync w i j ne name touch e = grind arith
-
 pub put_inside : (l : SyncLevel) (name : WordName) (n : ℕ) → (put_at l name n).inside ≡ l.inside
 put_inside l name n = grind arith
 

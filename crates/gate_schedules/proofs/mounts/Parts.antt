@@ -38,10 +38,6 @@ known_is part h = grind arith
 abbrev pub off_gates : Words → Words
 off_gates w = record w { umount = 0; flags = λ m. 0; count = λ m p. 0 }
 
--- a load leaves all words
-pub load_left : (w : Words) (word : WordName) (touch : Touch) → is_load touch ≡ true → put w word (left touch (read w word)) ≡ w
-load_left w word touch h = grind arith
-
 -- so they are as they were
 gate_words_left : (w : Words) (x : WordName × Touch) → IsGateTouch x → off_gates (put w x.0 (left x.1 (read w x.0))) ≡ off_gates w
 gate_words_left w x touches = grind arith

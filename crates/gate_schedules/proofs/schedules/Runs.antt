@@ -1,6 +1,5 @@
 -- Schedules, entry by entry.
-use Rattle.std.proofs.Common.{arith}
-use Rattle.std.proofs.Common.{◌≡◌, ℕ, List, [], ◌∷◌, ◌++◌, append_assoc, refl, sym, ap, ◌∙◌}
+use Rattle.std.proofs.Common.{◌≡◌, ℕ, List, [], ◌∷◌, ◌++◌, append_assoc, refl, sym, ap, ◌∙◌, arith}
 use Rattle.std.specs.Prelude.{Option}
 use Rattle.access_model.specs.{Histories.Done, declared.actions.Action.Action}
 use Rattle.gate_world.specs.{Worlds.{World, happens, run, history, with_action, action_of, task_of}, declared.config.Config.Config}

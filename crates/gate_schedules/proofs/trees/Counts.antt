@@ -1,5 +1,5 @@
 -- Loads, and the events at `used` and at the counts of children. None of them changes a node word, so the shown tree stays.
-use Rattle.std.proofs.{Common.{◌≡◌, ℕ, zero, suc, ◌+◌, ◌<◌, ◌≤◌, refl, sym, ap, ◌∙◌, arith}, lemmas.Bool.Decides.nat_tests}
+use Rattle.std.proofs.{Common.{◌≡◌, ℕ, zero, suc, ◌+◌, ◌<◌, ◌≤◌, refl, sym, ap, ◌∙◌, arith}}
 use Rattle.std.specs.Prelude.{Option, Some, Ok, true}
 use Rattle.finite_sums.{proofs.Totals.{each_updated, total_bound, total_at}, specs.Sums.{update, total}}
 use Rattle.access_model.specs.{States.{is_removed, one_if}, declared.actions.{Kind.Kind, NodeInfo.NodeInfo}}
@@ -12,9 +12,6 @@ use Rattle.gated_tree.specs.Roles.{HasParent, RoleHolds, TreeHolds, NobodyReads,
 use Rattle.gated_tree.specs.Trees.{is_same, has_parent, is_child}
 use Rattle.gate_schedules.proofs.frames.Openers.{one_le}
 use Rattle.gate_schedules.{proofs.trees.Laws.{same_here, same_off, role_says, all_change, counts_change, moves}, specs.trees.Events.{turned, with_used, with_kids, with_removed}}
-
-pub same_le : (d e : ℕ) → is_same d e ≤ 1
-same_le d e = grind (arith, nat_tests)
 
 parent_le : (d : ℕ) (entry : Option NodeInfo) → has_parent d entry ≤ 1
 parent_le d entry = grind arith

@@ -1,6 +1,5 @@
 -- A refused call has its cause at a moment of a schedule, between call and return.
-use Rattle.std.proofs.Common.{arith}
-use Rattle.std.proofs.Common.{◌≡◌, ℕ, List, [], ◌∷◌, ◌++◌, sym, ap, ◌∙◌, subst}
+use Rattle.std.proofs.Common.{◌≡◌, ℕ, List, [], ◌∷◌, ◌++◌, sym, ap, ◌∙◌, subst, arith}
 use Rattle.std.specs.Prelude.{Some, Err}
 use Rattle.access_model.specs.declared.{errors.GateError.{GateError}, replies.Next.TheVariants.{Done}}
 use Rattle.cpu_words.specs.{Touches.{found_by}, declared.events.Touch.{Touch}}

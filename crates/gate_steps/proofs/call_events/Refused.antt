@@ -1,6 +1,5 @@
 -- What a refusal leaves, and when a call says that it waits.
-use Rattle.std.proofs.Common.{arith}
-use Rattle.std.proofs.{Common.{◌≡◌, ℕ, true, List, [], ◌∷◌, ◌++◌, refl, sym, ap, ◌∙◌, inl, subst}}
+use Rattle.std.proofs.{Common.{◌≡◌, ℕ, true, List, [], ◌∷◌, ◌++◌, refl, sym, ap, ◌∙◌, inl, subst, arith}}
 use Rattle.std.proofs.lemmas.List.Elements.{All-from_recursion}
 use Rattle.std.specs.{List.{All, AllByRecursion}, Prelude.{if◌then◌else◌, Err}}
 use Rattle.access_model.specs.{declared.actions.Action.{Action, TheVariants.{Stage as StageAction, Reopen}}}

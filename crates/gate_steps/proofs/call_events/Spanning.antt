@@ -1,6 +1,5 @@
 -- Each event of a call has its moment between call and return.
-use Rattle.std.proofs.Common.{arith}
-use Rattle.std.proofs.{Common.{◌≡◌, ℕ, List, [], ◌∷◌, ◌++◌, refl, sym, ap, ◌∙◌, subst}, lemmas.List.{append_assoc, append-nil}}
+use Rattle.std.proofs.{Common.{◌≡◌, ℕ, List, [], ◌∷◌, ◌++◌, refl, sym, ap, ◌∙◌, subst, arith}, lemmas.List.{append_assoc, append-nil}}
 use Rattle.std.specs.Prelude.{is_some, false, Option, Some, None}
 use mathlib.Core.Option.{some}
 use lib.ListN.{get_elem?}

@@ -1,5 +1,4 @@
 -- All that is proved of a callback.
-use Rattle.std.proofs.Common.{arith}
 use Rattle.access_model.specs.{Replies.map_next, declared.{actions.Action.Action, replies.Next.Next}}
 use Rattle.gate_schedules.proofs.frames.{Frames.sync_none, OperationLaws.{OpLaws, PhaseLaws, word_among}, Snapshots.completes_none}
 use Rattle.gate_schedules.proofs.operations.callback.{Events.callback_keeps, Trace.{CallbackAt, callback_inductive}}
@@ -8,7 +7,7 @@ use Rattle.gate_schedules.proofs.{operations.readers.Waits.callback_waits, trace
 use Rattle.gate_world.specs.{SameRoles.no_roles, Fits.{ActionFits, Fits}, Holdings.held_after, refusals.KeptCauses.CauseOf, Rules.Fitting, Views.{held_of, phase_after}}
 use Rattle.gate_world.specs.{Worlds.{World, after_step, found_at}, declared.{config.Config.Config, operations.Op.Op, work.Phase.Phase}}
 use Rattle.percpu_rwsem.specs.{Callbacks.callback_after, declared.callbacks.Callback.Callback}
-use Rattle.std.proofs.Common.{refl, subst, sym, ℕ, ◌≤◌}
+use Rattle.std.proofs.Common.{refl, subst, sym, ℕ, ◌≤◌, arith}
 use Rattle.std.specs.Prelude.{List, Option, Some, ◌∷◌}
 
 -- what comes after an event of a callback has no cause

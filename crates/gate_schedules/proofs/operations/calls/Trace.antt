@@ -1,14 +1,13 @@
 -- What the trace of a call at the tree says, kept from each event to the next, whichever call it is.
-use Rattle.std.proofs.Common.{◌≡◌, ℕ, ◌<◌, ◌≤◌, Bool, true, false, refl, arith}
-use Rattle.std.specs.Prelude.{◌||◌, Option, Result, Err, List, ◌∷◌, length, is_some, option_map}
-use Rattle.access_model.specs.{Replies.map_next, declared.{actions.Action.Action, errors.GateError.GateError, replies.{Next.Next, Reply.Reply}}}
+use Rattle.std.proofs.Common.{◌≡◌, ℕ, ◌≤◌, Bool, true, false, refl, arith}
+use Rattle.std.specs.Prelude.{◌||◌, Option, Result, Err, List, ◌∷◌, length, is_some}
+use Rattle.access_model.specs.{declared.{actions.Action.Action, errors.GateError.GateError, replies.{Next.Next, Reply.Reply}}}
 use Rattle.cpu_words.specs.declared.events.Event.{Event}
 use Rattle.node_words.specs.Phases.{after_look}
 use Rattle.gated_tree.specs.declared.phases.TreePhase.{TreePhase}
-use Rattle.gate_schedules.specs.trees.Ends.{with_action, NextIsJustified, SeesMore}
-use Rattle.gate_world.specs.{traces.Found.SeenIn, traces.Traces.{actions_of, IsHonest, ReplyMatchesTrace, most_events, IsShort, MayWait}, Views.actions_after}
+use Rattle.gate_schedules.specs.trees.Ends.{SeesMore}
+use Rattle.gate_world.specs.{traces.Found.SeenIn, traces.Traces.{actions_of, IsHonest, ReplyMatchesTrace, most_events, IsShort}}
 use Rattle.gate_world.specs.declared.{config.Config.Config, operations.Op.Op, views.Traced.Traced, work.Phase.Phase}
-use Rattle.gate_schedules.proofs.traces.TraceInvariant.{InvariantAfter}
 
 pub or_other : (a b : Bool) → b ≡ true → (a || b) ≡ true
 or_other true b h = refl
@@ -16,9 +15,6 @@ or_other false b h = h
 
 pub sees : (e : Traced) (earlier : List Traced) → SeesMore (SeenIn earlier) (SeenIn (e ∷ earlier)) e.event
 sees e earlier = grind arith
-
-pub made_some : {A B : Type 0} (f : A → B) (o : Option A) → is_some o ≡ true → is_some (option_map f o) ≡ true
-made_some f o h = grind arith
 
 -- A look at a word that may be there goes on or is refused: it is never done again.
 pub looked : {A P : Type 0} (Holds : Next P → Type 0) (again : P) (to : A → P) (r : Option (Result A GateError)) → is_some r ≡ true →
@@ -38,12 +34,6 @@ module _ (P S : Type 0) (to : P → TreePhase) (at : S → P) (Knows : ((Event �
   abbrev pub CallAt : List Traced → Phase → List Action → Type 0
   CallAt trace phase added = (s : S) × (phase ≡ Phase.Trees (to (at s))) × CallSays trace s added
 
-  -- what comes is a step of the same call, after one event more than so many, or the call's end
-  abbrev pub GoesOnOrEnds : List Traced → ℕ → Next P → Type 0
-  GoesOnOrEnds trace n (Next.Go y) = (s : S) × (y ≡ at s) × Is trace s × (waits ≡ false → n < done s)
-  GoesOnOrEnds trace n (Next.Wait y) = (s : S) × (y ≡ at s) × Is trace s × (waits ≡ true) × MayWait c op trace
-  GoesOnOrEnds trace n (Next.Done answer) = waits ≡ false → n < most
-
   -- what is known, told and added by an answer is what the operation's row asks for
   pub record Answers (IsOne : Reply → Type 0) (Honest : GateError → Type 0) (adds : Result Reply GateError → List Action)
       (trace : List Traced) : Type 0 where
@@ -51,12 +41,3 @@ module _ (P S : Type 0) (to : P → TreePhase) (at : S → P) (Knows : ((Event �
     pub honest : (refusal : GateError) → Honest refusal → IsHonest c op refusal trace
     pub actions : (answer : Result Reply GateError) → adds answer ≡ actions_of op answer trace
     pub short : (waits ≡ false → length trace ≤ most) → IsShort (most_events c op) trace
-
-  module _ (IsOne : Reply → Type 0) (Honest : GateError → Type 0) (adds : Result Reply GateError → List Action) (e : Traced)
-      (earlier : List Traced) (answers : Answers IsOne Honest adds (e ∷ earlier)) (n : ℕ)
-      (within : waits ≡ false → length earlier ≤ n) where
-    -- the same, of what the event added on top of what was added before
-    pub call_says : (next : Next P) (action : Option Action) (before added : List Action) → added ≡ before →
-        NextIsJustified (Knows (SeenIn (e ∷ earlier))) so_far IsOne Honest adds next (with_action action before) → GoesOnOrEnds (e ∷ earlier) n next →
-        InvariantAfter CallAt c op (e ∷ earlier) (map_next Phase.Trees (map_next to next)) (actions_after action added)
-    call_says next action before added same ends stays = grind arith

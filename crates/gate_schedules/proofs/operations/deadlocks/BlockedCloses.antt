@@ -1,10 +1,8 @@
 -- The closing of a level leaves the words that others are blocked by, and ends only by passing the level.
 use Rattle.std.{proofs.Common.{◌≡◌, ℕ, arith}, specs.Prelude.{Option, Some}}
 use Rattle.access_model.specs.declared.{actions.Action.Action, replies.Next.Next}
-use Rattle.cpu_words.specs.{Words.Words}
-use Rattle.percpu_rwsem.specs.{Writers.{down_write_next, down_write_after}}
+use Rattle.percpu_rwsem.specs.{Writers.{down_write_after}}
 use Rattle.percpu_rwsem.specs.declared.writers.{DownWrite.DownWrite, DownWriteStep.DownWriteStep}
-use Rattle.gate_schedules.proofs.operations.deadlocks.{RankDecreases.after_event, SectionExit.StaysBeside}
 
 -- what comes after an event of the closing of a level is at that level, or it has passed the level
 abbrev pub StaysAtLevel : DownWrite → Next DownWrite → Option Action → Type 0
@@ -15,13 +13,3 @@ StaysAtLevel d (Next.Done answer) action = action ≡ Some (Action.Pass d.level)
 pub down_stays : (d : DownWrite) (s : DownWriteStep) (found : ℕ) →
     StaysAtLevel d (down_write_after d s found).0 (down_write_after d s found).1
 down_stays d s found = grind arith
-
-module _ (w : Words) (d : DownWrite) where
-  pub down_beside : (s : DownWriteStep) → StaysBeside w (after_event w (down_write_next d s))
-  down_beside s = grind arith
-
-  pub down_nodes : (s : DownWriteStep) → (after_event w (down_write_next d s)).node ≡ w.node
-  down_nodes s = grind arith
-
-  pub down_blocks : (s : DownWriteStep) (i : ℕ) → w.block i ≡ 1 → (after_event w (down_write_next d s)).block i ≡ 1
-  down_blocks s i h = grind arith

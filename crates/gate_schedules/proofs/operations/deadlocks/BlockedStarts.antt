@@ -5,7 +5,6 @@ use Rattle.cpu_words.specs.{Touches.found_by, Words.{Words, read}}
 use Rattle.percpu_rwsem.specs.{Readers.{down_read_next, down_read_after, step_found}, SyncWords.unpack, declared.readers.DownRead.DownRead}
 use Rattle.percpu_rwsem.specs.declared.readers.DownReadStep.{DownReadStep, TheVariants.{CountsUpSlow}}
 use Rattle.gate_schedules.specs.operations.Progress.{is_admitted}
-use Rattle.gate_schedules.proofs.operations.deadlocks.RankDecreases.{after_event}
 
 -- what comes after an event of a start that is blocked is that start, which waits and isn't admitted
 abbrev pub StaysKept : DownRead → Next DownRead → Type 0
@@ -18,7 +17,3 @@ pub start_stays : (w : Words) (r : DownRead) → r.wait ≡ true → w.block r.l
     (s : DownReadStep) → is_admitted s ≡ false →
     StaysKept r (down_read_after r s (found_by (down_read_next r s).1 (read w (down_read_next r s).0))).0
 start_stays w r wait set slow s not = grind arith
-
--- a down-read leaves the nodes
-pub read_nodes : (w : Words) (r : DownRead) (s : DownReadStep) → (after_event w (down_read_next r s)).node ≡ w.node
-read_nodes w r s = grind arith

@@ -5,14 +5,12 @@ use Rattle.finite_sums.specs.Sums.{total}
 use Rattle.finite_sums.proofs.Totals.{total_updated, total_place, HasPlace}
 use Rattle.access_model.specs.{declared.replies.Next.{Next, TheVariants.{Go, Wait, Done}}}
 use Rattle.cpu_words.specs.{Hooks.HookAnswer, Words.{Words}}
-use Rattle.percpu_rwsem.specs.{Readers.{down_read_next}}
-use Rattle.percpu_rwsem.specs.declared.readers.{DownRead.DownRead, DownReadStep.{DownReadStep}}
 use Rattle.composite_ops.specs.{declared.write_access.phases.WritePhase.TheVariants.Takes}
 use Rattle.composite_ops.specs.{declared.file_closes.phases.ClosePhase.TheVariants.Enters as EntersLevel}
 use Rattle.gate_world.specs.{Configs.IsWithin, traces.TraceStates.{ReadIsValid}, Levels.inside, Rules.IsGood, Views.{phase_after, view_after}, Work.next_of}
 use Rattle.gate_world.specs.{Work.after_of, Worlds.{World, after_step, words_after, value_at, found_at}, declared.{config.Config.Config, views.View.View}}
 use Rattle.gate_world.specs.declared.work.Phase.{Phase, TheVariants.{DownReads, Writes, Closes as FileCloses}}
-use Rattle.gate_schedules.proofs.{frames.ValidWords.events_may_be, operations.deadlocks.RankDecreases.{after_event, stands_after, no_further, near_after}}
+use Rattle.gate_schedules.proofs.{frames.ValidWords.events_may_be, operations.deadlocks.RankDecreases.{stands_after, no_further, near_after}}
 use Rattle.gate_schedules.specs.operations.{Progress.{EventsKeepRule, HasReply, ReplyWithin}, Ranks.read_rank}
 
 -- how many events may still come after the next one, until it is outside
@@ -42,9 +40,6 @@ pub record StaysBeside (w next : Words) : Type 0 where
   pub umount_same : next.umount ≡ w.umount
   pub stage_same : next.stage ≡ w.stage
   pub sb_same : next.sb ≡ w.sb
-
-pub read_beside : (w : Words) (r : DownRead) (s : DownReadStep) → StaysBeside w (after_event w (down_read_next r s))
-read_beside w r s = grind arith
 
 pub phase_beside : (w : Words) (phase : Phase) (hook : HookAnswer) → inside (Some phase) ≡ 1 → StaysBeside w (words_after w phase hook)
 phase_beside w phase hook h = grind arith
