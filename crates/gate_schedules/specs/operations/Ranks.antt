@@ -1,23 +1,10 @@
 -- How many events may still come after the next one of a phase, where its way is free and no other task does anything.
 use Rattle.std.specs.Prelude.{max, ℕ, zero, suc, ◌+◌, ◌-◌, ◌*◌, ◌==◌, Bool, true, false, if◌then◌else◌}
 use Rattle.finite_sums.specs.Sums.{total}
+pub use Rattle.gated_tree.specs.Ranks.{create_rank, remove_rank, grow_rank, move_rank, mark_rank, open_rank, snapshot_rank, tree_rank}
 use Rattle.cpu_words.specs.{Sums.lead, Words.Words, declared.sums.Sum.Sum}
-use Rattle.gated_tree.specs.declared.changes.CreateStep.{CreateStep, TheVariants.{LoadsDirectory, LoadsNode, ChargesChild, TakesNode, RefundsChild}}
-use Rattle.gated_tree.specs.declared.changes.MoveStep.{MoveStep, TheVariants.{LoadsFile as LoadsFileToMove, LoadsDirectory as LoadsTarget}}
-use Rattle.gated_tree.specs.declared.changes.MoveStep.TheVariants.{ChargesChild as ChargesTarget, MovesFile, RefundsChild as RefundsOne}
-use Rattle.gated_tree.specs.declared.changes.RemoveStep.{RemoveStep, TheVariants.{LoadsFile as LoadsFileToRemove, FreesNode, CountsRemoved, MarksRemoved}}
-use Rattle.gated_tree.specs.declared.changes.RemoveStep.TheVariants.{RefundsRemoved, RefundsBlocks as RefundsItsBlocks, RefundsChild as RefundsItsChild}
-use Rattle.gated_tree.specs.declared.growth.GrowStep.{GrowStep, TheVariants.{LoadsFile as LoadsFileToGrow, LoadsUsed, ChargesBlocks, GrowsFile}}
-use Rattle.gated_tree.specs.declared.{growth.GrowStep.TheVariants.RefundsBlocks, marks.MarkStep.{MarkStep, TheVariants.LoadsFile as LoadsFileToMark}}
-use Rattle.gated_tree.specs.declared.{marks.MarkStep.TheVariants.MarksFile, opens.OpenStep.{OpenStep, TheVariants.{LoadsFile as LoadsFileToOpen, OpensFile}}}
-use Rattle.gated_tree.specs.declared.phases.TreePhase.{TreePhase, TheVariants.{Create as Creates, Remove as Removes, Grow as Grows, MoveTo as Moves}}
-use Rattle.gated_tree.specs.declared.phases.TreePhase.TheVariants.{Mark as TreeMarks, OpenFile as OpensOne, Snapshot as Snapshots, ClearMarks as TreeClears}
-use Rattle.gated_tree.specs.declared.snapshots.SnapshotStep.{SnapshotStep, TheVariants.{Locks as SLocks, LoadsStage as SLoadsStage, LoadsUsed as SLoadsUsed}}
-use Rattle.gated_tree.specs.declared.snapshots.SnapshotStep.TheVariants.{LoadsNode as SLoadsNode, LoadsKids as SLoadsKids, Releases as SReleases}
-use Rattle.mount_counts.specs.{Sets.has_mount, declared.phases.ChangeStep.{ChangeStep, TheVariants.{Locks, LoadsFlags, LoadsSuperblock as LoadsSb}}}
-use Rattle.mount_counts.specs.declared.phases.ChangeStep.TheVariants.{ClearsReadOnly, SetsHold, Sums, SetsReadOnly, ClearsHold, Releases}
-use Rattle.mount_counts.specs.declared.phases.{MountPhase.{MountPhase, TheVariants.{Want as Wants, Change as Changes}}, WantStep.WantStep}
-use Rattle.mount_counts.specs.declared.phases.WantStep.TheVariants.{CountsUp, LoadsHold, LoadsRemount, LoadsReadOnly, LoadsSuperblock, CountsDown}
+pub use Rattle.mount_counts.specs.Ranks.{want_rank, change_rank, mount_rank}
+use Rattle.mount_counts.specs.{Sets.has_mount}
 use Rattle.mount_counts.specs.declared.remounts.RemountStep.{RemountStep, TheVariants.{Locks as RLocks, LoadsStage as RLoadsStage}}
 use Rattle.mount_counts.specs.declared.remounts.RemountStep.TheVariants.{LoadsSuperblock as RLoadsSuperblock, LoadsRemoved as RLoadsRemoved}
 use Rattle.mount_counts.specs.declared.remounts.RemountStep.TheVariants.{LoadsRemovedAgain as RLoadsRemovedAgain, LeavesHolds as RLeavesHolds, SetsWritable}
@@ -45,33 +32,6 @@ use Rattle.composite_ops.specs.declared.file_closes.phases.ClosePhase.TheVariant
 use Rattle.composite_ops.specs.declared.file_closes.phases.ClosePhase.TheVariants.{RefundsBlocks as CloseRefundsBlocks, Uncounts as CloseUncounts, Leaves as CloseLeaves}
 use Rattle.gate_world.specs.declared.{config.Config.Config, work.Phase.{Phase, TheVariants.{Mounts, Remounts, DownReads, UpReads, Callbacks, Writes}}}
 use Rattle.gate_world.specs.declared.work.Phase.TheVariants.{Freezes, Thaws, Trees, Closes as FileCloses}
-
--- a want
-abbrev pub want_rank : WantStep → ℕ
-want_rank CountsUp = 5
-want_rank LoadsHold = 4
-want_rank LoadsRemount = 3
-want_rank LoadsReadOnly = 2
-want_rank LoadsSuperblock = 1
-want_rank (CountsDown refusal) = 0
-
--- a change, among so many processors
-abbrev pub change_rank : ℕ → ChangeStep → ℕ
-change_rank processors Locks = processors + 7
-change_rank processors LoadsFlags = processors + 6
-change_rank processors LoadsSb = processors + 5
-change_rank processors ClearsReadOnly = 1
-change_rank processors SetsHold = processors + 4
-change_rank processors (Sums sum) = processors - sum.words + 3
-change_rank processors SetsReadOnly = 2
-change_rank processors (ClearsHold answer) = 1
-change_rank processors (Releases answer) = 0
-
--- a phase of these; that of another is one event, after which none comes
-abbrev pub mount_rank : MountPhase → ℕ
-mount_rank (Wants x) = want_rank x.step
-mount_rank (Changes x) = change_rank x.processors x.step
-mount_rank phase = 0
 
 -- so many mounts of a remount's loop, each with its flags, HOLD and a word of each processor
 abbrev pub loop_rank : (processors mounts : ℕ) → ℕ
@@ -222,63 +182,6 @@ thaw_rank w LeavesLast = 11
 thaw_rank w SetsUnfrozen = 10
 thaw_rank w (TReopens u) = reopens_rank w u
 thaw_rank w (TReleases answer) = 0
-
--- the calls at the tree
-abbrev pub create_rank : ℕ → CreateStep → ℕ
-create_rank nodes LoadsDirectory = nodes + 4
-create_rank nodes (LoadsNode node) = nodes - node + 3
-create_rank nodes (ChargesChild node) = 2
-create_rank nodes (TakesNode node) = 1
-create_rank nodes RefundsChild = 0
-
-abbrev pub remove_rank : RemoveStep → ℕ
-remove_rank LoadsFileToRemove = 3
-remove_rank (FreesNode file) = 2
-remove_rank (CountsRemoved file) = 2
-remove_rank (MarksRemoved file) = 1
-remove_rank RefundsRemoved = 0
-remove_rank (RefundsItsBlocks file) = 1
-remove_rank (RefundsItsChild file) = 0
-
-abbrev pub grow_rank : GrowStep → ℕ
-grow_rank LoadsFileToGrow = 4
-grow_rank (LoadsUsed file) = 3
-grow_rank (ChargesBlocks file used) = 2
-grow_rank (GrowsFile file) = 1
-grow_rank RefundsBlocks = 0
-
-abbrev pub move_rank : MoveStep → ℕ
-move_rank LoadsFileToMove = 4
-move_rank (LoadsTarget file) = 3
-move_rank (ChargesTarget file) = 2
-move_rank (MovesFile file) = 1
-move_rank (RefundsOne dir answer) = 0
-
-abbrev pub mark_rank : MarkStep → ℕ
-mark_rank LoadsFileToMark = 1
-mark_rank (MarksFile file) = 0
-
-abbrev pub open_rank : OpenStep → ℕ
-open_rank LoadsFileToOpen = 1
-open_rank (OpensFile file) = 0
-
-abbrev pub snapshot_rank : ℕ → SnapshotStep → ℕ
-snapshot_rank nodes SLocks = nodes + nodes + 6
-snapshot_rank nodes SLoadsStage = nodes + nodes + 5
-snapshot_rank nodes SLoadsUsed = nodes + nodes + 4
-snapshot_rank nodes (SLoadsNode node) = nodes + (nodes - node) + 3
-snapshot_rank nodes (SLoadsKids node) = nodes - node + 1
-snapshot_rank nodes (SReleases answer) = 0
-
-abbrev pub tree_rank : TreePhase → ℕ
-tree_rank (Creates x) = create_rank x.nodes x.step
-tree_rank (Removes x) = remove_rank x.step
-tree_rank (Grows x) = grow_rank x.step
-tree_rank (Moves x) = move_rank x.step
-tree_rank (TreeMarks x) = mark_rank x.step
-tree_rank (OpensOne x) = open_rank x.step
-tree_rank (Snapshots x) = snapshot_rank x.nodes x.step
-tree_rank (TreeClears x) = x.nodes - x.node
 
 -- a phase of any layer
 abbrev pub rank : Words → Phase → ℕ
