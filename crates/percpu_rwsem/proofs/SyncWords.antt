@@ -1,9 +1,9 @@
 -- words of an rcu_sync, as numbers and back
-use Rattle.std.proofs.Common.{◌≡◌, ℕ, true, false, ◌/◌, ◌%◌, ◌≤◌, refl, arith}
+use Rattle.std.proofs.Common.{◌≡◌, true, false, ◌/◌, ◌%◌, ◌≤◌, refl, arith}
 use Rattle.std.proofs.lemmas.Bool.{le-leb}
 use Rattle.std.specs.Prelude.{Bool, Some, ◌==◌}
 use Rattle.percpu_rwsem.specs.declared.sync_word.{GpState.{GpState, TheVariants.{Idle, Enter, Passed, Exit, Replay}}, SyncWord.{SyncWord}}
-use Rattle.percpu_rwsem.specs.SyncWords.{bit, state_number, state_of, is_lawful, IsLawful, pack, unpack}
+use Rattle.percpu_rwsem.specs.SyncWords.{bit, state_number, state_of, IsLawful, pack, unpack}
 
 -- a state is found again in its number
 state_of_number : (s : GpState) → state_of (state_number s) ≡ Some s
@@ -41,12 +41,3 @@ unpack_pack w lawful =
     let state : pack w % 8 ≡ state_number w.state = omega arith in
     let taken : pack w / 8 % 2 ≡ bit w.taken = omega arith in
     rw (high, count, state, taken, le-leb w.count 65535 lawful.few, state_of_number w.state, bit_is w.taken, lawful.fits)
-
--- what a word that was found says of its number
-record SaysOf (n : ℕ) (w : SyncWord) : Type 0 where
-  state : state_number w.state ≡ n % 8
-  taken : w.taken ≡ (n / 8 % 2 == 1)
-  count : w.count ≡ n / 256
-  fits : is_lawful w.state w.taken w.count ≡ true
-
-] refl
