@@ -43,7 +43,7 @@ enters_alone tasks l right t u lt lu ne = (
 -- a state in which readers may be fast
 idle_or_enter : (n : ℕ) (s : GpState) → state_found n ≡ Some s → idle_bit s + enter_bit s ≡ 1 →
     (state_found n ≡ Some GpState.Idle) ⊎ (state_found n ≡ Some GpState.Enter)
-idle_or_enter n other f e = grind arith
+idle_or_enter n s f e = grind arith
 
 pub fast_finds_open : FastFindsOpen
 fast_finds_open tasks l right t lt here =

@@ -16,7 +16,7 @@ use Rattle.freeze_laws.specs.levels.Roles.{idle_bit, RoleHolds, SyncHolds, Secti
 -- a grace period that has not loaded yet says nothing
 entered_says : (section : ℕ → ℕ) (at : ℕ → SyncRole) (tasks : ℕ) → 0 < tasks → (s : GpState) →
     RoleHolds section at tasks (role_entered tasks s)
-entered_says section at tasks some other = grind arith
+entered_says section at tasks some s = grind arith
 
 pub by_test : {A : Type 0} (P : A → Type 0) (b : Bool) (x y : A) → (b ≡ true → P x) → (b ≡ false → P y) → P (if b then x else y)
 by_test P true x y f g = f refl

@@ -14,7 +14,7 @@ use Rattle.freeze_laws.specs.levels.Roles.{SyncRole, Out, Fast, Waiting, Past, E
 -- an event that changes the section word of a task begins or ends its section
 event_turns : (tasks t : ℕ) → (l l' : SyncLevel) (k : SyncEvent) → Happens tasks t l l' k → (u : ℕ) → l.inside u ≤ 1 →
     (l'.section u ≡ l.section u) ⊎ ((l.inside u ≡ 0) ⊎ (l'.inside u ≡ 0))
-event_turns tasks t l l' other h u small = grind arith
+event_turns tasks t l l' k h u small = grind arith
 
 -- what an event makes of one task's role, as far as grace periods go
 data Turn (tasks : ℕ) (l l' : SyncLevel) (t : ℕ) : Type 0 where

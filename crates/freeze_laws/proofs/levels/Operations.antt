@@ -20,7 +20,7 @@ use Rattle.freeze_laws.specs.levels.Operations.{DownWriteIsThere, UpWriteIsThere
 use Rattle.freeze_laws.specs.levels.Roles.{SyncRole, Out, Past, Entered, Closed, Ready, entered}
 
 role_from : (tasks : ℕ) (s : GpState) → down_write_role (entered_from tasks s) ≡ role_entered tasks s
-role_from tasks other = grind arith
+role_from tasks s = grind arith
 
 module _ (tasks t : ℕ) (lt : t < tasks) (l : SyncLevel) where
   -- an event of this task

@@ -13,7 +13,7 @@ pub record LawfulSays (s : GpState) (t : Bool) (c : ℕ) : Type 0 where
 
 -- a lawful word says it, whatever its state
 pub lawful_says : (s : GpState) (t : Bool) (c : ℕ) → c ≤ 1 → is_lawful s t c ≡ true → LawfulSays s t c
-lawful_says other t c l h = grind arith
+lawful_says s t c l h = grind arith
 
 pub role_kept : (section section' : ℕ → ℕ) (at at' : ℕ → SyncRole) → ((u : ℕ) → fast (at' u) ≤ fast (at u)) →
     ((u : ℕ) → fast (at' u) ≡ 1 → section' u ≡ section u) →

@@ -33,7 +33,7 @@ exits s t c e h = grind arith
 -- the transition of a writer after its grace period
 pub passes : (s : GpState) (t : Bool) (c : ℕ) → enter_bit s ≡ 1 → 1 ≤ c →
     on_callback record { state = s; taken = t; count = c } ≡ Some record { state = GpState.Passed; taken = false; count = c }
-passes other t c e h = grind arith
+passes s t c e h = grind arith
 
 -- the transition of a callback after its grace period
 pub record Calls (s : GpState) (t : Bool) (c : ℕ) : Type 0 where
@@ -63,10 +63,10 @@ calls GpState.Replay true (suc zero) m b f l = record { puts = refl; lawful = re
 
 -- only GP_EXIT becomes GP_IDLE by it
 pub calls_idle : (s : GpState) (c : ℕ) → is_queued s ≡ true → c ≤ 1 → (if nat_lt 0 c then GpState.Passed else emptied_state s) ≡ GpState.Idle → s ≡ GpState.Exit
-calls_idle other c q m e = grind arith
+calls_idle s c q m e = grind arith
 
 pub entered_not_idle : (s : GpState) → entered_state s ≡ GpState.Idle → ⊥
-entered_not_idle other e = grind arith
+entered_not_idle s e = grind arith
 
 -- a claim of a callback that is queued and not taken
 pub record Claims (s : GpState) (t : Bool) (c : ℕ) : Type 0 where
@@ -78,4 +78,4 @@ claims_queued s t c q h = grind arith
 
 pub claims_defined : (s : GpState) (t : Bool) (c : ℕ) (w : SyncWord) → on_claim record { state = s; taken = t; count = c } ≡ Some w →
     (is_queued s ≡ true) × (t ≡ false)
-claims_defined other t c w h = grind arith
+claims_defined s t c w h = grind arith

@@ -21,4 +21,4 @@ deep_after held a = grind (arith, common_steps)
 -- what an action leaves agrees, where what it finds does
 pub agree_after : (c : Config) (held : Accesses) → length held.mounts ≡ 8 → length held.levels ≡ 4 → length held.files ≡ 64 → (seen : Holdings) →
     (a : Option Action) → ActionFits (held_in held) a → Agree c (held_in held) seen → Agree c (held_in (accesses_after held a)) (held_after a seen)
-agree_after c held long wide deep seen other f h = grind (arith, common_steps)
+agree_after c held long wide deep seen a f h = grind (arith, common_steps)

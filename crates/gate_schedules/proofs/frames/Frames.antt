@@ -23,10 +23,10 @@ use Rattle.std.proofs.lemmas.Bool.Decides.{eqb_tells}
 use Rattle.std.specs.Prelude.{Option, false, if◌then◌else◌, true, ◌%◌, ◌==◌, ◌||◌}
 
 pub added_load : (name : WordName) (added : ℕ → ℕ → ℕ) → added_after name Touch.Load added ≡ added
-added_load other added = grind arith
+added_load name added = grind arith
 
 pub taken_load : (name : WordName) (taken : ℕ → ℕ → ℕ) → taken_after name Touch.Load taken ≡ taken
-taken_load other taken = grind arith
+taken_load name taken = grind arith
 
 pub role_on : (m : ℕ) (r : Role) → role_if (m == m) r ≡ r
 role_on m r = rw (eq-eqb m m refl)

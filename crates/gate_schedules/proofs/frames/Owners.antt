@@ -20,7 +20,7 @@ pub hold_owns : (m : ℕ) (p : Option Phase) → has_hold (role_of m p) + skips 
 hold_owns m p = grind arith
 
 pub remounts_owns : (p : Option Phase) → remounts p ≤ owns p
-remounts_owns other = grind arith
+remounts_owns p = grind arith
 
 module _ (c : Config) (w : World) (good : IsGood c w) (t : ℕ) (lt : t < c.tasks) where
   pub alone : (x : ℕ) → x < c.tasks → (x ≡ t → ⊥) → owns (w.views t).phase ≡ 1 → owns (w.views x).phase ≡ 0

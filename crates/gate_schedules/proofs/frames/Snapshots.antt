@@ -17,7 +17,7 @@ abbrev bare : World → World
 bare w = record { words = w.words; views = λ t. view_without_snapshot (w.views t) }
 
 bare_part : (c : Config) (w : World) (part : Part) → Holds c (bare w) part ≡ Holds c w part
-bare_part c w other = grind arith
+bare_part c w part = grind arith
 
 bare_views : (f : ℕ → View) (t : ℕ) (u v : View) → view_without_snapshot u ≡ view_without_snapshot v → (x : ℕ) →
     view_without_snapshot (update f t u x) ≡ view_without_snapshot (update f t v x)

@@ -32,7 +32,7 @@ WordExists c word = Unit {0}
 
 module _ (c : Config) where
   read_word : (x : DownRead) (s : DownReadStep) → 1 ≤ x.level → x.level ≤ 3 → WordExists c (down_read_next x s).0
-  read_word x other l1 l3 = grind arith
+  read_word x s l1 l3 = grind arith
 
   tree_word : (t : ℕ) (x : TreePhase) (hook : HookAnswer) → TreePhaseFits (tree_bounds c) t x → WordExists c (tree_next x hook).0
   tree_word t x hook fits = grind arith

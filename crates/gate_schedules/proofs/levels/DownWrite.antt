@@ -63,7 +63,7 @@ enter_counts tasks n = grind arith
 
 -- or ends its grace period
 call_counts : (n : TransitionNext) → down_count_role (callback_step n) ≡ CountsNot
-call_counts other = grind arith
+call_counts n = grind arith
 
 -- or is in it
 grace_counts : (d : DownWrite) (n : GraceNext) →

@@ -39,10 +39,10 @@ closed_le r = grind arith
 
 -- with a writer that has entered and none in its grace period, the state is at least GP_PASSED
 passed_state : (s : GpState) (taken : Bool) (count : ℕ) → is_lawful s taken count ≡ true → 1 ≤ count → enter_bit s ≡ 0 → is_passed s ≡ true
-passed_state other taken count h some none = grind arith
+passed_state s taken count h some none = grind arith
 
 awaited_enter : (s : GpState) (taken : Bool) → 1 ≤ enter_bit s → is_awaited s taken ≡ true
-awaited_enter other taken h = grind arith
+awaited_enter s taken h = grind arith
 
 awaited_taken : (s : GpState) (taken : Bool) (count : ℕ) → is_lawful s taken count ≡ true → 1 ≤ bit taken → is_awaited s taken ≡ true
 awaited_taken s false count h some = absurd (omega (arith, some))
@@ -105,7 +105,7 @@ module _ (tasks : ℕ) (word : SyncWord) (block full : ℕ) (section : ℕ → �
       not_none _ (rw a at e)
 
 slow_state : (s : GpState) (taken : Bool) (count : ℕ) → is_lawful s taken count ≡ true → 1 ≤ count → step_in s ≡ DownReadStep.CountsUpSlow
-slow_state other taken count h some = grind arith
+slow_state s taken count h some = grind arith
 
 pub blocked_slow : (tasks : ℕ) (word : SyncWord) (block full : ℕ) (section : ℕ → ℕ) (at : ℕ → SyncRole) →
     SyncHolds tasks word block full section at → block ≡ 1 → step_in word.state ≡ DownReadStep.CountsUpSlow

@@ -41,7 +41,7 @@ pub whole_same : (old new : Words) → SameOffLevels old new → is_frozen_whole
 whole_same old new words = λ k. is_frozen_whole (words k)
 
 pub reads_at_levels : (next : Next DownRead) → IsAtLevels (phase_after (map_next Phase.DownReads next))
-reads_at_levels other = grind arith
+reads_at_levels next = grind arith
 
 pub end_at_levels : (u : UpRead) → IsAtLevels (Some (Phase.UpReads u))
 end_at_levels u = refl

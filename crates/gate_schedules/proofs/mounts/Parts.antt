@@ -79,7 +79,7 @@ level_taken_load word touch taken h = grind arith
 
 -- want, drop and change have no role but at mounts, and own `umount` or not
 pub mounts_roles : (next : Next MountPhase) → off_mounts (roles_of (phase_after (map_next Phase.Mounts next))) ≡ no_roles
-mounts_roles other = grind arith
+mounts_roles next = grind arith
 
 -- so owned words change only under `umount`
 mounts_work : (w : World) (x : MountPhase) (hook : HookAnswer) → IsOwnersWork w (Phase.Mounts x) hook

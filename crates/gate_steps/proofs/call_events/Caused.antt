@@ -15,7 +15,7 @@ use Rattle.gate_steps.proofs.call_events.{Running.{course_is, completed_is}, Spa
 
 -- what an event says that it found, it finds again
 found_again : (touch : Touch) (n : ℕ) → found_by touch (found_by touch n) ≡ found_by touch n
-found_again other n = grind arith
+found_again touch n = grind arith
 
 -- what an event says that it found, it finds in the world of its moment
 says : (c : Config) (n : ℕ) (op : Op) (earlier : List Traced) (e : Traced) (entries : List Entry)

@@ -49,16 +49,16 @@ module _ (b : Callback) (counted : ℕ → ℕ → ℕ) where
   level_taken_same s = grind arith
 
 no_action : (b : Callback) (s : CallbackStep) (found : ℕ) → (callback_after b s found).1 ≡ None
-no_action b other found = grind arith
+no_action b s found = grind arith
 
 after_at_levels : (n : Next Callback) → IsAtLevels (phase_after (map_next Phase.Callbacks n))
-after_at_levels other = grind arith
+after_at_levels n = grind arith
 
 after_counts : (i : ℕ) (n : Next Callback) → level_role_of i (phase_after (map_next Phase.Callbacks n)) ≡ CountsNot
-after_counts i other = grind arith
+after_counts i n = grind arith
 
 after_outside : (n : Next Callback) → inside (phase_after (map_next Phase.Callbacks n)) ≡ 0
-after_outside other = grind arith
+after_outside n = grind arith
 
 -- what stays of a callback from event to event: its level, and that its grace period is among all tasks
 abbrev SameCallback : ℕ → ℕ → Callback → Type 0

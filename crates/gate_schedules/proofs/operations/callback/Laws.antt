@@ -13,7 +13,7 @@ use Rattle.std.specs.Prelude.{List, Option, Some, ◌∷◌}
 -- what comes after an event of a callback has no cause
 callback_cause : (c : Config) (t : ℕ) (w : World) (earlier : List World) (n : Next Callback) →
     CauseOf c t w earlier (phase_after (map_next Phase.Callbacks n))
-callback_cause c t w earlier other = grind arith
+callback_cause c t w earlier n = grind arith
 
 pub callback_phase : (c : Config) (b : Callback) → PhaseLaws c (Phase.Callbacks b)
 callback_phase c b = record {

@@ -82,7 +82,7 @@ close_causes c w earlier good t hook other f e is h = tt
 close_waits : (c : Config) (w : World) (earlier : List World) (t : ℕ) (hook : HookAnswer) (x : ClosePhase) →
     CloseReadIsValid x (value_at w.words (Phase.Closes x) hook) → CauseOf c t w earlier (Some (Phase.Closes x)) →
     HasReason c w earlier t (Phase.Closes x) (map_next Phase.Closes (after x (found_at w.words (Phase.Closes x) hook)).0)
-close_waits c w earlier t hook other may h = grind (arith, common_steps)
+close_waits c w earlier t hook x may h = grind (arith, common_steps)
 
 pub close_phase : (c : Config) (x : ClosePhase) → PhaseLaws c (Phase.Closes x)
 close_phase c x = record {

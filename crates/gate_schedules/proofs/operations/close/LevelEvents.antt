@@ -27,21 +27,21 @@ beside_enters file p node n = grind arith
 
 -- no event of a down-read touches a word of the tree
 read_tree : (w : Words) (r : DownRead) (s : DownReadStep) (hook : HookAnswer) → SameWords w (words_after w (Phase.DownReads (at_down_read r s)) hook) Tree
-read_tree w r other hook = grind arith
+read_tree w r s hook = grind arith
 
 read_opens : (held : Holdings) (r : DownRead) (s : DownReadStep) (found : ℕ) → (held_after (down_read_after r s found).1 held).files ≡ held.files
-read_opens held r other found = grind arith
+read_opens held r s found = grind arith
 
 -- a close that is to free a node stays so, or it ends
 then_role : (file p : ℕ) (node : NodeWord) (n : Next DownRead) (trace : List Traced) →
     (tree_role_of trace (phase_after (map_next Phase.Closes (then_frees file node p n))) ≡ Freeing file node) ⊎
     (tree_role_of trace (phase_after (map_next Phase.Closes (then_frees file node p n))) ≡ OffTree)
-then_role file p node other trace = grind arith
+then_role file p node n trace = grind arith
 
 -- and its task has its file open
 then_has : (files : ℕ → Bool) (file p : ℕ) (node : NodeWord) (n : Next DownRead) → files file ≡ true →
     HasFile files (file_of (phase_after (map_next Phase.Closes (then_frees file node p n))))
-then_has files file p node other own = grind arith
+then_has files file p node n own = grind arith
 
 module _ (c : Config) (w : World) (good : IsGood c w) (t : ℕ) (lt : t < c.tasks) where
   -- the open files, where no event has opened or closed one

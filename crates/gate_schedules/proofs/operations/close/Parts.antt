@@ -63,11 +63,11 @@ off_next (ClosePhase.Leaves p) h found = absurd (true≢false (sym h))
 
 -- a close has to do with no stage and owns nothing, and so has what comes after one
 plain_next : (n : Next ClosePhase) → IsPlain (phase_after (map_next Phase.Closes n))
-plain_next other = grind arith
+plain_next n = grind arith
 
 -- its role at the tree is that of its phase
 role_comes : (n : Next ClosePhase) (trace : List Traced) → role_after close_tree_role n ≡ tree_role_of trace (phase_after (map_next Phase.Closes n))
-role_comes other trace = grind arith
+role_comes n trace = grind arith
 
 file_then : (held : Holdings) (x : ClosePhase) → is_at_tree x ≡ true → (found : ℕ) → HasFile held.files (file_of (Some (Phase.Closes x))) →
     HasFile (held_after (after x found).1 held).files (file_of (phase_after (map_next Phase.Closes (after x found).0)))

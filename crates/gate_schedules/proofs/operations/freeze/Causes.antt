@@ -139,10 +139,10 @@ module _ (c : Config) (t : ℕ) (w next : World) (earlier : List World) (after :
     enter_own n e = grind arith
 
     callback_own : (n : TransitionNext) → Own (after_closing x d.level (Next.Go (at_down_write d (callback_step n))))
-    callback_own other e = grind arith
+    callback_own n e = grind arith
 
     sections_own : (n : GraceNext) → Own (after_closing x d.level (sections_awaited d n))
-    sections_own other e = grind arith
+    sections_own n e = grind arith
 
     passed_own : (o : Option SyncWord) → Own (after_closing x d.level (passed_awaited d o))
     passed_own o e = grind arith
@@ -190,7 +190,7 @@ module _ (c : Config) (t : ℕ) (w next : World) (earlier : List World) (after :
   reopening_own level code n e = grind arith
 
   clearing_own : (n : Next ClearMarks) → Own (after_clearing x n)
-  clearing_own other e = grind arith
+  clearing_own n e = grind arith
 
   -- where a freeze was found under way, it was so when the freeze looked
   stage_own : (w.views t).phase ≡ Some (Phase.Freezes (at_freeze x FreezeStep.LoadsStage)) → (w.words.stage ≡ 0 → ⊥) → (w.words.stage ≡ 4 → ⊥) →

@@ -49,10 +49,10 @@ enter_place : (tasks : ℕ) (n : TransitionNext) → place_of (enter_step tasks 
 enter_place tasks n = grind arith
 
 callback_place : (n : TransitionNext) → place_of (callback_step n) ≡ Before
-callback_place other = grind arith
+callback_place n = grind arith
 
 sections_place : (d : DownWrite) (n : GraceNext) → IsAtPlace d Before (sections_awaited d n)
-sections_place d other = grind arith
+sections_place d n = grind arith
 
 passed_place : (d : DownWrite) (o : Option SyncWord) → IsAtPlace d Before (passed_awaited d o)
 passed_place d o = grind arith

@@ -20,7 +20,7 @@ use Rattle.gate_world.specs.declared.{config.Config.Config, work.Phase.Phase}
 use Rattle.gate_schedules.proofs.{frames.Owners.umount_taken, levels.{DownWrite.queued_passed, Worlds.level_right}, operations.freeze.Causes.level_ends}
 
 state_passed : (s : GpState) → Some s ≡ Some GpState.Passed → is_passed s ≡ true
-state_passed other h = grind arith
+state_passed s h = grind arith
 
 closing_role : (x : Freeze) (d : DownWrite) (s : DownWriteStep) →
     sync_role_of d.level (Some (Phase.Freezes (at_freeze x (FreezeStep.Closes (at_down_write d s))))) ≡ down_write_role s

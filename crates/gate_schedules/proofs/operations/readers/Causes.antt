@@ -16,7 +16,7 @@ use Rattle.gate_schedules.proofs.{frames.OperationLaws.by_bool, operations.reade
 
 -- a task has closed a level once at most
 closed_small : (role : SyncRole) → closed role ≤ 1
-closed_small other = grind arith
+closed_small role = grind arith
 
 -- no step of a down-read has
 step_not_closed : (s : DownReadStep) → closed (down_read_role s) ≡ 0

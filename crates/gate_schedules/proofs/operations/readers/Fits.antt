@@ -68,7 +68,7 @@ callback_there c b s l1 l3 f = grind arith
 
 -- no event of a callback adds an action
 pub callback_acts_none : (b : Callback) (s : CallbackStep) (found : ℕ) → (callback_after b s found).1 ≡ None
-callback_acts_none b other found = grind arith
+callback_acts_none b s found = grind arith
 
 module _ (c : Config) (within : IsWithin c) (t : ℕ) (held : Holdings) (b : Callback) where
   -- what comes after each event of a callback fits

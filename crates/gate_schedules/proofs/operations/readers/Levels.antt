@@ -43,7 +43,7 @@ role_elsewhere i j ne n h = grind arith
 -- and whether it is inside a section is what its step says
 pub inside_next : (n : Next DownRead) →
     by_next (λ (x : DownRead). down_read_inside x.step) 0 n ≡ inside (phase_after (map_next DownReads n))
-inside_next other = grind arith
+inside_next n = grind arith
 
 -- each event of a down-read is of a word of its level
 pub word_of_level : (r : DownRead) (s : DownReadStep) → IsOfLevel r.level (down_read_next r s).0

@@ -37,11 +37,11 @@ module _ (c : Config) (w : World) (earlier : List World) (t : ℕ) where
 
     -- no event of its claim is one
     claim_waits : (s : CallbackStep) (n : TransitionNext) → Waits s (claimed b n)
-    claim_waits s other = grind arith
+    claim_waits s n = grind arith
 
     -- nor of its own transition
     call_waits : (s : CallbackStep) (n : TransitionNext) → Waits s (called_back b n)
-    call_waits s other = grind arith
+    call_waits s n = grind arith
 
     -- nor the passing of a task
     passed_waits : (s : CallbackStep) (g : Grace) → Waits s (callback_looked b (passed_on g))

@@ -14,10 +14,10 @@ remount_words : (w : Words) (x : Remount) (hook : HookAnswer) (s : RemountStep) 
 remount_words w x hook s k i = grind arith
 
 remount_outside : (next : Next Remount) → inside (phase_after (map_next Phase.Remounts next)) ≡ 0
-remount_outside other = grind arith
+remount_outside next = grind arith
 
 remount_apart : (i : ℕ) (next : Next Remount) → sync_role_of i (phase_after (map_next Phase.Remounts next)) ≡ IsApart
-remount_apart i other = grind arith
+remount_apart i next = grind arith
 
 -- each event of a remount is one at which each level stays
 pub remount_runs : (c : Config) (w : World) → IsGood c w → (t : ℕ) → t < c.tasks → (hook : HookAnswer) (x : Remount) →

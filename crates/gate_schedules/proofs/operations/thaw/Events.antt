@@ -68,7 +68,7 @@ opening_apart x level n = grind arith
 
 -- a thaw does nothing at the tree, whatever comes after an event of it
 tree_comes : (trace : List Traced) (n : Next Thaw) → tree_role_of trace (phase_after (map_next Phase.Thaws n)) ≡ OffTree
-tree_comes trace other = grind arith
+tree_comes trace n = grind arith
 
 -- a role that is like this one, relies on what is so, and has cleared nodes that are clean
 abbrev NextRoleHolds : StageRole → ℕ → ℕ → (ℕ → ℕ) → StageRole → Type 0

@@ -15,7 +15,7 @@ module _ (c : Config) (t : ℕ) (w next : World) (earlier : List World) where
   -- keeps the cause of a refusal that is to come
   pub want_cause_stays : (m : ℕ) (s : WantStep) → asks (next.views t).phase ≡ want_asks s → WantCause c t w earlier m s →
       WantCause c t next (w ∷ earlier) m s
-  want_cause_stays m other e h = grind arith
+  want_cause_stays m s e h = grind arith
 
 -- whether what comes after an event of a want asks the read-only question
 abbrev pub next_asks : Next Want → Bool
@@ -24,7 +24,7 @@ next_asks (Next.Wait x) = want_asks x.step
 next_asks (Next.Done answer) = false
 
 pub next_asked : (n : Next Want) → asks (phase_after (map_next Phase.Mounts (map_next MountPhase.Want n))) ≡ next_asks n
-next_asked other = grind arith
+next_asked n = grind arith
 
 module _ (c : Config) (t : ℕ) (w : World) (earlier : List World) (m : ℕ) where
   -- what comes after an event of a want has its cause, and so has its refusal, where it ends with one

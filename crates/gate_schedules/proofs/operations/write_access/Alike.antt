@@ -9,12 +9,12 @@ use Rattle.std.specs.Prelude.{Some}
 use Rattle.composite_ops.specs.{write_access.Phases.{then_gives_back, then_wants}, declared.write_access.phases.WritePhase.WritePhase}
 
 pub alike_plain : (x : WritePhase) → SameRoles (Some (Phase.Writes x)) (Some (inner_phase x))
-alike_plain other = grind arith
+alike_plain x = grind arith
 
 -- what comes after an event at level 1 is alike to what comes in its own operation: the want that follows has no role yet
 pub alike_takes : (m p : ℕ) (n : Next DownRead) →
     SameRoles (phase_after (map_next Phase.DownReads n)) (phase_after (map_next Phase.Writes (then_wants m p n)))
-alike_takes m p other = grind arith
+alike_takes m p n = grind arith
 
 -- and so is what comes after an event at the mount: an end of level 1 has no role
 pub alike_wants : (m p : ℕ) (n : Next Want) →

@@ -28,7 +28,7 @@ mount_there (suc n) held h =
     ]
 
 place_passed : (stage : ℕ) (place : Place) (owner : Bool) → stage ≤ suc (passed_by (Freezing stage place owner))
-place_passed stage other owner = grind arith
+place_passed stage place owner = grind arith
 
 pub passed_there : (i : ℕ) → 1 ≤ i → (p : Option Phase) → i ≤ passed_by (stage_role_of p) → level_role_of i p ≡ Passed
 passed_there i low p le = grind arith

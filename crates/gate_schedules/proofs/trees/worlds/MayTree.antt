@@ -146,16 +146,16 @@ module _ (c : Config) (w : World) (good : IsGood c w) where
         (both.0, mount_there c.mounts (held_at (w.views t)) both.1)
 
     create_leave : (x : Create) (s : CreateStep) (found : ℕ) → IsWriter (model_limits c) (shown c w) t → LeaveFor (create_after x s found).1
-    create_leave x other found leave = grind arith
+    create_leave x s found leave = grind arith
 
     remove_leave : (x : Remove) (s : RemoveStep) (found : ℕ) → IsWriter (model_limits c) (shown c w) t → LeaveFor (remove_after x s found).1
     remove_leave x s found leave = grind arith
 
     grow_leave : (x : Grow) (s : GrowStep) (found : ℕ) → IsWriter (model_limits c) (shown c w) t → LeaveFor (grow_after x s found).1
-    grow_leave x other found leave = grind arith
+    grow_leave x s found leave = grind arith
 
     move_leave : (x : MoveTo) (s : MoveStep) (found : ℕ) → IsWriter (model_limits c) (shown c w) t → LeaveFor (move_after x s found).1
-    move_leave x other found leave = grind arith
+    move_leave x s found leave = grind arith
 
     -- a page fault has leave inside level 2, with an access at some mount; a write-back inside level 3
     mark_leave_now : (dirty : Bool) (file : ℕ) → may_mark dirty c (held_of (w.views t)) ≡ true →
@@ -174,7 +174,7 @@ module _ (c : Config) (w : World) (good : IsGood c w) where
     open_leave x s found own = grind arith
 
     snapshot_leave : (x : Snapshot) (s : SnapshotStep) (found : ℕ) → LeaveFor (snapshot_after x s found).1
-    snapshot_leave x other found = grind arith
+    snapshot_leave x s found = grind arith
 
     -- each call has leave for the action of its next event
     pub call_leave : (x : TreePhase) (found : ℕ) (hook : HookAnswer) → TreeAccess c (held_of (w.views t)) x →

@@ -8,7 +8,7 @@ use Rattle.gate_world.specs.Roles.{close_tree_role, remount_tree_role, freeze_tr
 
 -- of a close, but that it frees its node
 pub close_apart : (x : ClosePhase) → (cleared (close_tree_role x) ≡ 0) × (is_bare (close_tree_role x) ≡ 0) × (words_read (close_tree_role x) ≡ 0)
-close_apart other = grind arith
+close_apart x = grind arith
 
 -- of a freeze, but that it clears marks
 pub freeze_apart : (nodes : ℕ) (s : FreezeStep) →
