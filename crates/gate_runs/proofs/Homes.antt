@@ -3,7 +3,7 @@ use Rattle.std.proofs.Common.{◌≡◌, ℕ, suc, ◌+◌, ◌-◌, refl, subst
 use Rattle.std.specs.Prelude.{◌⊎◌, Result, Ok, Err, IfErr, IfOk}
 use Rattle.access_model.specs.declared.errors.GateError.{GateError}
 use Rattle.run_plans.specs.declared.{counts.{Remounts.{Remounts}, Writes.{Writes}}, plans.Plan.{Plan}}
-use Rattle.run_rounds.specs.{Counts.{both}, Keeping.{ThawsNothing}, Observers.{was_held}}
+use Rattle.gate_runs.specs.{Counts.{both}, Keeping.{ThawsNothing}, Observers.{was_held}}
 use Rattle.gate_runs.specs.{Refusals.{RunRefused}, declared.threads.Met.{Met, TheVariants.{Remounter, Writer}}}
 use Rattle.gate_runs.specs.Homes.{ComesHome, DoesRounds, IsReady, NeverThawed, TaskShare, TookBack, with_met}
 use Rattle.gate_runs.specs.Parts.{Among, Remounted, Wrote, AllWrote}

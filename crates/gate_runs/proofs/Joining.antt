@@ -7,7 +7,7 @@ use Rattle.vfs_gates.specs.{Frozen.{NeverThaws}, Grown.{StaySeen}, Ended.{EndedW
 use Rattle.vfs_gates.specs.{Seating.{DealtNumbers, HaveViews, one_if, times}, TaskStates.{SeatedTask, own_number, spare_of}}
 use Rattle.vfs_gates.proofs.{Grown.{both_stay_seen, same_stays_seen, stays_seen_on}, Rounds.{own_times, times-append}}
 use Rattle.vfs_gates.proofs.FrozenUntilThawed.{stands}
-use Rattle.run_rounds.specs.{Keeping.{HaveNotThawed}, Refusals.{FoundThawed}}
+use Rattle.gate_runs.specs.{Keeping.{HaveNotThawed}, Refusals.{FoundThawed}}
 use Rattle.gate_runs.specs.Homes.{HasBack, NeverThawed, TookBack}
 
 have_not_both : (a b : DealtNumbers) → HaveNotThawed a → HaveNotThawed b → HaveNotThawed (a ++ b)

@@ -1,3 +1,6 @@
+mod Repeating
+pub mod Answering
+pub mod Keeping
 mod Homes
 mod Staying
 mod Resting

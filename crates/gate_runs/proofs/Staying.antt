@@ -4,10 +4,10 @@ use Rattle.gate_world.specs.declared.views.View.{View}
 use Rattle.vfs_gates.specs.{Seating.{DealtNumbers, HaveViews, numbered, times}, TaskStates.{SeatedTask, own_number, own_view}}
 use Rattle.vfs_gates.specs.Splitting.{Gives, HasBegun, HaveDoneNothing}
 use Rattle.run_plans.specs.declared.counts.{Details.{Details}, Remounts.{Remounts}, Writes.{Writes}}
-use Rattle.run_rounds.specs.{Counts.{both, no_remounts, no_writes, remounts_of}, Keeping.{KeepsNumbers}, Observers.{was_held}}
-use Rattle.run_rounds.specs.Rounds.{Repeats, RemountRound, WriterRound}
+use Rattle.gate_runs.specs.{Counts.{both, no_remounts, no_writes, remounts_of}, Keeping.{KeepsNumbers}, Observers.{was_held}}
+use Rattle.gate_runs.specs.Rounds.{Repeats, RemountRound, WriterRound}
 use Rattle.gate_runs.specs.{Homes.{TookBack}, Parts.{EachFrom, Among, EndsAs, Remounted, Wrote, AllWrote, AllDid}}
-use Rattle.run_rounds.proofs.Keeping.{remounts_thaw_none, writes_thaw_none}
+use Rattle.gate_runs.proofs.Keeping.{remounts_thaw_none, writes_thaw_none}
 
 -- who stands among these does so among more
 pub among_more : (s : SeatedTask) (items more : DealtNumbers) → Among items s → Among (items ++ more) s

@@ -3,7 +3,7 @@ use Rattle.std.specs.Prelude.{◌≡◌, ℕ, ◌⊎◌, Result, IfErr, IfOk}
 use Rattle.access_model.specs.declared.errors.GateError.{GateError}
 use Rattle.run_plans.specs.declared.{counts.Details.{Details}, plans.Plan.{Plan}}
 use Rattle.vfs_gates.specs.{declared.Gates.{Gates}, Ended.{HasAll}, TaskStates.{IsFrom, SeatedTask, spare_of}}
-use Rattle.run_rounds.specs.{Keeping.{HaveNotThawed}, Refusals.{FoundThawed}}
+use Rattle.gate_runs.specs.{Keeping.{HaveNotThawed}, Refusals.{FoundThawed}}
 use Rattle.gate_runs.specs.{Refusals.{RunRefused}, Parts.{AllDid, Among}}
 
 -- All tasks were joined, whatever they met. The task that took them back is from these gates, rests and has all numbers, and none of the others has

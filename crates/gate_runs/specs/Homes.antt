@@ -2,8 +2,8 @@
 use Rattle.std.specs.Prelude.{◌≡◌, ℕ, ◌+◌, ◌<◌, ◌≤◌, ◌++◌, Result, IfErr, IfOk, length}
 use Rattle.access_model.specs.declared.errors.GateError.{GateError}
 use Rattle.run_plans.specs.{Plans.{run_config}, declared.{plans.Plan.{Plan}, counts.{Remounts.{Remounts}, Writes.{Writes}}}}
-use Rattle.run_rounds.specs.{Counts.{both, no_remounts, no_writes}, Keeping.{HaveNotThawed}, Observers.{was_held}, Refusals.{MetBy}}
-use Rattle.run_rounds.specs.Rounds.{RemountRound, Repeats, WriterRound}
+use Rattle.gate_runs.specs.{Counts.{both, no_remounts, no_writes}, Keeping.{HaveNotThawed}, Observers.{was_held}, Refusals.{MetBy}}
+use Rattle.gate_runs.specs.Rounds.{RemountRound, Repeats, WriterRound}
 use Rattle.gate_runs.specs.{declared.threads.Met.{Met, TheVariants.{Remounter, Writer}}, Parts.{Remounted, Wrote}}
 use Rattle.vfs_gates.specs.{Held.{Rests}, declared.Gates.{Gates}, Seating.{times}, Splitting.{HasBegun}}
 use Rattle.vfs_gates.specs.{TaskStates.{IsFrom, SeatedTask, own_number, spare_of}, Grown.{StaySeen}}

@@ -1,3 +1,7 @@
+pub mod Observers
+pub mod Counts
+pub mod Rounds
+pub mod Keeping
 pub mod Refusals
 pub mod Parts
 pub mod Homes

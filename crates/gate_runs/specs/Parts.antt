@@ -3,8 +3,8 @@ use Rattle.std.specs.Prelude.{◌≡◌, ℕ, suc, ◌+◌, ◌-◌, ◌⊎◌, 
 use Rattle.gate_world.specs.declared.views.View.{View}
 use Rattle.vfs_gates.specs.{Seating.{DealtNumbers, numbered}, TaskStates.{SeatedTask, own_number, own_view}, Splitting.{HasBegun}}
 use Rattle.run_plans.specs.declared.counts.{Copies.{Copies}, Details.{Details}, Remounts.{Remounts}, Writes.{Writes}}
-use Rattle.run_rounds.specs.{Counts.{all_writes, no_copies, no_remounts, no_writes, remounts_of}, Observers.{was_frozen, was_held}}
-use Rattle.run_rounds.specs.Rounds.{Repeats, CreatesFiles, RemountRound, WriterRound, BackupRound}
+use Rattle.gate_runs.specs.{Counts.{all_writes, no_copies, no_remounts, no_writes, remounts_of}, Observers.{was_frozen, was_held}}
+use Rattle.gate_runs.specs.Rounds.{Repeats, CreatesFiles, RemountRound, WriterRound, BackupRound}
 
 -- each of a list, by its number from this one on
 abbrev pub EachFrom : {A : Type 0} → (ℕ → A → Type 0) → ℕ → List A → Type 0

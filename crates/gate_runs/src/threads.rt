@@ -8,17 +8,17 @@ ghost use Rattle.run_plans.specs.declared.counts.Remounts.{Remounts as RemountsT
 ghost use Rattle.run_plans.specs.declared.counts.Writes.{Writes as WritesType};
 ghost use Rattle.gate_runs.specs.Homes.{ComesHome, HasBack, IsReady, NeverThawed, TaskShare, TookBack, with_met};
 ghost use Rattle.gate_runs.specs.Parts.{AllWrote, Among, EachFrom, Remounted};
-ghost use Rattle.run_rounds.specs.Counts.{remounts_of};
-ghost use Rattle.run_rounds.specs.Observers.{was_held};
+ghost use Rattle.gate_runs.specs.Counts.{remounts_of};
+ghost use Rattle.gate_runs.specs.Observers.{was_held};
 ghost use Rattle.gate_runs.specs.Refusals.{RunRefused};
 ghost use Rattle.vfs_gates.specs.Splitting.{Gives, HasBegun};
 ghost use Rattle.vfs_gates.specs.TaskStates.{IsFrom, SeatedTask, own_view};
 ghost use Rattle.run_plans.specs.Plans.{run_config};
 ghost use Rattle.vfs_gates.specs.Held.{Rests};
 
+use crate::workers::{back_up, create_files, remount, write};
 use access_model::GateError;
 use run_plans::{Copies, Details, FIRST_WRITER, Plan, Remounts, RunObserver, Writes};
-use run_rounds::{back_up, create_files, remount, write};
 use std::alloc::Global;
 use std::sync::Wait;
 use std::thread;

@@ -4,14 +4,14 @@
 #![tactic(auto)]
 
 mod closings;
-pub mod codes;
-pub mod events;
-pub mod exports;
-pub mod handles;
+mod codes;
+mod events;
+mod exports;
+mod handles;
 mod lending;
-pub mod members;
-pub mod openings;
-pub mod operations;
-pub mod runs;
-pub mod trees;
+mod members;
+mod openings;
+mod operations;
+mod runs;
+mod trees;
 mod unboxed;

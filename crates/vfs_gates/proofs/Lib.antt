@@ -3,7 +3,6 @@ pub mod Parting
 pub mod Splitting
 pub mod Closing
 pub mod Ending
-pub mod Entering
 pub mod Gating
 pub mod Admitting
 pub mod Calling

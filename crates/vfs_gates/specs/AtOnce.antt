@@ -1,8 +1,8 @@
 -- Operations begun and done as far as they go at once.
 use Rattle.std.specs.Prelude.{◌≡◌, Some, None, Result, Ok, Err}
 use Rattle.access_model.specs.declared.errors.GateError.{GateError}
-use Rattle.gate_steps.specs.call_events.{Progress.{Progress}, Runs.{ProgressMatches}}
-use Rattle.gate_world.specs.declared.operations.Op.{Op}
+use Rattle.gate_steps.specs.call_events.{Progress.{Progress}, Runs.{IsBounded, ProgressMatches}}
+use Rattle.gate_world.specs.{declared.operations.Op.{Op}, traces.Traces.{most_events}}
 use Rattle.vfs_gates.specs.TaskStates.{SeatedTask, refusal_at}
 
 -- An operation whose beginning is refused changes nothing. Any other has done its first step at least, and goes on, or was done whole.
@@ -11,3 +11,10 @@ pub record BeginsAtOnce (op : Op) (old left : SeatedTask) (outcome : Result Prog
   pub config : left.config ≡ old.config
   pub refused : (refusal : GateError) → refusal_at op old ≡ Some refusal → (outcome ≡ Err refusal) × (left ≡ old)
   pub begun : refusal_at op old ≡ None → (progress : Progress) × (outcome ≡ Ok progress) × (left.begins ≡ None) × ProgressMatches op old progress left
+
+-- some operation that has a most number of events was begun so
+pub record TriedAtOnce (now : SeatedTask) (begun : Result Progress GateError) : Type 0 where
+  pub op : Op
+  pub start : SeatedTask
+  pub begins : BeginsAtOnce op start now begun
+  pub tries : IsBounded (most_events start.config op)

@@ -4,12 +4,12 @@ ghost use Rattle.std.specs.Prelude.{◌≡◌, false};
 ghost use Rattle.vfs_gates.specs.AtOnce.{BeginsAtOnce};
 
 use crate::calls::waits;
-use crate::fast_paths::FastPath;
 use crate::gates::Gates;
 use crate::snapshots::snapshot_first;
 use crate::task::Task;
 use access_model::{GateError, Holder, Next};
 use call_ends::Waiting;
+use fast_paths::FastPath;
 use gate_events::PendingOp;
 use gate_steps::call_events::Progress;
 use gate_world::Op;
@@ -51,7 +51,7 @@ impl Task {
 
     /// Begins an operation that has this first phase and asks no hook, and does its steps in a line, likewise.
     #[inline(always)]
-    fn take_at_once<P: FastPath>(
+    pub(crate) fn take_at_once<P: FastPath>(
         &mut self,
         gates: &Gates,
         op: Op,

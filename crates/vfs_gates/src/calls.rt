@@ -7,11 +7,11 @@ ghost use Rattle.vfs_gates.specs.TaskStates.{SeatedTask};
 ghost use Rattle.vfs_gates.specs.Waits.{is_wait};
 ghost use Rattle.gate_steps.specs.call_events.Runs.{told_as, unit_of, OpUnderWay};
 
-use crate::fast_paths::FastPath;
 use crate::gates::Gates;
 use crate::task::Task;
 use access_model::{GateError, Next, Reply};
 use composite_ops::WritePhase;
+use fast_paths::FastPath;
 use gate_beginnings::begin;
 use gate_events::PendingOp;
 use gate_steps::call_events::Progress;
@@ -46,6 +46,7 @@ impl Task {
     ghost use Rattle.gate_world.specs.declared.operations.Op.TheVariants.{Want as WantOp, DropMount, ChangeMount, Start, End, DropWrite};
     ghost use Rattle.gate_world.specs.declared.work.Phase.TheVariants.{Mounts};
     ghost use Rattle.mount_counts.specs.declared.phases.MountPhase.TheVariants.{Change as Changes};
+    ghost use Rattle.vfs_gates.specs.AtOnce.{BeginsAtOnce, TriedAtOnce};
     ghost use Rattle.vfs_gates.specs.Buffers.{is_of_snapshot};
     ghost use Rattle.vfs_gates.specs.Lines.{PerformedFrom};
     ghost use Rattle.vfs_gates.specs.TaskStates.{IsFrom, beginning_at, own_number};
@@ -93,6 +94,24 @@ impl Task {
         outcome(self.finish(gates))
     }
 
+    /// Ends a call whose operation was begun so and has a most number of events: does what is left of it.
+    #[inline(always)]
+    pub(crate) fn finish_begun(
+        &mut self,
+        gates: &Gates,
+        begun: Result<Progress, GateError>,
+    ) -> Result<(), GateError>
+        requires from { IsFrom self.old gates.now }
+        requires tried { TriedAtOnce self.old begun }
+        ensures { (op : OpType) (start : SeatedTask) → BeginsAtOnce op start self.old begun → Performs op start self.new result }
+    {
+        let progress = begun?;
+        if let Progress::Done(answer) = progress {
+            return outcome(answer);
+        }
+        self.finish_outcome(gates)
+    }
+
     /// Begins an operation that has a most number of events and this first phase, and does its events in a line. Where one of them finds
     /// something else, it notes where the operation stands and does the rest.
     #[inline(always)]
@@ -108,19 +127,8 @@ impl Task {
         requires tries { IsBounded (most_events self.old.config op) }
         ensures { Performs op self.old self.new result }
     {
-        if let Err(refusal) = self.admit(op) {
-            return Err(refusal);
-        }
-        let accesses = &mut self.state.accesses;
-        let next = first.run_fast_path(&gates.words, &mut self.seat, accesses, Some(op));
-        self.waited = waits(&next);
-        match next {
-            Next::Done(answer) => outcome(answer),
-            Next::Go(under_way) | Next::Wait(under_way) => {
-                self.state.phase = Some(under_way.phase());
-                self.finish_outcome(gates)
-            }
-        }
+        let begun = self.take_at_once(gates, op, first);
+        self.finish_begun(gates, begun)
     }
 
     /// `__mnt_want_write` that doesn't wait: an access at a mount, taken on a processor.

@@ -6,7 +6,6 @@ mod at_once;
 mod buffers;
 mod calls;
 mod closed;
-mod fast_paths;
 mod firsts;
 mod gates;
 pub mod laws;

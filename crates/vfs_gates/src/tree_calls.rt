@@ -11,7 +11,6 @@ use crate::gates::Gates;
 use crate::task::Task;
 use access_model::{GateError, Kind, Reply};
 use call_ends::run_to_reply;
-use gate_steps::call_events::Progress;
 use gate_world::Op;
 use gated_tree::{
     Create, CreateStep, Grow, GrowStep, Mark, MarkStep, MoveStep, MoveTo, OpenFile, OpenStep,
@@ -254,11 +253,8 @@ impl Task {
         requires { IsFrom self.old gates.now }
         ensures { Performs (SnapshotOp false) self.old self.new result }
     {
-        let progress = self.load_at_once(gates, false)?;
-        if let Progress::Done(answer) = progress {
-            return outcome(answer);
-        }
-        outcome(self.finish(gates))
+        let begun = self.load_at_once(gates, false);
+        self.finish_begun(gates, begun)
     }
 
     /// Takes a snapshot of the frozen file system, which `tree` shows from then on, and waits for `umount`.
@@ -270,10 +266,7 @@ impl Task {
         requires { IsFrom self.old gates.now }
         ensures { Performs (SnapshotOp true) self.old self.new result }
     {
-        let progress = self.load_at_once(gates, true)?;
-        if let Progress::Done(answer) = progress {
-            return outcome(answer);
-        }
-        outcome(self.finish_waiting(rt, gates))
+        let begun = self.load_at_once(gates, true);
+        self.finish_begun_waiting(rt, gates, begun)
     }
 }

@@ -5,13 +5,13 @@ ghost use Rattle.gate_world.specs.declared.operations.Op.{Op as OpType};
 ghost use Rattle.vfs_gates.specs.TaskStates.{SeatedTask};
 ghost use Rattle.gate_steps.specs.call_events.Runs.{told_as, ran_of, IsRanReply, OpUnderWay};
 
-use crate::calls::{outcome, waits};
-use crate::fast_paths::FastPath;
+use crate::calls::outcome;
 use crate::gates::Gates;
 use crate::task::Task;
-use access_model::{GateError, Holder, Next, Reply};
+use access_model::{GateError, Holder, Reply};
 use call_ends::{Waiting, wait_for_reply};
 use crossbeam_utils::Backoff;
+use fast_paths::FastPath;
 use gate_steps::call_events::{Progress, TimedHooks};
 use gate_world::Op;
 use mount_counts::{Want, WantStep};
@@ -33,6 +33,7 @@ fn ran(answer: Result<Reply, GateError>) -> Result<bool, GateError>
 impl Task {
     ghost use Rattle.gate_world.specs.Beginnings.{first_phase};
     ghost use Rattle.gate_world.specs.declared.operations.Op.TheVariants.{Want as WantOp, ChangeMount, RemountSb, Start, WantWrite, Callback as CallbackOp, Freeze as FreezeOp, Thaw as ThawOp};
+    ghost use Rattle.vfs_gates.specs.AtOnce.{BeginsAtOnce};
     ghost use Rattle.vfs_gates.specs.Buffers.{is_of_snapshot};
     ghost use Rattle.vfs_gates.specs.Lines.{PerformedFrom};
     ghost use Rattle.vfs_gates.specs.TaskStates.{IsFrom, own_number};
@@ -76,6 +77,24 @@ impl Task {
         outcome(self.finish_waiting(rt, gates))
     }
 
+    /// Ends a call whose operation was begun so: does what is left of it, however long it has to wait.
+    #[inline(always)]
+    pub(crate) fn finish_begun_waiting<R: Wait>(
+        &mut self,
+        rt: &R,
+        gates: &Gates,
+        begun: Result<Progress, GateError>,
+    ) -> Result<(), GateError>
+        requires { IsFrom self.old gates.now }
+        ensures { (op : OpType) (start : SeatedTask) → BeginsAtOnce op start self.old begun → Performs op start self.new result }
+    {
+        let progress = begun?;
+        if let Progress::Done(answer) = progress {
+            return outcome(answer);
+        }
+        self.finish_waiting_outcome(rt, gates)
+    }
+
     /// Begins an operation that has this first phase, and does its events until it replies, however long it has to wait, with the hooks of
     /// the file system.
     #[inline(always)]
@@ -117,19 +136,8 @@ impl Task {
         requires other { is_of_snapshot (P.as_phase first) ≡ false }
         ensures { Performs op self.old self.new result }
     {
-        if let Err(refusal) = self.admit(op) {
-            return Err(refusal);
-        }
-        let accesses = &mut self.state.accesses;
-        let next = first.run_fast_path(&gates.words, &mut self.seat, accesses, Some(op));
-        self.waited = waits(&next);
-        match next {
-            Next::Done(answer) => outcome(answer),
-            Next::Go(under_way) | Next::Wait(under_way) => {
-                self.state.phase = Some(under_way.phase());
-                self.finish_waiting_outcome(rt, gates)
-            }
-        }
+        let begun = self.take_at_once(gates, op, first);
+        self.finish_begun_waiting(rt, gates, begun)
     }
 
     /// `__mnt_want_write`: an access at a mount, taken on a processor. While a change of the mount holds writers off it waits.

@@ -8,7 +8,7 @@ use Rattle.gate_world.specs.{declared.config.Config.{Config}, Configs.{IsWithin}
 use Rattle.vfs_gates.specs.{TaskStates.{SeatedTask}, Ended.{EndedWith, ClosedState}, declared.Gates.{Gates}, Splitting.{Gives, HasBegun}}
 use Rattle.gate_runs.specs.{Ends.{AllJoined}, Parts.{Among, EndsAs}, Refusals.{RunRefused}}
 use Rattle.run_plans.specs.{Plans.{MayRun, run_config}, declared.{counts.Details.{Details}, plans.Plan.{Plan}}}
-use Rattle.run_rounds.proofs.Answering.{met_in_order}
+use Rattle.gate_runs.proofs.Answering.{met_in_order}
 use Rattle.vfs_gates.proofs.Splitting.{first_begins, gives_all}
 use Rattle.gate_runs.proofs.{Joining.{found_nothing}, Staying.{all_did_on, ends_as}}
 use Rattle.gate_runs.proofs.runs.run_plan.Goals as goal

@@ -5,11 +5,11 @@ use Rattle.std.specs.Prelude.{◌⊎◌, Ok}
 use Rattle.access_model.specs.declared.errors.GateError.{GateError}
 use Rattle.gate_world.specs.declared.config.Config.{Config}
 use Rattle.run_plans.specs.declared.counts.{Copies.{Copies}, Details.{Details}, Remounts.{Remounts}, Writes.{Writes}}
-use Rattle.run_rounds.specs.{Counts.{no_copies, remounts_of}, Observers.{was_frozen, was_held}, Keeping.{HaveNotThawed}}
-use Rattle.run_rounds.specs.{Refusals.{FoundThawed}, Rounds.{BackupRound, Repeats}}
+use Rattle.gate_runs.specs.{Counts.{no_copies, remounts_of}, Observers.{was_frozen, was_held}, Keeping.{HaveNotThawed}}
+use Rattle.gate_runs.specs.{Refusals.{FoundThawed}, Rounds.{BackupRound, Repeats}}
 use Rattle.gate_runs.specs.{Refusals.{RunRefused}, Parts.{AllWrote, Among, Remounted}}
 use Rattle.vfs_gates.specs.{Splitting.{Gives}, TaskStates.{own_number, spare_of}}
-use Rattle.run_rounds.proofs.Keeping.{creates_stay, idle_have_not}
+use Rattle.gate_runs.proofs.Keeping.{creates_stay, idle_have_not}
 use Rattle.gate_runs.proofs.{Homes.{each_err, each_ok, either_refused, where_ok}, Joining.{all_numbers, found_on}}
 use Rattle.gate_runs.proofs.{Staying.{gives_stay, is_among}, Resting.{begun_rests}}
 use Rattle.gate_runs.proofs.threads.run_threads.Goals as goal

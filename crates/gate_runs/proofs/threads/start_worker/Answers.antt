@@ -4,8 +4,8 @@ use Rattle.std.specs.Prelude.{Result, Ok, Err, OnOk}
 use Rattle.access_model.specs.declared.{actions.Holder.TheVariants.{User}, errors.GateError.{GateError}}
 use Rattle.vfs_gates.specs.{Frozen.{NeverThaws}, Parts.{SplitOf}, Seating.{DealtNumbers, given_of, kept_of}, Splitting.{HasBegun}}
 use Rattle.vfs_gates.specs.TaskStates.{SeatedTask, own_view, spare_of}
-use Rattle.run_rounds.specs.Keeping.{HaveNotThawed}
-use Rattle.run_rounds.proofs.Keeping.{have_not}
+use Rattle.gate_runs.specs.Keeping.{HaveNotThawed}
+use Rattle.gate_runs.proofs.Keeping.{have_not}
 use Rattle.vfs_gates.proofs.Splitting.{gives_on, has_begun, refused_for_memory}
 use Rattle.gate_runs.specs.Homes.{IsReady}
 use Rattle.gate_runs.proofs.threads.start_worker.Goals as goal

@@ -1,7 +1,7 @@
 -- A task comes home with its rounds done: a writer's place is told by its number, and so is the remounter.
 use Rattle.std.proofs.Common.{◌-◌, arith, rules}
-use Rattle.run_rounds.specs.Counts.{no_remounts}
-use Rattle.run_rounds.proofs.Keeping.{remounts_thaw_none}
+use Rattle.gate_runs.specs.Counts.{no_remounts}
+use Rattle.gate_runs.proofs.Keeping.{remounts_thaw_none}
 use Rattle.gate_runs.proofs.Homes.{comes_back}
 use Rattle.gate_runs.proofs.threads.work.Goals as goal
 

@@ -1,38 +1,7 @@
 -- its line, and what is left of it
-use Rattle.std.proofs.{Common.{refl, false, subst}, lemmas.Result.{err_from_is_err_and}}
+use Rattle.std.proofs.Common.{false}
 use Rattle.gate_world.specs.declared.operations.Op.TheVariants.{Snapshot as SnapshotOp}
-use Rattle.gate_steps.specs.call_events.Runs.{ProgressMatches, unit_of}
-use Rattle.gate_steps.proofs.call_events.Running.{was_refused, was_done}
-use Rattle.vfs_gates.proofs.AtOnce.{begun_by, goes_by, refused_so}
 use Rattle.vfs_gates.proofs.task.Task.try_snapshot.Goals as goal
 
-pub finish-requires-clause-trying : goal.finish-requires-clause-trying
-finish-requires-clause-trying c =
-    let told = begun_by (SnapshotOp false) c.args.self.now c.load_at_once.new.self c.in_ok-progress.progress _ refl c.in_ok-progress.ensures in
-    record {
-      op = SnapshotOp false;
-      start = c.args.self.now;
-      goes = goes_by (SnapshotOp false) c.args.self.now c.load_at_once.new.self c.in_ok-progress.progress c.in_default.not-Done told.1;
-      tries = tt;
-    }
-
-pub returns-in-Done : goal.returns-in-Done
-returns-in-Done c =
-    let told = begun_by (SnapshotOp false) c.args.self.now c.load_at_once.new.self c.in_ok-progress.progress _ refl c.in_ok-progress.ensures in
-    was_done unit_of (SnapshotOp false) c.args.self.now c.load_at_once.new.self c.in-Done.answer c.outcome.result c.outcome.ensures
-    told.0 (subst (λ p. ProgressMatches (SnapshotOp false) c.args.self.now p c.load_at_once.new.self) c.in-Done.is told.1)
-
 pub returns : goal.returns
-returns c =
-    let told = begun_by (SnapshotOp false) c.args.self.now c.load_at_once.new.self c.in_ok-progress.progress _ refl c.in_ok-progress.ensures in
-    was_done unit_of (SnapshotOp false) c.args.self.now c.finish.new.self c.finish.result c.outcome-2.result c.outcome-2.ensures told.0
-    (c.finish.ensures (SnapshotOp false) c.args.self.now
-    (goes_by (SnapshotOp false) c.args.self.now c.load_at_once.new.self c.in_ok-progress.progress c.in_default.not-Done told.1))
-
-pub returns-in_err-progress : goal.returns-in_err-progress
-returns-in_err-progress c =
-    let p = err_from_is_err_and c.from_residual.result c.from_residual.ensures.1 in
-    let refused = refused_so (SnapshotOp false) c.args.self.now c.load_at_once.new.self c.in_err-progress.field-0.0 _ refl
-    c.in_err-progress.ensures in
-    rw (p.1, p.2) (was_refused unit_of (SnapshotOp false) c.args.self.now c.load_at_once.new.self c.in_err-progress.field-0.0
-    refused.0 refused.1)
+returns c = c.finish_begun.ensures (SnapshotOp false) c.args.self.now c.load_at_once-begun.ensures

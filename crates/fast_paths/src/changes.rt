@@ -1,0 +1,146 @@
+//! The events of a change of a mount, in a line: its beginning, the sum of the mount's counts, its end.
+
+ghost use Rattle.std.specs.Prelude.{◌≡◌, ℕ, Some, None};
+ghost use Rattle.gate_world.specs.Views.{phase_after};
+ghost use Rattle.gate_world.specs.declared.operations.Op.{Op as OpType};
+ghost use Rattle.gate_world.specs.declared.work.Phase.TheVariants.{Mounts};
+ghost use Rattle.mount_counts.specs.declared.phases.MountPhase.TheVariants.{Change as Changes};
+ghost use Rattle.gate_steps.specs.call_events.SeatedTasks.{SeatedTask, task_state};
+ghost use Rattle.gate_steps.specs.call_events.Turns.{StateAgrees, AgreesAfter, of_change};
+ghost use Rattle.gate_steps.specs.call_events.Waited.{OpUnderWayWaiting, OpAfterStepWaiting};
+
+use crate::lines::{Checkpointed, FastPath, step_if_at};
+use access_model::Next;
+use gate_steps::call_events::{GateWords, GhostSeat, step_once};
+use gate_world::{Accesses, Op};
+use mount_counts::{Change, ChangeStep};
+
+/// A place in the line of a change.
+#[derive(Clone, Copy)]
+pub(crate) enum ChangePlace {
+    LoadsFlags,
+    LoadsSuperblock,
+    SetsHold,
+    Sums,
+    SetsReadOnly,
+    ClearsHold,
+    ClearsReadOnly,
+    Releases,
+}
+
+impl Checkpointed for Change {
+    type Place = ChangePlace;
+
+    #[inline(always)]
+    fn is_at(&self, place: ChangePlace) -> bool {
+        match self.step {
+            ChangeStep::Locks => false,
+            ChangeStep::LoadsFlags => matches!(place, ChangePlace::LoadsFlags),
+            ChangeStep::LoadsSuperblock => matches!(place, ChangePlace::LoadsSuperblock),
+            ChangeStep::ClearsReadOnly => matches!(place, ChangePlace::ClearsReadOnly),
+            ChangeStep::SetsHold => matches!(place, ChangePlace::SetsHold),
+            ChangeStep::Sums(_) => matches!(place, ChangePlace::Sums),
+            ChangeStep::SetsReadOnly => matches!(place, ChangePlace::SetsReadOnly),
+            ChangeStep::ClearsHold(_) => matches!(place, ChangePlace::ClearsHold),
+            ChangeStep::Releases(_) => matches!(place, ChangePlace::Releases),
+        }
+    }
+}
+
+/// The events up to the one that holds writers off, or up to what stands in its way. What comes after the last of them.
+#[inline]
+fn begin_change(
+    gates: &GateWords,
+    seat: &mut GhostSeat,
+    accesses: &mut Accesses,
+    begins: Option<Op>,
+    change: Change,
+) -> Next<Change>
+    requires table { seat.old.table_id ≡ gates.now.table.shared.table_id }
+    requires agrees { StateAgrees gates.now.config begins (Some (Mounts (Changes change))) accesses.old seat.old.me.0.items }
+    ensures table { seat.new.table_id ≡ seat.old.table_id }
+    ensures slots { seat.new.me.1 ≡ seat.old.me.1 }
+    ensures agrees { AgreesAfter gates.now.config begins (Some (Mounts (Changes change))) accesses.old seat.old.me.0.items
+        (phase_after (of_change result)) accesses.new seat.new.me.0.items }
+    ensures still { StateAgrees gates.now.config None (phase_after (of_change result)) accesses.new seat.new.me.0.items }
+    ensures went { (waits : ℕ) (op : OpType) (start : SeatedTask) →
+        OpUnderWayWaiting waits op start (task_state seat.old.table_id gates.now.config begins (Some (Mounts (Changes change))) seat.old.me.0) →
+        OpAfterStepWaiting waits op start (of_change result)
+        (task_state seat.new.table_id gates.now.config None (phase_after (of_change result)) seat.new.me.0) }
+{
+    let next = step_once(gates, seat, accesses, begins, change, Ok(()));
+    let next = step_if_at(gates, seat, accesses, next, ChangePlace::LoadsFlags);
+    let next = step_if_at(gates, seat, accesses, next, ChangePlace::LoadsSuperblock);
+    step_if_at(gates, seat, accesses, next, ChangePlace::SetsHold)
+}
+
+/// The loads of the mount's counts, one word of so many after the other. What comes after the last of them.
+#[inline]
+fn add_counts(
+    gates: &GateWords,
+    seat: &mut GhostSeat,
+    accesses: &mut Accesses,
+    mut next: Next<Change>,
+    processors: u8,
+) -> Next<Change>
+    requires table { seat.old.table_id ≡ gates.now.table.shared.table_id }
+    requires agrees { StateAgrees gates.now.config None (phase_after (of_change next)) accesses.old seat.old.me.0.items }
+    ensures table { seat.new.table_id ≡ seat.old.table_id }
+    ensures slots { seat.new.me.1 ≡ seat.old.me.1 }
+    ensures agrees { AgreesAfter gates.now.config None (phase_after (of_change next)) accesses.old seat.old.me.0.items
+        (phase_after (of_change result)) accesses.new seat.new.me.0.items }
+    ensures still { StateAgrees gates.now.config None (phase_after (of_change result)) accesses.new seat.new.me.0.items }
+    ensures went { (waits : ℕ) (op : OpType) (start : SeatedTask) →
+        OpAfterStepWaiting waits op start (of_change next)
+        (task_state seat.old.table_id gates.now.config None (phase_after (of_change next)) seat.old.me.0) →
+        OpAfterStepWaiting waits op start (of_change result)
+        (task_state seat.new.table_id gates.now.config None (phase_after (of_change result)) seat.new.me.0) }
+{
+    for _cpu in 0..processors {
+        next = step_if_at(gates, seat, accesses, next, ChangePlace::Sums);
+    }
+    next
+}
+
+/// The events after the sum: the mount is shut, where it was 0, and writers are let in again; or the mount is opened. Then `umount` is
+/// given back. What comes after the last of them.
+#[inline]
+fn end_change(
+    gates: &GateWords,
+    seat: &mut GhostSeat,
+    accesses: &mut Accesses,
+    next: Next<Change>,
+) -> Next<Change>
+    requires table { seat.old.table_id ≡ gates.now.table.shared.table_id }
+    requires agrees { StateAgrees gates.now.config None (phase_after (of_change next)) accesses.old seat.old.me.0.items }
+    ensures table { seat.new.table_id ≡ seat.old.table_id }
+    ensures slots { seat.new.me.1 ≡ seat.old.me.1 }
+    ensures agrees { AgreesAfter gates.now.config None (phase_after (of_change next)) accesses.old seat.old.me.0.items
+        (phase_after (of_change result)) accesses.new seat.new.me.0.items }
+    ensures went { (waits : ℕ) (op : OpType) (start : SeatedTask) →
+        OpAfterStepWaiting waits op start (of_change next)
+        (task_state seat.old.table_id gates.now.config None (phase_after (of_change next)) seat.old.me.0) →
+        OpAfterStepWaiting waits op start (of_change result)
+        (task_state seat.new.table_id gates.now.config None (phase_after (of_change result)) seat.new.me.0) }
+{
+    let next = step_if_at(gates, seat, accesses, next, ChangePlace::SetsReadOnly);
+    let next = step_if_at(gates, seat, accesses, next, ChangePlace::ClearsHold);
+    let next = step_if_at(gates, seat, accesses, next, ChangePlace::ClearsReadOnly);
+    step_if_at(gates, seat, accesses, next, ChangePlace::Releases)
+}
+
+impl FastPath for Change {
+    #[inline(always)]
+    fn run_fast_path(
+        self,
+        gates: &GateWords,
+        seat: &mut GhostSeat,
+        accesses: &mut Accesses,
+        begins: Option<Op>,
+    ) -> Next<Change> {
+        let processors = self.processors;
+        let next = begin_change(gates, seat, accesses, begins, self);
+        let next = add_counts(gates, seat, accesses, next, processors);
+        end_change(gates, seat, accesses, next)
+    }
+}

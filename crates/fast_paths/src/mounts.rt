@@ -1,0 +1,78 @@
+//! A want of an access at a mount, and its return, in a line.
+
+ghost use Rattle.std.specs.Prelude.{◌≡◌, ℕ, None};
+ghost use Rattle.gate_world.specs.Views.{phase_after};
+ghost use Rattle.gate_world.specs.declared.operations.Op.{Op as OpType};
+ghost use Rattle.gate_steps.specs.call_events.SeatedTasks.{SeatedTask, task_state};
+ghost use Rattle.gate_steps.specs.call_events.Turns.{StateAgrees, AgreesAfter};
+ghost use Rattle.gate_steps.specs.call_events.Waited.{OpAfterStepWaiting};
+ghost use Rattle.fast_paths.specs.Lines.{of_want};
+
+use crate::lines::{Checkpointed, FastPath, step_if_at};
+use access_model::Next;
+use gate_steps::call_events::{GateWords, GhostSeat, step_once};
+use gate_world::{Accesses, Op};
+use mount_counts::{MountPhase, Want, WantStep};
+
+impl Checkpointed for Want {
+    type Place = WantStep;
+
+    #[inline(always)]
+    fn is_at(&self, place: WantStep) -> bool {
+        self.step == place
+    }
+}
+
+/// The last three events of a want that finds nothing in its way, in a line: whether the mount may be written. What comes after the last
+/// of them. They are a function of their own since the compiler takes no hint for one that five events stand in, and calls it.
+#[inline]
+fn ask_in_line(
+    gates: &GateWords,
+    seat: &mut GhostSeat,
+    accesses: &mut Accesses,
+    next: Next<Want>,
+) -> Next<Want>
+    requires table { seat.old.table_id ≡ gates.now.table.shared.table_id }
+    requires agrees { StateAgrees gates.now.config None (phase_after (of_want next)) accesses.old seat.old.me.0.items }
+    ensures table { seat.new.table_id ≡ seat.old.table_id }
+    ensures slots { seat.new.me.1 ≡ seat.old.me.1 }
+    ensures agrees { AgreesAfter gates.now.config None (phase_after (of_want next)) accesses.old seat.old.me.0.items
+        (phase_after (of_want result)) accesses.new seat.new.me.0.items }
+    ensures went { (waits : ℕ) (op : OpType) (start : SeatedTask) →
+        OpAfterStepWaiting waits op start (of_want next)
+        (task_state seat.old.table_id gates.now.config None (phase_after (of_want next)) seat.old.me.0) →
+        OpAfterStepWaiting waits op start (of_want result)
+        (task_state seat.new.table_id gates.now.config None (phase_after (of_want result)) seat.new.me.0) }
+{
+    let next = step_if_at(gates, seat, accesses, next, WantStep::LoadsRemount);
+    let next = step_if_at(gates, seat, accesses, next, WantStep::LoadsReadOnly);
+    step_if_at(gates, seat, accesses, next, WantStep::LoadsSuperblock)
+}
+
+impl FastPath for Want {
+    #[inline(always)]
+    fn run_fast_path(
+        self,
+        gates: &GateWords,
+        seat: &mut GhostSeat,
+        accesses: &mut Accesses,
+        begins: Option<Op>,
+    ) -> Next<Want> {
+        let next = step_once(gates, seat, accesses, begins, self, Ok(()));
+        let next = step_if_at(gates, seat, accesses, next, WantStep::LoadsHold);
+        ask_in_line(gates, seat, accesses, next)
+    }
+}
+
+impl FastPath for MountPhase {
+    #[inline(always)]
+    fn run_fast_path(
+        self,
+        gates: &GateWords,
+        seat: &mut GhostSeat,
+        accesses: &mut Accesses,
+        begins: Option<Op>,
+    ) -> Next<MountPhase> {
+        step_once(gates, seat, accesses, begins, self, Ok(()))
+    }
+}

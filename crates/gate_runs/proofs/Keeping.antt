@@ -1,0 +1,196 @@
+-- What calls of its own leave a task: its numbers, and that it thaws nothing unless a call is a thaw.
+use Rattle.std.proofs.Common.{◌≡◌, ℕ, zero, suc, ◌+◌, ◌≤◌, true, false, List, [], ◌∷◌, ◌++◌, length, refl, ap, sym, subst, ◌∙◌, arith, inl, inr}
+use Rattle.std.proofs.lemmas.Bool.{cases_Bool}
+use Rattle.std.specs.Prelude.{Option, Some, None, Result, Ok, Err}
+use Rattle.access_model.specs.declared.{actions.{Action.{Action}, Holder.TheVariants.{User}}, errors.GateError.{GateError}}
+use Rattle.access_model.specs.declared.{errors.GateError.TheVariants.{ReadOnly}, replies.Reply.{Reply}}
+use Rattle.gate_world.specs.declared.{config.Config.{Config}, operations.Op.{Op, TheVariants.{ChangeMount, DropWrite, Grow, WantWrite}}}
+use Rattle.gate_world.specs.{declared.views.Traced.{Traced}, traces.{Found.{found_read_only}, Traces.{actions_of}}}
+use Rattle.vfs_gates.specs.{Frozen.{NeverThaws}, Held.{own_actions}, Runs.{Called, Replies, ran_items}, Seating.{DealtNumbers}}
+use Rattle.vfs_gates.specs.{Splitting.{HaveDoneNothing}, TaskStates.{SeatedTask, own_number, own_view, refusal_at, spare_of}}
+use Rattle.vfs_gates.proofs.Holding.{adds}
+use Rattle.run_plans.specs.declared.counts.{Copies.{Copies}, Remounts.{Remounts}, Writes.{Writes}}
+use Rattle.gate_runs.specs.{Counts.{with_waits}, Keeping.{HaveNotThawed, KeepsNumbers, ThawsNothing}}
+use Rattle.gate_runs.specs.Rounds.{Repeats, CallsBack, CreatesFile, CreatesFiles, IsRefused, Retries, Takes, Waits, RemountRound, WriterRound, BackupRound}
+
+pub stays_so : (s : SeatedTask) → KeepsNumbers s s
+stays_so s = record { config = refl; own = refl; spare = refl; idle = λ i. i; there = λ h. h }
+
+pub stays_on : {first mid last : SeatedTask} → KeepsNumbers first mid → KeepsNumbers mid last → KeepsNumbers first last
+stays_on one two = record {
+  config = two.config ∙ one.config;
+  own = two.own ∙ one.own;
+  spare = two.spare ∙ one.spare;
+  idle = λ i. two.idle (one.idle i);
+  there = λ h. two.there (one.there h);
+}
+
+-- what has run has its numbers
+own_ran : (c : Config) (op : Op) (trace : List Traced) (items : DealtNumbers) → own_number (ran_items c op trace items) ≡ own_number items
+own_ran c op trace [] = refl
+own_ran c op trace (x ∷ xs) = refl
+
+spare_ran : (c : Config) (op : Op) (trace : List Traced) (items : DealtNumbers) → spare_of (ran_items c op trace items) ≡ spare_of items
+spare_ran c op trace [] = refl
+spare_ran c op trace (x ∷ xs) = refl
+
+there_ran : (c : Config) (op : Op) (trace : List Traced) (items : DealtNumbers) → 1 ≤ length items → 1 ≤ length (ran_items c op trace items)
+there_ran c op trace [] h = h
+there_ran c op trace (x ∷ xs) h = omega arith
+
+pub called_stays : (op : Op) (first last : SeatedTask) (answer : Result Reply GateError) → Called op first last answer → KeepsNumbers first last
+called_stays op first last answer called =
+    let items : last.items ≡ ran_items first.config op called.trace first.items = ap (λ (s : SeatedTask). s.items) called.after in record {
+      config = ap (λ (s : SeatedTask). s.config) called.after;
+      own = ap own_number items ∙ own_ran first.config op called.trace first.items;
+      spare = ap spare_of items ∙ spare_ran first.config op called.trace first.items;
+      idle = λ i. ap (λ (s : SeatedTask). s.phase) called.after;
+      there = λ h. subst (λ (l : DealtNumbers). 1 ≤ length l) (sym items) (there_ran first.config op called.trace first.items h);
+    }
+
+-- a call leaves what a whole one leaves, if that is also left where nothing is done
+module _ {A : Type 0} (read : Reply → A) (op : Op) (first last : SeatedTask) (outcome : Result A GateError) (did : Replies read op first last outcome)
+    (Leaves : SeatedTask → Type 0) (same : Leaves first)
+    (whole : (answer : Result Reply GateError) → Called op first last answer → Leaves last) where
+  by_beginning : (r : Option GateError) → refusal_at op first ≡ r → Leaves last
+  by_beginning None e = let done = did.done e in whole done.0 done.2
+  by_beginning (Some refusal) e = subst Leaves (sym (did.refused refusal e).1) same
+
+  pub either_way : Leaves last
+  either_way = by_beginning (refusal_at op first) refl
+
+pub stays : {A : Type 0} (read : Reply → A) (op : Op) (first last : SeatedTask) (outcome : Result A GateError) → Replies read op first last outcome →
+    KeepsNumbers first last
+stays read op first last outcome did = either_way read op first last outcome did (KeepsNumbers first) (stays_so first) (called_stays op first last)
+
+-- an operation of a worker, which adds no thaw
+abbrev pub IsWorkers : Op → Type 0
+IsWorkers (WantWrite m p) = Unit {0}
+IsWorkers (DropWrite m p) = Unit {0}
+IsWorkers (ChangeMount m read_only wait) = Unit {0}
+IsWorkers (Grow file blocks) = Unit {0}
+IsWorkers op = ⊥
+
+adds_none : (op : Op) (answer : Result Reply GateError) (trace : List Traced) → IsWorkers op → NeverThaws User (actions_of op answer trace)
+adds_none (WantWrite m p) (Ok reply) trace its = ((λ e. let f : ⊥ = cc in f), ((λ e. let f : ⊥ = cc in f), tt))
+adds_none (WantWrite m p) (Err refusal) trace its = ((λ e. let f : ⊥ = cc in f), ((λ e. let f : ⊥ = cc in f), tt))
+adds_none (DropWrite m p) (Ok reply) trace its = ((λ e. let f : ⊥ = cc in f), ((λ e. let f : ⊥ = cc in f), tt))
+adds_none (DropWrite m p) (Err refusal) trace its = tt
+adds_none (ChangeMount m true wait) (Ok reply) trace its =
+    elim (cases_Bool (found_read_only m trace)) [ inl h ↦ rw h tt | inr h ↦ rw h ((λ e. let f : ⊥ = cc in f), tt) ]
+adds_none (ChangeMount m false wait) (Ok reply) trace its =
+    elim (cases_Bool (found_read_only m trace)) [ inl h ↦ rw h ((λ e. let f : ⊥ = cc in f), tt) | inr h ↦ rw h tt ]
+adds_none (ChangeMount m read_only wait) (Err refusal) trace its = tt
+adds_none (Grow file blocks) (Ok reply) trace its = ((λ e. let f : ⊥ = cc in f), tt)
+adds_none (Grow file blocks) (Err refusal) trace its = tt
+adds_none op answer trace its = absurd its
+
+never_both : (later earlier : List Action) → NeverThaws User later → NeverThaws User earlier → NeverThaws User (later ++ earlier)
+never_both [] earlier none never = never
+never_both (a ∷ later) earlier none never = (none.0, never_both later earlier none.1 never)
+
+-- so such a call leaves none of its task's numbers that has thawed
+pub have_not : (items : DealtNumbers) → NeverThaws User (own_view items).actions → HaveNotThawed (spare_of items) → HaveNotThawed items
+have_not [] own rest = tt
+have_not (x ∷ xs) own rest = (own, rest)
+
+own_has_not : (items : DealtNumbers) → HaveNotThawed items → NeverThaws User (own_view items).actions × HaveNotThawed (spare_of items)
+own_has_not [] none = (tt, tt)
+own_has_not (x ∷ xs) none = none
+
+called_quiet : (op : Op) → IsWorkers op → (first last : SeatedTask) (answer : Result Reply GateError) → Called op first last answer →
+    HaveNotThawed first.items → HaveNotThawed last.items
+called_quiet op its first last answer called none =
+    let were = own_has_not first.items none in
+    have_not last.items
+    (subst (NeverThaws User) (sym (adds op first last answer called))
+    (never_both (actions_of op answer called.trace) (own_actions first) (adds_none op answer called.trace its) were.0))
+    (subst HaveNotThawed (sym (called_stays op first last answer called).spare) were.1)
+
+pub thaws_nothing : {A : Type 0} (read : Reply → A) (op : Op) → IsWorkers op → (first last : SeatedTask) (outcome : Result A GateError) →
+    Replies read op first last outcome → ThawsNothing first last
+thaws_nothing read op its first last outcome did = record {
+  numbers = stays read op first last outcome did;
+  none = λ none. either_way read op first last outcome did (λ (s : SeatedTask). HaveNotThawed s.items) none
+      (λ answer called. called_quiet op its first last answer called none);
+}
+
+pub thaws_none_so : (s : SeatedTask) → ThawsNothing s s
+thaws_none_so s = record { numbers = stays_so s; none = λ none. none }
+
+pub thaws_none_on : {first mid last : SeatedTask} → ThawsNothing first mid → ThawsNothing mid last → ThawsNothing first last
+thaws_none_on one two = record { numbers = stays_on one.numbers two.numbers; none = λ none. two.none (one.none none) }
+
+-- numbers that have done nothing haven't thawed
+pub idle_have_not : (items : DealtNumbers) → HaveDoneNothing items → HaveNotThawed items
+idle_have_not [] nothing = tt
+idle_have_not (x ∷ xs) nothing = (subst (NeverThaws User) (sym nothing.0) tt, idle_have_not xs nothing.1)
+
+-- so many rounds, where each leaves a task so
+module _ (Leaves : SeatedTask → SeatedTask → Type 0) (same : (s : SeatedTask) → Leaves s s)
+    (on : (first mid last : SeatedTask) → Leaves first mid → Leaves mid last → Leaves first last) where
+  rounds_so : {S : Type 0} (task : S → SeatedTask) (Round : ℕ → S → S → Type 0) →
+      ((k : ℕ) (x y : S) → Round k x y → Leaves (task x) (task y)) → (k : ℕ) (first last : S) → Repeats Round k first last →
+      Leaves (task first) (task last)
+  rounds_so {S = S} task Round each zero first last did = subst (λ (x : S). Leaves (task first) (task x)) (sym did) (same (task first))
+  rounds_so task Round each (suc k) first last did =
+      on (task first) (task did.0) (task last) (rounds_so task Round each k first did.0 did.1) (each k did.0 last did.2)
+
+rounds_stay : {S : Type 0} (task : S → SeatedTask) (Round : ℕ → S → S → Type 0) →
+    ((k : ℕ) (x y : S) → Round k x y → KeepsNumbers (task x) (task y)) → (k : ℕ) (first last : S) → Repeats Round k first last →
+    KeepsNumbers (task first) (task last)
+rounds_stay task Round each k first last did =
+    rounds_so KeepsNumbers stays_so (λ a b c one two. stays_on one two) task Round each k first last did
+
+rounds_thaw_none : {S : Type 0} (task : S → SeatedTask) (Round : ℕ → S → S → Type 0) →
+    ((k : ℕ) (x y : S) → Round k x y → ThawsNothing (task x) (task y)) → (k : ℕ) (first last : S) → Repeats Round k first last →
+    ThawsNothing (task first) (task last)
+rounds_thaw_none task Round each k first last did =
+    rounds_so ThawsNothing thaws_none_so (λ a b c one two. thaws_none_on one two) task Round each k first last did
+
+-- the backup's
+pub creates_stay : (writers : ℕ) (first last : SeatedTask) → CreatesFiles writers first last → KeepsNumbers first last
+creates_stay writers first last did =
+    stays_on (stays _ _ first did.held _ did.took) (stays_on
+    (rounds_stay (λ (x : SeatedTask). x) (λ k. CreatesFile) (λ k x y was. stays _ _ x y _ was.1) writers did.held did.made did.creates)
+    (stays _ _ did.made last _ did.gave))
+
+pub backs_stay : {N : Type 0} (link : SeatedTask → ℕ → N → N → Type 0) (freezes : ℕ) (first last : SeatedTask × N × Copies) →
+    Repeats (BackupRound link) freezes first last → KeepsNumbers first.0 last.0
+backs_stay link freezes first last did = rounds_stay (λ x. x.0) (BackupRound link) (λ k x y was. stays_on
+    (stays _ _ x.0 was.frozen _ was.freezes) (stays_on (stays _ _ was.frozen was.copied _ was.copies) (stays_on
+    (stays _ _ was.copied was.thawed _ was.thaws)
+    (rounds_stay (λ (x : SeatedTask × ℕ × ℕ). x.0) (λ k. CallsBack (k + 1)) (λ k x y ran. stays _ _ x.0 y.0 _ ran.1) 3
+    (was.thawed, 0, with_waits (with_waits (with_waits x.2.waits was.frozen) was.copied) was.thawed) (y.0, was.ran, was.waits) was.calls_back)))) freezes first last did
+
+-- the remounter's and the writers', which thaw nothing
+pub refusals_thaw_none : (op : Op) → IsWorkers op → (refusal : GateError) (tries : ℕ) (first last : SeatedTask) →
+    Repeats (λ k. IsRefused op refusal) tries first last → ThawsNothing first last
+refusals_thaw_none op its refusal tries first last did =
+    rounds_thaw_none (λ (x : SeatedTask). x) (λ k. IsRefused op refusal) (λ k x y was. thaws_nothing _ op its x y _ was) tries first last did
+
+retries_thaw_none : (op : Op) → IsWorkers op → (refusal : GateError) (first last : SeatedTask) → Retries op refusal first last →
+    ThawsNothing first last
+retries_thaw_none op its refusal first last did =
+    thaws_none_on (refusals_thaw_none op its refusal did.0 first did.1 did.2) (thaws_nothing _ op its did.1 last _ did.3)
+
+pub takes_thaw_none : (cpu : ℕ) (first last : SeatedTask × ℕ) → Takes cpu first last → ThawsNothing first.0 last.0
+takes_thaw_none cpu first last did =
+    thaws_none_on (rounds_thaw_none (λ (x : SeatedTask × ℕ). x.0) (λ k. Waits (IsRefused (WantWrite 0 cpu) ReadOnly))
+    (λ k x y was. thaws_nothing _ (WantWrite 0 cpu) tt x.0 y.0 _ was.0) did.0 first did.1 did.2)
+    (thaws_nothing _ (WantWrite 0 cpu) tt did.1.0 last.0 _ did.3.0)
+
+pub remounts_thaw_none : (rounds : ℕ) (first last : SeatedTask × Remounts) → Repeats RemountRound rounds first last → ThawsNothing first.0 last.0
+remounts_thaw_none rounds first last did = rounds_thaw_none (λ x. x.0) RemountRound (λ k x y was. thaws_none_on
+    (elim was.closed [
+      | inl done ↦ thaws_nothing _ (ChangeMount 0 true true) tt x.0 was.mid _ done.0
+      | inr busy ↦ thaws_nothing _ (ChangeMount 0 true true) tt x.0 was.mid _ busy.0
+    ])
+    (thaws_nothing _ (ChangeMount 0 false true) tt was.mid y.0 _ was.opened)) rounds first last did
+
+pub writes_thaw_none : {N : Type 0} (link : SeatedTask → ℕ → N → N → Type 0) (processors writer rounds : ℕ) (first last : SeatedTask × N × Writes) →
+    Repeats (WriterRound link processors writer) rounds first last → ThawsNothing first.0 last.0
+writes_thaw_none link processors writer rounds first last did = rounds_thaw_none (λ x. x.0) (WriterRound link processors writer)
+    (λ k x y was. thaws_none_on (takes_thaw_none _ (x.0, x.2.waits) (was.held, was.waits) was.took)
+    (thaws_none_on (retries_thaw_none (Grow (writer + 1) 1) tt _ was.held was.grown was.grew) (thaws_nothing _ (DropWrite 0 _) tt was.grown y.0 _ was.gave)))
+    rounds first last did

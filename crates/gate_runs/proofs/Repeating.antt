@@ -1,0 +1,49 @@
+-- Rounds that go on.
+use Rattle.std.proofs.Common.{◌≡◌, ℕ, suc, ◌+◌, ◌-◌, ◌^◌, ◌≤◌, min, inl, inr, arith, subst}
+use Rattle.std.specs.Prelude.{Result, Ok, Err, OnOk}
+use Rattle.access_model.specs.declared.errors.GateError.{GateError, TheVariants.{ReadOnly}}
+use Rattle.gate_world.specs.declared.operations.Op.{Op, TheVariants.{WantWrite, DropWrite}}
+use Rattle.vfs_gates.specs.{TaskStates.{SeatedTask}, Runs.{Performs}}
+use Rattle.gate_runs.specs.{Counts.{counted}, Rounds.{Closes, CreatesFile, CreatesFiles, Does, IsRefused, Repeats, Retries, Takes, Waits}}
+
+-- one round more
+pub one_more : {S : Type 0} (Round : ℕ → S → S → Type 0) (k : ℕ) (first mid last : S) → Repeats Round k first mid → Round k mid last →
+    Repeats Round (k + 1) first last
+one_more Round k first mid last so_far next =
+    let is : suc k ≡ k + 1 = omega arith in subst (λ n. Repeats Round n first last) is (mid, so_far, next)
+
+-- files that were created, and the access that is given back
+pub created : (writers : ℕ) (first held made last : SeatedTask) → Does (WantWrite 0 0) first held → Repeats (λ k. CreatesFile) writers held made →
+    (answer : Result (Unit {0}) GateError) → Performs (DropWrite 0 0) made last answer → OnOk answer (CreatesFiles writers first last)
+created writers first held made last took creates (Ok unit) gave = record {
+  held = held;
+  made = made;
+  took = took;
+  creates = creates;
+  gave = gave;
+}
+created writers first held made last took creates (Err refusal) gave = tt
+
+-- a call that was refused again and again, and then was done, and how often it was refused
+pub answered : (op : Op) (refusal : GateError) (first mid last : SeatedTask) (tries tried : ℕ) →
+    Repeats (λ k. IsRefused op refusal) tries first mid → Does op mid last → tried ≡ counted tries →
+    (did : Retries op refusal first last) × (tried ≡ counted did.0)
+answered op refusal first mid last tries tried so_far did counts = ((tries, mid, so_far, did), counts)
+
+-- the same of write access, with the waits so far
+pub taken : (cpu : ℕ) (first mid last : SeatedTask × ℕ) (tries tried : ℕ) →
+    Repeats (λ k. Waits (IsRefused (WantWrite 0 cpu) ReadOnly)) tries first mid → Waits (Does (WantWrite 0 cpu)) mid last → tried ≡ counted tries →
+    (did : Takes cpu first last) × (tried ≡ counted did.0)
+taken cpu first mid last tries tried so_far did counts = ((tries, mid, so_far, did), counts)
+
+-- one more
+stands_still : (most n : ℕ) → min (min n most + 1) most ≡ min (n + 1) most
+stands_still most n = omega arith
+
+pub counted_more : (n : ℕ) → min (counted n + 1) (2 ^ 64 - 1) ≡ counted (n + 1)
+counted_more n = stands_still (2 ^ 64 - 1) n
+
+-- a mount is busy once at most
+pub busy_once : (busy : ℕ) (first last : SeatedTask) → Closes busy first last → busy ≤ 1
+busy_once busy first last (inl done) = let none : busy ≡ 0 = done.1 in omega arith
+busy_once busy first last (inr was) = let one : busy ≡ 1 = was.1 in omega arith

@@ -1,3 +1,0 @@
-mod Repeating
-pub mod Answering
-pub mod Keeping
