@@ -16,9 +16,10 @@ run run_with
 /// Returns the first name of the call that has this name: that of a schedule's command, or else the library's.
 pub(crate) fn call_named(word: &str) -> Option<&'static str> {
     for verb in &Verb::ALL {
-        let row = verb.row();
-        if !row.call.is_empty() && (row.name == word || is_named(row.call, word)) {
-            return Some(row.name);
+        if let Some(names) = verb.call_names()
+            && (verb.name() == word || is_named(names, word))
+        {
+            return Some(verb.name());
         }
     }
     for call in OTHERS.lines() {
@@ -33,10 +34,9 @@ pub(crate) fn call_named(word: &str) -> Option<&'static str> {
 pub(crate) fn nearest_call(alloc: Global, word: &str) -> Option<&'static str> {
     let mut nearest = Nearest::new(alloc, word);
     for verb in &Verb::ALL {
-        let row = verb.row();
-        if !row.call.is_empty() {
-            nearest.compare(row.name);
-            compare_names(&mut nearest, row.call);
+        if let Some(names) = verb.call_names() {
+            nearest.compare(verb.name());
+            compare_names(&mut nearest, names);
         }
     }
     for call in OTHERS.lines() {

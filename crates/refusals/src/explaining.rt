@@ -204,7 +204,7 @@ fn put_index(text: &mut Text) {
     text.put("\n'mntgate explain CALL REFUSAL' tells what to do about one. The calls:\n");
     let mut lines = Lines::new(text, "");
     for verb in &Verb::ALL {
-        if !verb.row().call.is_empty() {
+        if verb.call_names().is_some() {
             lines.put_word(verb.name());
         }
     }

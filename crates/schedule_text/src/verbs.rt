@@ -49,15 +49,12 @@ pub struct VerbRow {
     pub fewest: usize,
     /// How many words its line has at most. It has either so many or the fewest.
     pub most: usize,
-    /// The call that it begins, by its names: the library's, and behind it the kernel's functions that do this, with spaces between. Empty,
-    /// if it begins none.
-    pub call: &'static str,
 }
 
 impl VerbRow {
     /// The row of a verb whose lines have so many words.
     #[inline(always)]
-    fn new(name: &'static str, arguments: &'static str, words: usize, call: &'static str) -> VerbRow
+    fn new(name: &'static str, arguments: &'static str, words: usize) -> VerbRow
         ensures name { result.name.now ≡ name.now }
         ensures fewest { result.fewest ≡ words }
         ensures most { result.most ≡ words }
@@ -67,18 +64,12 @@ impl VerbRow {
             arguments,
             fewest: words,
             most: words,
-            call,
         }
     }
 
     /// The row of a verb whose arguments may be left out: with them a line has so many words.
     #[inline(always)]
-    fn or_bare(
-        name: &'static str,
-        arguments: &'static str,
-        words: usize,
-        call: &'static str,
-    ) -> VerbRow
+    fn or_bare(name: &'static str, arguments: &'static str, words: usize) -> VerbRow
         ensures name { result.name.now ≡ name.now }
         ensures fewest { result.fewest ≡ 2 }
         ensures most { result.most ≡ words }
@@ -88,7 +79,6 @@ impl VerbRow {
             arguments,
             fewest: 2,
             most: words,
-            call,
         }
     }
 }
@@ -132,59 +122,68 @@ impl Verb {
         ensures most { result.most ≡ (row self).most }
     {
         match self {
-            Verb::Run => VerbRow::or_bare("run", "[sync|freeze|unfreeze|reconfigure CODE]", 4, ""),
-            Verb::Step => VerbRow::or_bare("step", "[CODE]", 3, ""),
-            Verb::Want => VerbRow::new("want", "M C", 4, "want __mnt_want_write"),
-            Verb::TryWant => VerbRow::new("trywant", "M C", 4, "try_want"),
-            Verb::WantWrite => VerbRow::new("wantwrite", "M C", 4, "want_write mnt_want_write"),
-            Verb::Drop => VerbRow::new("drop", "M C", 4, "drop_mount __mnt_drop_write"),
-            Verb::DropWrite => VerbRow::new("dropwrite", "M C", 4, "drop_write mnt_drop_write"),
-            Verb::Start => VerbRow::new(
-                "start",
-                "L C",
-                4,
-                "start sb_start_write sb_start_pagefault sb_start_intwrite",
-            ),
-            Verb::TryStart => VerbRow::new(
-                "trystart",
-                "L C",
-                4,
-                "try_start sb_start_write_trylock",
-            ),
-            Verb::End => VerbRow::new(
-                "end",
-                "L C",
-                4,
-                "end sb_end_write sb_end_pagefault sb_end_intwrite",
-            ),
-            Verb::Callback => VerbRow::new("callback", "L", 3, "callback rcu_sync_func"),
-            Verb::Change => VerbRow::new(
-                "change",
-                "M ro|rw",
-                4,
-                "change_mount mnt_make_readonly change_mount_ro_state",
-            ),
-            Verb::TryChange => VerbRow::new("trychange", "M ro|rw", 4, "try_change_mount"),
-            Verb::Remount => VerbRow::new("remount", "ro|rw", 3, "remount_sb reconfigure_super"),
-            Verb::Freeze => VerbRow::or_bare(
-                "freeze",
-                "[kernel|user]",
-                3,
-                "freeze freeze_super freeze_bdev",
-            ),
-            Verb::Thaw => VerbRow::or_bare("thaw", "[kernel|user]", 3, "thaw thaw_super thaw_bdev"),
-            Verb::Create => VerbRow::new("create", "D file|dir", 4, "create vfs_create vfs_mkdir"),
-            Verb::Remove => VerbRow::new("remove", "N", 3, "remove vfs_unlink"),
-            Verb::Grow => VerbRow::new("grow", "N B", 4, "grow vfs_write vfs_truncate"),
-            Verb::Move => VerbRow::new("move", "N D", 4, "move_to vfs_rename"),
-            Verb::Fault => VerbRow::new("fault", "N", 3, "fault page_mkwrite"),
-            Verb::Flush => VerbRow::new("flush", "N", 3, "flush writeback_single_inode"),
-            Verb::Open => VerbRow::new("open", "N", 3, "open_file do_dentry_open"),
-            Verb::Close => VerbRow::new("close", "N C", 4, "close_file __fput"),
-            Verb::TryClose => VerbRow::new("tryclose", "N C", 4, "try_close_file"),
-            Verb::Snapshot => VerbRow::new("snapshot", "", 2, "snapshot"),
-            Verb::TrySnapshot => VerbRow::new("trysnapshot", "", 2, "try_snapshot"),
+            Verb::Run => VerbRow::or_bare("run", "[sync|freeze|unfreeze|reconfigure CODE]", 4),
+            Verb::Step => VerbRow::or_bare("step", "[CODE]", 3),
+            Verb::Want => VerbRow::new("want", "M C", 4),
+            Verb::TryWant => VerbRow::new("trywant", "M C", 4),
+            Verb::WantWrite => VerbRow::new("wantwrite", "M C", 4),
+            Verb::Drop => VerbRow::new("drop", "M C", 4),
+            Verb::DropWrite => VerbRow::new("dropwrite", "M C", 4),
+            Verb::Start => VerbRow::new("start", "L C", 4),
+            Verb::TryStart => VerbRow::new("trystart", "L C", 4),
+            Verb::End => VerbRow::new("end", "L C", 4),
+            Verb::Callback => VerbRow::new("callback", "L", 3),
+            Verb::Change => VerbRow::new("change", "M ro|rw", 4),
+            Verb::TryChange => VerbRow::new("trychange", "M ro|rw", 4),
+            Verb::Remount => VerbRow::new("remount", "ro|rw", 3),
+            Verb::Freeze => VerbRow::or_bare("freeze", "[kernel|user]", 3),
+            Verb::Thaw => VerbRow::or_bare("thaw", "[kernel|user]", 3),
+            Verb::Create => VerbRow::new("create", "D file|dir", 4),
+            Verb::Remove => VerbRow::new("remove", "N", 3),
+            Verb::Grow => VerbRow::new("grow", "N B", 4),
+            Verb::Move => VerbRow::new("move", "N D", 4),
+            Verb::Fault => VerbRow::new("fault", "N", 3),
+            Verb::Flush => VerbRow::new("flush", "N", 3),
+            Verb::Open => VerbRow::new("open", "N", 3),
+            Verb::Close => VerbRow::new("close", "N C", 4),
+            Verb::TryClose => VerbRow::new("tryclose", "N C", 4),
+            Verb::Snapshot => VerbRow::new("snapshot", "", 2),
+            Verb::TrySnapshot => VerbRow::new("trysnapshot", "", 2),
         }
+    }
+
+    /// The call that it begins, by its names: the library's, and behind it the kernel's functions that do this, with spaces between. None
+    /// if it begins none.
+    pub fn call_names(self) -> Option<&'static str> {
+        let names = match self {
+            Verb::Run | Verb::Step => return None,
+            Verb::Want => "want __mnt_want_write",
+            Verb::TryWant => "try_want",
+            Verb::WantWrite => "want_write mnt_want_write",
+            Verb::Drop => "drop_mount __mnt_drop_write",
+            Verb::DropWrite => "drop_write mnt_drop_write",
+            Verb::Start => "start sb_start_write sb_start_pagefault sb_start_intwrite",
+            Verb::TryStart => "try_start sb_start_write_trylock",
+            Verb::End => "end sb_end_write sb_end_pagefault sb_end_intwrite",
+            Verb::Callback => "callback rcu_sync_func",
+            Verb::Change => "change_mount mnt_make_readonly change_mount_ro_state",
+            Verb::TryChange => "try_change_mount",
+            Verb::Remount => "remount_sb reconfigure_super",
+            Verb::Freeze => "freeze freeze_super freeze_bdev",
+            Verb::Thaw => "thaw thaw_super thaw_bdev",
+            Verb::Create => "create vfs_create vfs_mkdir",
+            Verb::Remove => "remove vfs_unlink",
+            Verb::Grow => "grow vfs_write vfs_truncate",
+            Verb::Move => "move_to vfs_rename",
+            Verb::Fault => "fault page_mkwrite",
+            Verb::Flush => "flush writeback_single_inode",
+            Verb::Open => "open_file do_dentry_open",
+            Verb::Close => "close_file __fput",
+            Verb::TryClose => "try_close_file",
+            Verb::Snapshot => "snapshot",
+            Verb::TrySnapshot => "try_snapshot",
+        };
+        Some(names)
     }
 
     /// The word that names it.
