@@ -21,8 +21,9 @@ PAGE = f"{ROOT}/docs/refusals.md"
 # The section on the page, from its heading to the next one.
 SECTION = re.compile(r"(?ms)^## The calls\n.*?(?=^## )")
 TEXT = r'(?s:"((?:[^"\\]|\\.)*)")'
-# A row of the table of verbs: the name of one, and the call that it begins, if it begins one.
-VERB = re.compile(r'VerbRow::\w+\(\s*"(\w+)",[^)]*?"([^"]*)",?\s*\)')
+# A row of the table of verbs, and one of the table of the calls that they begin: the verb, and its name or its call's names.
+VERB = re.compile(r'Verb::(\w+) => VerbRow::\w+\("(\w+)",')
+CALL = re.compile(r'Verb::(\w+) => "([^"]+)",')
 # A row: its calls, its refusal, when it comes, and a line for each text.
 ROW = re.compile(r"(.+?): (\w+)(?:, (.+))?")
 # The parts of the table, with their headings and what stands under them.
@@ -51,7 +52,9 @@ def table_of(path):
 
 def names_of_calls():
     """The first name of each call."""
-    begun = [name for name, call in VERB.findall(text_of(VERBS)) if call]
+    verbs = text_of(VERBS)
+    calls = dict(CALL.findall(verbs))
+    begun = [name for verb, name in VERB.findall(verbs) if verb in calls]
     return begun + [line.split()[0] for line in table_of("calls").split("\n")]
 
 
