@@ -1,5 +1,5 @@
 -- Operations that are begun and done as far as they go at once.
-use Rattle.std.proofs.Common.{◌≡◌, refl, sym, ap, ◌∙◌, subst, []}
+use Rattle.std.proofs.Common.{◌≡◌, refl, sym, ap, subst, []}
 use Rattle.std.specs.Prelude.{Option, Some, None, Result, Ok, Err}
 use Rattle.access_model.specs.declared.{errors.GateError.{GateError}, replies.{Next.{Next, TheVariants.{Go}}, Reply.{Reply}}}
 use Rattle.atomic_table.specs.Seated.{TableId}
@@ -44,7 +44,7 @@ module _ (op : Op) (old left : SeatedTask) (admitted : Ok tt ≡ unless_refused 
     begun = λ at. (progress, refl, begun, told);
   }
 
--- what such a call tells: it was begun, and stands so, or was refused and left all as it was
+-- what such a call tells that goes on or is done: it was begun, and stands so
 pub begun_by : (op : Op) (old left : SeatedTask) (progress : Progress) (o : Option GateError) → refusal_at op old ≡ o →
     BeginsAtOnce op old left (Ok progress) → (Ok tt ≡ unless_refused (refusal_at op old)) × ProgressMatches op old progress left
 begun_by op old left progress (Some e) at begins =
@@ -53,14 +53,6 @@ begun_by op old left progress None at begins =
     let told = begins.begun at in let is : ◌≡◌ {A = Result Progress GateError} (Ok progress) (Ok told.0) = told.1 in
     let same : progress ≡ told.0 = cc in
     (sym (ap (λ o. unless_refused o) at), subst (λ p. ProgressMatches op old p left) (sym same) told.3)
-
-pub refused_so : (op : Op) (old left : SeatedTask) (e : GateError) (o : Option GateError) → refusal_at op old ≡ o →
-    BeginsAtOnce op old left (Err e) → (Err e ≡ unless_refused (refusal_at op old)) × (left ≡ old)
-refused_so op old left e (Some r) at begins =
-    let refused = begins.refused r at in let is : ◌≡◌ {A = Result Progress GateError} (Err e) (Err r) = refused.0 in let same : e ≡ r = cc in
-    (ap (λ x. Err x) same ∙ sym (ap (λ o. unless_refused o) at), refused.1)
-refused_so op old left e None at begins =
-    let told = begins.begun at in let is : ◌≡◌ {A = Result Progress GateError} (Err e) (Ok told.0) = told.1 in absurd (let f : ⊥ = cc in f)
 
 -- where it has not ended, it goes on
 pub goes_by : (op : Op) (old left : SeatedTask) (progress : Progress) → ((answer : Result Reply GateError) → progress ≡ Done answer → ⊥) →
