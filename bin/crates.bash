@@ -1,4 +1,4 @@
-# What bin/mntgate, bin/prove and bin/install-c share. Whoever sources this has set $root, the repository's top.
+# What bin/mntgate, bin/prove, bin/install-c and .ci/build-archive share. Whoever sources this has set $root, the repository's top.
 
 # Prints the names of the crates that this crate stands on, and its own, by the lines 'NAME HOW..: LIBRARY..' of crates.txt. A library that has no line
 # there is the kit's.
@@ -26,4 +26,23 @@ is_current() {
         sources+=("$root/crates/$crate"/{src,specs,proofs})
     done
     [[ -z $(find "${sources[@]}" -newer "$1" -print -quit 2>/dev/null) ]]
+}
+
+# Prints what the kit's `rattle build` is told of this crate, a word on each line: the libraries are those that `rt ci` has proved and left below $2.
+words_over() {
+    local kit library
+    kit=$(dirname "$(rt doc)")
+    printf '%s\n' --crate-name "$1" --antt-project "$kit/rattle/logic/antt-project.json" --logic-built "$kit/logic_built" --toolchain "$kit/toolchain"
+    # Those that its line names, and where those are found that they stand on.
+    for library in std $(sed -n "s/^$1 .*: *//p" "$root/crates.txt"); do
+        if [[ -d $2/crates/$library ]]; then
+            printf '%s\n' --extern "$library=$2/crates/$library/out/rlib/$library.rlib"
+        else
+            printf '%s\n' --extern "$library=$kit/rlibs/$library.rlib"
+        fi
+    done
+    printf '%s\n' -L "dependency=$kit/rlibs"
+    for library in $(crates_below "$1"); do
+        [[ $library == "$1" ]] || printf '%s\n' -L "dependency=$2/crates/$library/out/rlib"
+    done
 }

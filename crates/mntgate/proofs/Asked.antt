@@ -10,7 +10,7 @@ use Rattle.exit_status.specs.{Endings.{of_file}, declared.ends.ProgramEnding.{Pr
 use Rattle.exit_status.specs.declared.ends.ProgramEnding.TheVariants.{Done, DoneOfFile, DoneOverGates, Shown, Passed, Blessed, Listed, Ran, Told, Refused, Misused}
 use Rattle.program_checks.specs.Checks.{TellsPassed, count_checked}
 use Rattle.program_replay.specs.Replays.{EndsReplayed, done_in, done_of, ending_of}
-use Rattle.program_races.specs.Outcomes.{EndsTold}
+use Rattle.mntgate.specs.Outcomes.{EndsTold}
 use Rattle.mntgate.specs.Asking.{EndsAsked, EndsOutcomes, EndsRun, TellsSomePassed}
 use Rattle.schedule_lines.specs.declared.bytes.replay_faults.ReplayFault.{ReplayFault}
 use Rattle.line_players.specs.Replayed.{Replayed}

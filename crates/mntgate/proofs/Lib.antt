@@ -1,1 +1,2 @@
 pub mod Asked
+mod Listed

@@ -2,7 +2,7 @@
 use Rattle.std.specs.{Prelude.{◌≡◌, ◌⊎◌, ℕ, suc, false, List, Option, Some, None, codes, vec_len}, Borrow.{Bor}}
 use Rattle.program_replay.specs.Replays.{EndsReplayed, EndsReplayedFile, EndsReplayedNamed, IsRefusedUnread, done_in, done_of}
 use Rattle.program_checks.specs.Checks.{TellsPassed, count_checked}
-use Rattle.program_races.specs.Outcomes.{EndsTold}
+use Rattle.mntgate.specs.Outcomes.{EndsTold}
 use Rattle.command_line.specs.{CommandLine.{IsPlain}, declared.words.{OutcomeForm.TheVariants.{Text}, Numbers.{Numbers}}}
 use Rattle.command_line.specs.declared.words.{Outcomes.{Outcomes}, Replay.{Replay}, ProgramRequest.{ProgramRequest}}
 use Rattle.command_line.specs.declared.words.ProgramRequest.TheVariants as ask

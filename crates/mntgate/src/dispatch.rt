@@ -7,11 +7,11 @@ ghost use Rattle.program_replay.specs.Replays.{EndsReplayed};
 ghost use Rattle.mntgate.specs.Asking.{EndsAsked, EndsRun, TellsSomePassed, WasSomeRun};
 ghost use Rattle.line_players.specs.Replayed.{Replayed};
 
+use crate::outcomes::run_outcomes;
 use command_line::{Numbers, ProgramRequest, RunReport, read_words};
 use exit_status::{ProgramEnding, refused, text_told};
 use gate_runs::{Plan, run_told};
 use program_checks::{run_blessings, run_checks};
-use program_races::run_outcomes;
 use program_replay::{Terminal, run_replay};
 use refusals::run_explanation;
 use run_plans::Progress;

@@ -2,6 +2,8 @@
 #![tactic(auto)]
 
 pub mod dispatch;
+pub mod outcomes;
+mod progress;
 
 use crate::dispatch::run;
 use access_model::GateError;

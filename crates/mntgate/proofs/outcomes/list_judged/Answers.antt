@@ -1,7 +1,7 @@
 use Rattle.std.proofs.Common.{ap, ◌∙◌}
-use Rattle.program_races.proofs.Listed.{tells_as}
+use Rattle.mntgate.proofs.Listed.{tells_as}
 use Rattle.schedule_lines.specs.declared.output.Output.{Output}
-use Rattle.program_races.proofs.outcomes.list_judged.Goals as goal
+use Rattle.mntgate.proofs.outcomes.list_judged.Goals as goal
 
 pub returns-in-Ok-clause-told : goal.returns-in-Ok-clause-told
 returns-in-Ok-clause-told g c = λ text pairs. record {

@@ -1,6 +1,6 @@
 use Rattle.std.proofs.Common.{◌≡◌, sym, subst, IfSome}
-use Rattle.program_races.proofs.Listed.{ends_of}
-use Rattle.program_races.proofs.outcomes.run_outcomes.Goals as goal
+use Rattle.mntgate.proofs.Listed.{ends_of}
+use Rattle.mntgate.proofs.outcomes.run_outcomes.Goals as goal
 
 pub returns-in-Ok-clause-told : goal.returns-in-Ok-clause-told
 returns-in-Ok-clause-told g c = λ text pairs.

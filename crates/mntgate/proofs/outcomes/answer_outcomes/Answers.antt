@@ -1,6 +1,6 @@
 use Rattle.std.proofs.Common.{refl}
-use Rattle.program_races.proofs.Listed.{ends_written}
-use Rattle.program_races.proofs.outcomes.answer_outcomes.Goals as goal
+use Rattle.mntgate.proofs.Listed.{ends_written}
+use Rattle.mntgate.proofs.outcomes.answer_outcomes.Goals as goal
 
 pub returns-in-Ok-clause-told : goal.returns-in-Ok-clause-told
 returns-in-Ok-clause-told g c = λ text pairs.

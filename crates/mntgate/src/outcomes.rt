@@ -5,7 +5,7 @@ ghost use Rattle.std.specs.Io.KnownBytes.{Appends, Keeps};
 ghost use Rattle.exit_status.specs.declared.ends.ProgramEnding.TheVariants.{Listed, Refused};
 ghost use Rattle.exploration.specs.Tables.{IsTable};
 ghost use Rattle.outcome_texts.specs.Methods.{next_by};
-ghost use Rattle.program_races.specs.Outcomes.{EndsTold, TellsRace, details_of, method_of, schedules_as};
+ghost use Rattle.mntgate.specs.Outcomes.{EndsTold, TellsRace, details_of, method_of, schedules_as};
 ghost use Rattle.shown_outcomes.specs.Told.{TellsAll, TellsSome};
 ghost use Rattle.command_line.specs.declared.words.OutcomeForm.TheVariants.{Text};
 ghost use Rattle.race_files.specs.Calls.{is_claim};

@@ -4,8 +4,8 @@ use Rattle.std.proofs.lemmas.Bool.{cases_lt}
 use Rattle.std.specs.Io.KnownBytes.{Appends, Keeps}
 use Rattle.command_line.specs.declared.words.Outcomes.{Outcomes}
 use Rattle.exit_status.specs.declared.ends.ProgramEnding.{ProgramEnding, TheVariants.{Listed, Refused}}
-use Rattle.program_races.specs.Outcomes.{AreRead, EndsTold, TellsAs, TellsRace, details_of, method_of}
-use Rattle.program_races.specs.Outcomes.EndsTold.{IsWritten, IsPart, IsRefused, IsCutOff}
+use Rattle.mntgate.specs.Outcomes.{AreRead, EndsTold, TellsAs, TellsRace, details_of, method_of}
+use Rattle.mntgate.specs.Outcomes.EndsTold.{IsWritten, IsPart, IsRefused, IsCutOff}
 use Rattle.shown_outcomes.specs.Told.{TellsAll, TellsSome}
 use Rattle.gate_core.specs.Memory.{Memory}
 use Rattle.race_programs.specs.declared.calls.Call.{Call}
