@@ -34,7 +34,7 @@ words_over() {
     kit=$(dirname "$(rt doc)")
     printf '%s\n' --crate-name "$1" --antt-project "$kit/rattle/logic/antt-project.json" --logic-built "$kit/logic_built" --toolchain "$kit/toolchain"
     # Those that its line names, and where those are found that they stand on.
-    for library in std $(sed -n "s/^$1 .*: *//p" "$root/crates.txt"); do
+    for library in std $(sed -nE "s/^$1( [^:]*)?: *//p" "$root/crates.txt"); do
         if [[ -d $2/crates/$library ]]; then
             printf '%s\n' --extern "$library=$2/crates/$library/out/rlib/$library.rlib"
         else

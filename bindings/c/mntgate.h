@@ -44,6 +44,7 @@
 #include <stdbool.h>
 #include <stddef.h>
 #include <stdint.h>
+#include <sys/select.h>
 
 #ifdef __cplusplus
 extern "C" {
@@ -348,8 +349,9 @@ mntgate_result mntgate_thaw_at_once(struct mntgate_task *task, bool by_kernel, s
 
 /* Calls that wait ---------------------------------------------------------------------------------------------------------------------- */
 
-/* These are loops of C over the calls above. They try again and again, with pauses that grow, and then leave the processor each time
- * (sched_yield). There is no wake-up and no time limit: who needs one writes such a loop over mntgate_begin and mntgate_run. */
+/* These are loops of C over the calls above. They try again and again, with pauses that grow (mntgate_pause): a wait of some microseconds spins,
+ * a longer one leaves the processor each time, and a long one sleeps, for less than a millisecond each time. There is no wake-up and no time
+ * limit: who needs one writes such a loop over mntgate_begin and mntgate_run. */
 
 /* The hooks of a file system. Each answers 0, or a code from 1 to 65535 by which it failed. NULL stands for a hook that answers 0. They
  * are called between two steps, while their task owns s_umount: a hook must not wait for another task, nor use the handle. It must return.
@@ -402,10 +404,11 @@ static char mntgate_order;
 #define MNTGATE_COLD static inline
 #endif
 
-/* Waits a little, and the longer the more often: begin with *round = 0. */
+/* Waits a little, and the longer the more often: begin with *round = 0. The first 7 pauses spin, the next 64 leave the processor, and all others
+ * sleep, for 50 microseconds at first and 800 at last. */
 static inline void mntgate_pause(unsigned *round)
 {
-	if (*round <= 6) {
+	if (*round < 7) {
 		unsigned i;
 
 		for (i = 0; i < 1u << *round; i++) {
@@ -415,10 +418,16 @@ static inline void mntgate_pause(unsigned *round)
 			__asm__ volatile("isb");
 #endif
 		}
-		++*round;
-	} else {
+	} else if (*round < 71) {
 		sched_yield();
+	} else {
+		struct timeval sleep = { 0, 0 };
+
+		sleep.tv_usec = 50L << (*round - 71);
+		select(0, NULL, NULL, NULL, &sleep);
 	}
+	if (*round < 75)
+		++*round;
 }
 
 /* Asks the hook that the next step wants. */

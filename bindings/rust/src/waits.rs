@@ -4,6 +4,7 @@ use crate::guards::{Access, Frozen, Level, ReadOnly, WriteAccess};
 use crate::steps::{HookKind, Op, Progress, Reply};
 use crate::{Error, Holder, Hooks, Task};
 use std::panic::{catch_unwind, resume_unwind, AssertUnwindSafe};
+use std::time::Duration;
 
 /// How many steps one call of the library does at most.
 const STEPS: u32 = 1024;
@@ -11,7 +12,7 @@ const STEPS: u32 = 1024;
 /// With what a hook that panics has failed: `EIO`.
 const PANICKED: u16 = 5;
 
-/// Pauses that grow: soon each leaves the processor to others.
+/// Pauses that grow: the first 7 spin, the next 64 leave the processor, and all others sleep, for 50 microseconds at first and 800 at last.
 #[derive(Clone, Debug, Default)]
 pub struct Backoff {
     round: u32,
@@ -20,14 +21,12 @@ pub struct Backoff {
 impl Backoff {
     /// Waits a little.
     pub fn snooze(&mut self) {
-        if self.round <= 6 {
-            for _ in 0..1 << self.round {
-                std::hint::spin_loop();
-            }
-            self.round += 1;
-        } else {
-            std::thread::yield_now();
+        match self.round {
+            0..=6 => (0..1 << self.round).for_each(|_| std::hint::spin_loop()),
+            7..=70 => std::thread::yield_now(),
+            _ => std::thread::sleep(Duration::from_micros(50 << (self.round - 71))),
         }
+        self.round = (self.round + 1).min(75);
     }
 }
 

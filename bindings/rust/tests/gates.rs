@@ -175,8 +175,8 @@ fn no_writer_is_inside_a_read_only_mount() {
     let record = [AtomicU64::new(0), AtomicU64::new(0)];
     let torn = thread::scope(|scope| {
         scope.spawn(|| {
-            let mut backoff = Backoff::default();
             for round in 1..=5_000 {
+                let mut backoff = Backoff::default();
                 let access = loop {
                     match other.want(0, 1) {
                         Ok(access) => break access,
