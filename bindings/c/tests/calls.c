@@ -4,6 +4,7 @@
 #include <pthread.h>
 #include <setjmp.h>
 #include <stdio.h>
+#include <time.h>
 #include <unistd.h>
 
 #include "mntgate.h"
@@ -231,6 +232,19 @@ static void test_waits(struct mntgate_task *task, struct mntgate_task *other)
 	assert(mntgate_thaw(task, MNTGATE_USER, NULL) == 0 && mntgate_settle(task) == 0);
 }
 
+/* A long wait sleeps: 29 of 100 pauses do, for 20.75 milliseconds in all. */
+static void test_pauses(void)
+{
+	struct timespec from, to;
+	unsigned round = 0, pauses;
+
+	assert(clock_gettime(CLOCK_MONOTONIC, &from) == 0);
+	for (pauses = 0; pauses < 100; pauses++)
+		mntgate_pause(&round);
+	assert(clock_gettime(CLOCK_MONOTONIC, &to) == 0);
+	assert((to.tv_sec - from.tv_sec) * 1000000000L + (to.tv_nsec - from.tv_nsec) >= 20000000L);
+}
+
 int main(void)
 {
 	const struct mntgate_config config = { 2, 2, 1, 4, 10 }, none = { 0, 2, 1, 4, 10 };
@@ -250,6 +264,7 @@ int main(void)
 	test_steps(&task, &other);
 	test_at_once(&task, &other);
 	test_waits(&task, &other);
+	test_pauses();
 	assert(mntgate_close(&task) == EDEADLK && task.at != NULL);
 	assert(mntgate_join(&task, &other) == 0 && other.at == NULL);
 	assert(mntgate_close_words(&task, words, 6, values, 5) == EINVAL && task.at != NULL);

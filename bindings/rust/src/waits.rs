@@ -22,7 +22,11 @@ impl Backoff {
     /// Waits a little.
     pub fn snooze(&mut self) {
         match self.round {
-            0..=6 => (0..1 << self.round).for_each(|_| std::hint::spin_loop()),
+            0..=6 => {
+                for _ in 0..1 << self.round {
+                    std::hint::spin_loop();
+                }
+            }
             7..=70 => std::thread::yield_now(),
             _ => std::thread::sleep(Duration::from_micros(50 << (self.round - 71))),
         }

@@ -3,7 +3,7 @@ use mntgate::{Backoff, Config, Error, Gates, HookKind, Holder, Hooks, Op, Progre
 use std::panic::{catch_unwind, AssertUnwindSafe};
 use std::sync::atomic::{AtomicU64, Ordering::Relaxed};
 use std::thread;
-use std::time::Duration;
+use std::time::{Duration, Instant};
 
 const CONFIG: Config = Config { tasks: 4, processors: 2, mounts: 1, nodes: 3, capacity: 100 };
 
@@ -167,6 +167,17 @@ fn an_operation_can_be_stepped() {
     assert_eq!(other.run(Err(0), 1000), Progress::Done(Err(Error::Hook(1))));
     assert_eq!(other.step(Ok(())), (None, Progress::Idle));
     close(task, other);
+}
+
+#[test]
+fn a_long_wait_sleeps() {
+    let start = Instant::now();
+    let mut backoff = Backoff::default();
+    for _ in 0..100 {
+        backoff.snooze();
+    }
+    // 29 of these pauses sleep, for 20.75 milliseconds in all.
+    assert!(start.elapsed() >= Duration::from_millis(20));
 }
 
 #[test]
