@@ -1,5 +1,10 @@
 # What bin/mntgate, bin/prove, bin/install-c and .ci/build-archive share. Whoever sources this has set $root, the repository's top.
 
+# Prints the libraries that this crate's line of crates.txt names.
+libraries_of() {
+    sed -nE "s/#.*//; s/^$1( [^:]*)?: *//p" "$root/crates.txt"
+}
+
 # Prints the names of the crates that this crate stands on, and its own, by the lines 'NAME HOW..: LIBRARY..' of crates.txt. A library that has no line
 # there is the kit's.
 crates_below() {
@@ -14,6 +19,22 @@ crates_below() {
         { sub(/#.*/, "") }
         /:/ { name = $1; sub(/:.*/, "", name); sub(/[^:]*:/, ""); uses[name] = $0 }
         END { reach(top) }' "$root/crates.txt"
+}
+
+# Prints the crates that it reads, each after those that it stands on, once more: first those with the longest chain of crates above them.
+by_chain() {
+    local crate library below=()
+    local -A above
+    mapfile -t below
+    for ((at = ${#below[@]} - 1; at >= 0; at--)); do
+        crate=${below[at]}
+        for library in $(libraries_of "$crate"); do
+            [[ ${above[$library]-0} -gt ${above[$crate]-0} ]] || above[$library]=$((${above[$crate]-0} + 1))
+        done
+    done
+    for crate in "${below[@]}"; do
+        printf '%s %s\n' "${above[$crate]-0}" "$crate"
+    done | sort -k 1,1nr -s | cut -d ' ' -f 2
 }
 
 # Whether this file, a program or a library, is built, and no source of this crate or of those below it is newer. A file that was taken away makes
@@ -34,7 +55,7 @@ words_over() {
     kit=$(dirname "$(rt doc)")
     printf '%s\n' --crate-name "$1" --antt-project "$kit/rattle/logic/antt-project.json" --logic-built "$kit/logic_built" --toolchain "$kit/toolchain"
     # Those that its line names, and where those are found that they stand on.
-    for library in std $(sed -nE "s/^$1( [^:]*)?: *//p" "$root/crates.txt"); do
+    for library in std $(libraries_of "$1"); do
         if [[ -d $2/crates/$library ]]; then
             printf '%s\n' --extern "$library=$2/crates/$library/out/rlib/$library.rlib"
         else
@@ -45,4 +66,14 @@ words_over() {
     for library in $(crates_below "$1"); do
         [[ $library == "$1" ]] || printf '%s\n' -L "dependency=$2/crates/$library/out/rlib"
     done
+}
+
+# Builds the static library of mntgate_c over the libraries below it that stand here proved. crates.txt lists that crate as a library, so the kit's compiler
+# is told here what it is to build. It proves the crate for that, as what links code: with the words given, too.
+build_archive() {
+    local words
+    mapfile -t words < <(words_over mntgate_c "$root")
+    cd "$root/crates/mntgate_c"
+    mkdir -p out
+    "$(dirname "$(rt doc)")/bin/rattle" build src/lib.rt --crate-type staticlib "${words[@]}" "$@" --backend llvm -o out/libmntgate_c.a
 }

@@ -11,7 +11,7 @@ use Rattle.gate_steps.specs.{declared.seating.Knowledge.{Knowledge}, call_events
 use Rattle.gate_steps.specs.call_events.{KnownSteps.{KnownSteps}, SeatedTasks.{SeatedTask, task_state}}
 use Rattle.gate_steps.specs.call_events.Waited.{OpUnderWayWaiting, OpAfterStepWaiting}
 use Rattle.gate_steps.proofs.call_events.Leading.{led_on, led_to}
-use Rattle.fast_paths.specs.Lines.{taking_at}
+use Rattle.fast_paths.specs.Paths.{taking_at}
 
 -- what comes after a step of an operation, by its waits alone
 waits_alone : (asks : List Ask) (waits : ℕ) (op : Op) (start now : SeatedTask) (next : Next Phase) →

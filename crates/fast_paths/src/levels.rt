@@ -6,7 +6,7 @@ ghost use Rattle.gate_world.specs.declared.operations.Op.{Op as OpType};
 ghost use Rattle.gate_steps.specs.call_events.SeatedTasks.{SeatedTask, task_state};
 ghost use Rattle.gate_steps.specs.call_events.Turns.{StateAgrees, AgreesAfter};
 ghost use Rattle.gate_steps.specs.call_events.Waited.{OpAfterStepWaiting};
-ghost use Rattle.fast_paths.specs.Lines.{of_read};
+ghost use Rattle.fast_paths.specs.Paths.{of_read};
 
 use crate::lines::{Checkpointed, FastPath, step_if_at};
 use access_model::Next;

@@ -13,7 +13,7 @@ ghost use Rattle.composite_ops.specs.declared.write_access.phases.WritePhase.The
 ghost use Rattle.composite_ops.specs.write_access.Phases.{after};
 ghost use Rattle.percpu_rwsem.specs.declared.readers.DownReadStep.TheVariants.{EntersSection, LoadsSync};
 ghost use Rattle.gate_steps.specs.call_events.Waited.{OpUnderWayWaiting, OpAfterStepWaiting};
-ghost use Rattle.fast_paths.specs.Lines.{done_or, taking_at};
+ghost use Rattle.fast_paths.specs.Paths.{done_or, taking_at};
 
 use crate::lines::{Checkpointed, FastPath, step_if_at};
 use access_model::{Next, Reply};

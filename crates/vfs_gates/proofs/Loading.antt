@@ -17,7 +17,7 @@ use Rattle.gate_world.specs.declared.{operations.Op.TheVariants.{Snapshot as Sna
 use Rattle.gate_steps.specs.{Seating.{DealtNumbers, items_after}, declared.seating.Knowledge.{Knowledge}}
 use Rattle.gate_steps.specs.call_events.{KnownSteps.{KnownSteps}, Turns.{StateAgrees, state_at}}
 use Rattle.gate_steps.proofs.call_events.{Leading.{led_on, led_nowhere}, Turning.{unasked}}
-use Rattle.vfs_gates.specs.Noted.{Noted, taking_at, with_kids, with_nodes}
+use Rattle.vfs_gates.specs.Noted.{Noted, snapshot_at, with_kids, with_nodes}
 use Rattle.vfs_gates.specs.Buffers.{BufferWords, BuffersMatch, after_noting, completed, with_words}
 use Rattle.vfs_gates.proofs.{Calling.{Call, Left, has_asked_none, idle, items_of, not_begun, same}, Noting.{follows_taking}}
 use Rattle.vfs_gates.proofs.Waiting.{has_number}
@@ -37,32 +37,32 @@ taking_leaves accesses s found = ap (λ o. accesses_after accesses o) (sym (adds
 
 -- a node that is one is followed by the next, or by the children of the first; the children of a node by those of the next, or by the end
 pub node_on : (s : Snapshot) (node next found : ℕ) → true ≡ is_some (unpacked found) → Some next ≡ node_after node s.nodes →
-    (after_of (taking_at s (LoadsNode node)) found (Ok tt)).0 ≡ Go (taking_at s (LoadsNode next))
+    (after_of (snapshot_at s (LoadsNode node)) found (Ok tt)).0 ≡ Go (snapshot_at s (LoadsNode next))
 node_on s node next found there is =
     ap (λ b. map_next Trees (map_next Snapshots (if b then Go (at_snapshot s (node_step (node_after node s.nodes))) else Go (at_snapshot s (LoadsNode node)))))
     (sym there) ∙
-    ap (λ o. Go (taking_at s (node_step o))) (sym is)
+    ap (λ o. Go (snapshot_at s (node_step o))) (sym is)
 
 pub node_last : (s : Snapshot) (node found : ℕ) → true ≡ is_some (unpacked found) → None ≡ node_after node s.nodes →
-    (after_of (taking_at s (LoadsNode node)) found (Ok tt)).0 ≡ Go (taking_at s (LoadsKids 0))
+    (after_of (snapshot_at s (LoadsNode node)) found (Ok tt)).0 ≡ Go (snapshot_at s (LoadsKids 0))
 node_last s node found there is =
     ap (λ b. map_next Trees (map_next Snapshots (if b then Go (at_snapshot s (node_step (node_after node s.nodes))) else Go (at_snapshot s (LoadsNode node)))))
     (sym there) ∙
-    ap (λ o. Go (taking_at s (node_step o))) (sym is)
+    ap (λ o. Go (snapshot_at s (node_step o))) (sym is)
 
 pub node_none : (s : Snapshot) (node found : ℕ) → false ≡ is_some (unpacked found) →
-    (after_of (taking_at s (LoadsNode node)) found (Ok tt)).0 ≡ Go (taking_at s (LoadsNode node))
+    (after_of (snapshot_at s (LoadsNode node)) found (Ok tt)).0 ≡ Go (snapshot_at s (LoadsNode node))
 node_none s node found there =
     ap (λ b. map_next Trees (map_next Snapshots (if b then Go (at_snapshot s (node_step (node_after node s.nodes))) else Go (at_snapshot s (LoadsNode node)))))
     (sym there)
 
 pub kids_on : (s : Snapshot) (node next found : ℕ) → Some next ≡ node_after node s.nodes →
-    (after_of (taking_at s (LoadsKids node)) found (Ok tt)).0 ≡ Go (taking_at s (LoadsKids next))
-kids_on s node next found is = ap (λ o. Go (taking_at s (kids_step o))) (sym is)
+    (after_of (snapshot_at s (LoadsKids node)) found (Ok tt)).0 ≡ Go (snapshot_at s (LoadsKids next))
+kids_on s node next found is = ap (λ o. Go (snapshot_at s (kids_step o))) (sym is)
 
 pub kids_last : (s : Snapshot) (node found : ℕ) → None ≡ node_after node s.nodes →
-    (after_of (taking_at s (LoadsKids node)) found (Ok tt)).0 ≡ Go (taking_at s (Releases (Ok TreeReply)))
-kids_last s node found is = ap (λ o. Go (taking_at s (kids_step o))) (sym is)
+    (after_of (snapshot_at s (LoadsKids node)) found (Ok tt)).0 ≡ Go (snapshot_at s (Releases (Ok TreeReply)))
+kids_last s node found is = ap (λ o. Go (snapshot_at s (kids_step o))) (sym is)
 
 pub fewer_left : (node nodes next : ℕ) → Some next ≡ node_after node nodes → nodes - next < nodes - node
 fewer_left node nodes next is = grind arith
@@ -132,29 +132,29 @@ module _ {c : Config} {begins : Option Op} {accesses : Accesses} {table : TableI
 
   -- the loads of the blocks charged, of a node, and of its children, which are the last ones or not
   pub used_noted : (s : Snapshot) (found : ℕ) (words : TreeWords) →
-      KnownSteps c begins accesses (Go (taking_at s LoadsUsed)) table me (after_of (taking_at s LoadsUsed) found (Ok tt)).0 table_left left →
-      left.items ≡ items_after begins (taking_at s LoadsUsed) (Ok tt) found me.items →
-      StateAgrees c begins (Some (taking_at s LoadsUsed)) accesses me.items →
-      Noted c begins accesses (Go (taking_at s LoadsUsed)) table me (λ r. r.next ≡ words) (after_of (taking_at s LoadsUsed) found (Ok tt)).0
+      KnownSteps c begins accesses (Go (snapshot_at s LoadsUsed)) table me (after_of (snapshot_at s LoadsUsed) found (Ok tt)).0 table_left left →
+      left.items ≡ items_after begins (snapshot_at s LoadsUsed) (Ok tt) found me.items →
+      StateAgrees c begins (Some (snapshot_at s LoadsUsed)) accesses me.items →
+      Noted c begins accesses (Go (snapshot_at s LoadsUsed)) table me (λ r. r.next ≡ words) (after_of (snapshot_at s LoadsUsed) found (Ok tt)).0
       table_left left (with_words (record words { used = found }))
   used_noted s found words led items agrees =
       noted_as (λ r were. (tt, λ i. with_words (record (were i) { used = found }) r)) (noted_by (at_snapshot s LoadsUsed) found refl led items agrees)
 
   pub node_noted : (s : Snapshot) (node found : ℕ) (nodes : List ℕ) →
-      KnownSteps c begins accesses (Go (taking_at s (LoadsNode node))) table me (after_of (taking_at s (LoadsNode node)) found (Ok tt)).0 table_left left →
-      left.items ≡ items_after begins (taking_at s (LoadsNode node)) (Ok tt) found me.items →
-      StateAgrees c begins (Some (taking_at s (LoadsNode node))) accesses me.items →
-      Noted c begins accesses (Go (taking_at s (LoadsNode node))) table me (λ r. r.next.nodes ≡ nodes)
-      (after_of (taking_at s (LoadsNode node)) found (Ok tt)).0 table_left left (with_nodes (set nodes node found))
+      KnownSteps c begins accesses (Go (snapshot_at s (LoadsNode node))) table me (after_of (snapshot_at s (LoadsNode node)) found (Ok tt)).0 table_left left →
+      left.items ≡ items_after begins (snapshot_at s (LoadsNode node)) (Ok tt) found me.items →
+      StateAgrees c begins (Some (snapshot_at s (LoadsNode node))) accesses me.items →
+      Noted c begins accesses (Go (snapshot_at s (LoadsNode node))) table me (λ r. r.next.nodes ≡ nodes)
+      (after_of (snapshot_at s (LoadsNode node)) found (Ok tt)).0 table_left left (with_nodes (set nodes node found))
   node_noted s node found nodes led items agrees =
       noted_as (λ r were. (tt, λ i. with_nodes (set (were i) node found) r)) (noted_by (at_snapshot s (LoadsNode node)) found refl led items agrees)
 
   pub kids_noted : (s : Snapshot) (node found : ℕ) (kids : List ℕ) (o : Option ℕ) → o ≡ node_after node s.nodes →
-      KnownSteps c begins accesses (Go (taking_at s (LoadsKids node))) table me (after_of (taking_at s (LoadsKids node)) found (Ok tt)).0 table_left left →
-      left.items ≡ items_after begins (taking_at s (LoadsKids node)) (Ok tt) found me.items →
-      StateAgrees c begins (Some (taking_at s (LoadsKids node))) accesses me.items →
-      Noted c begins accesses (Go (taking_at s (LoadsKids node))) table me (λ r. r.next.kids ≡ kids)
-      (after_of (taking_at s (LoadsKids node)) found (Ok tt)).0 table_left left
+      KnownSteps c begins accesses (Go (snapshot_at s (LoadsKids node))) table me (after_of (snapshot_at s (LoadsKids node)) found (Ok tt)).0 table_left left →
+      left.items ≡ items_after begins (snapshot_at s (LoadsKids node)) (Ok tt) found me.items →
+      StateAgrees c begins (Some (snapshot_at s (LoadsKids node))) accesses me.items →
+      Noted c begins accesses (Go (snapshot_at s (LoadsKids node))) table me (λ r. r.next.kids ≡ kids)
+      (after_of (snapshot_at s (LoadsKids node)) found (Ok tt)).0 table_left left
       (λ r. if not (is_some o) then completed (with_kids (set kids node found) r) else with_kids (set kids node found) r)
   kids_noted s node found kids o is led items agrees =
       noted_as (λ r were. (
@@ -172,11 +172,11 @@ noted_nowhere c accesses a table me same = record {
 }
 
 -- `umount` was free, and the stage is the last
-pub lock_free : (s : Snapshot) (found : ℕ) → found ≡ 0 → (after_of (taking_at s Locks) found (Ok tt)).0 ≡ Go (taking_at s LoadsStage)
-lock_free s found is = subst (λ n. (after_of (taking_at s Locks) n (Ok tt)).0 ≡ Go (taking_at s LoadsStage)) (sym is) refl
+pub lock_free : (s : Snapshot) (found : ℕ) → found ≡ 0 → (after_of (snapshot_at s Locks) found (Ok tt)).0 ≡ Go (snapshot_at s LoadsStage)
+lock_free s found is = subst (λ n. (after_of (snapshot_at s Locks) n (Ok tt)).0 ≡ Go (snapshot_at s LoadsStage)) (sym is) refl
 
-pub is_frozen : (s : Snapshot) (found : ℕ) → found ≡ 4 → (after_of (taking_at s LoadsStage) found (Ok tt)).0 ≡ Go (taking_at s LoadsUsed)
-is_frozen s found is = subst (λ n. (after_of (taking_at s LoadsStage) n (Ok tt)).0 ≡ Go (taking_at s LoadsUsed)) (sym is) refl
+pub is_frozen : (s : Snapshot) (found : ℕ) → found ≡ 4 → (after_of (snapshot_at s LoadsStage) found (Ok tt)).0 ≡ Go (snapshot_at s LoadsUsed)
+is_frozen s found is = subst (λ n. (after_of (snapshot_at s LoadsStage) n (Ok tt)).0 ≡ Go (snapshot_at s LoadsUsed)) (sym is) refl
 
 pub next_node : (node next nodes : ℕ) → Some next ≡ node_after node nodes → next < nodes
 next_node node next nodes is = grind (arith, nat_tests)
@@ -186,7 +186,7 @@ nodes_in : Phase → ℕ
 nodes_in (Trees (Snapshots s)) = s.nodes
 nodes_in phase = 0
 
-pub nodes_as_begun : (s : Snapshot) (c : Config) (t : ℕ) (wait : Bool) → taking_at s Locks ≡ first_phase c t (SnapshotOp wait) → s.nodes ≡ c.nodes
+pub nodes_as_begun : (s : Snapshot) (c : Config) (t : ℕ) (wait : Bool) → snapshot_at s Locks ≡ first_phase c t (SnapshotOp wait) → s.nodes ≡ c.nodes
 unfolding nodes_in
 nodes_as_begun s c t wait is = ap nodes_in is
 

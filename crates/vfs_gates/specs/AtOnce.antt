@@ -1,7 +1,7 @@
 -- Operations begun and done as far as they go at once.
 use Rattle.std.specs.Prelude.{◌≡◌, Some, None, Result, Ok, Err}
-use Rattle.access_model.specs.declared.errors.GateError.{GateError}
-use Rattle.gate_steps.specs.call_events.{Progress.{Progress}, Runs.{IsBounded, ProgressMatches}}
+use Rattle.access_model.specs.declared.{errors.GateError.{GateError}, replies.Reply.{Reply}}
+use Rattle.gate_steps.specs.call_events.{Progress.{Progress}, Runs.{Called, IsBounded, ProgressMatches, told_as, unit_of}}
 use Rattle.gate_world.specs.{declared.operations.Op.{Op}, traces.Traces.{most_events}}
 use Rattle.vfs_gates.specs.TaskStates.{SeatedTask, refusal_at}
 
@@ -18,3 +18,7 @@ pub record TriedAtOnce (now : SeatedTask) (begun : Result Progress GateError) : 
   pub start : SeatedTask
   pub begins : BeginsAtOnce op start now begun
   pub tries : IsBounded (most_events start.config op)
+
+-- an operation that was done whole, of which a call tells only whether it was
+abbrev pub PerformedFrom : Op → SeatedTask → SeatedTask → Result (Unit {0}) GateError → Type 0
+PerformedFrom op start left outcome = (answer : Result Reply GateError) × (outcome ≡ told_as unit_of answer) × Called op start left answer

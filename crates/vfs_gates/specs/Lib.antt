@@ -11,7 +11,6 @@ pub mod TaskStates
 pub use Rattle.gate_steps.specs.call_events.GhostAgrees
 pub use Rattle.gate_steps.specs.call_events.Stepped
 pub use Rattle.gate_steps.specs.call_events.Turns
-pub mod Lines
 pub mod Noted
 pub mod Parts
 pub mod Splitting

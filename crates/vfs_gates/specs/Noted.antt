@@ -21,18 +21,18 @@ taken_or true rest = Done (Ok TreeReply)
 taken_or false rest = of_tree rest
 
 -- a snapshot with this step to come
-abbrev pub taking_at : Snapshot → SnapshotStep → Phase
-taking_at s step = Trees (Snapshots (record s { step = step }))
+abbrev pub snapshot_at : Snapshot → SnapshotStep → Phase
+snapshot_at s step = Trees (Snapshots (record s { step = step }))
 
 -- one that has loaded its nodes up to this one, whose word is no node's; where there is none, it has loaded all
 abbrev pub nodes_loaded : Snapshot → Option ℕ → Phase
-nodes_loaded s (Some node) = taking_at s (LoadsNode node)
-nodes_loaded s None = taking_at s (LoadsKids 0)
+nodes_loaded s (Some node) = snapshot_at s (LoadsNode node)
+nodes_loaded s None = snapshot_at s (LoadsKids 0)
 
 -- one that has loaded all words, or its nodes up to this one
 abbrev pub words_loaded : Snapshot → Option ℕ → Phase
-words_loaded s (Some node) = taking_at s (LoadsNode node)
-words_loaded s None = taking_at s (Releases (Ok TreeReply))
+words_loaded s (Some node) = snapshot_at s (LoadsNode node)
+words_loaded s None = snapshot_at s (Releases (Ok TreeReply))
 
 -- the buffers with these words of the nodes, of their children, or of the whole tree
 abbrev pub with_nodes : List ℕ → BufferWords → BufferWords

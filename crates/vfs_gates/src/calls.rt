@@ -46,9 +46,8 @@ impl Task {
     ghost use Rattle.gate_world.specs.declared.operations.Op.TheVariants.{Want as WantOp, DropMount, ChangeMount, Start, End, DropWrite};
     ghost use Rattle.gate_world.specs.declared.work.Phase.TheVariants.{Mounts};
     ghost use Rattle.mount_counts.specs.declared.phases.MountPhase.TheVariants.{Change as Changes};
-    ghost use Rattle.vfs_gates.specs.AtOnce.{BeginsAtOnce, TriedAtOnce};
+    ghost use Rattle.vfs_gates.specs.AtOnce.{BeginsAtOnce, PerformedFrom, TriedAtOnce};
     ghost use Rattle.vfs_gates.specs.Buffers.{is_of_snapshot};
-    ghost use Rattle.vfs_gates.specs.Lines.{PerformedFrom};
     ghost use Rattle.vfs_gates.specs.TaskStates.{IsFrom, beginning_at, own_number};
     ghost use Rattle.gate_steps.specs.call_events.Runs.{Called, IsBounded, IsTrying, Performs};
 

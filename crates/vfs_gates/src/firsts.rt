@@ -5,7 +5,7 @@ ghost use Rattle.gate_world.specs.Beginnings.{first_phase};
 ghost use Rattle.gate_world.specs.declared.operations.Op.TheVariants.{RemountSb, WantWrite, Callback as CallbackOp, Freeze as FreezeOp, Snapshot as SnapshotOp, Thaw as ThawOp};
 ghost use Rattle.gate_world.specs.declared.work.Phase.TheVariants.{Callbacks, Freezes, Remounts, Thaws, Writes};
 ghost use Rattle.gated_tree.specs.declared.snapshots.SnapshotStep.TheVariants.{Locks};
-ghost use Rattle.vfs_gates.specs.Noted.{taking_at};
+ghost use Rattle.vfs_gates.specs.Noted.{snapshot_at};
 
 use crate::task::Task;
 use access_model::Holder;
@@ -74,7 +74,7 @@ impl Task {
     /// A snapshot, likewise.
     #[inline(always)]
     pub(crate) fn first_snapshot(&self, wait: bool) -> Snapshot
-        ensures { taking_at result Locks ≡ first_phase self.now.config (own_number self.now.items) (SnapshotOp wait) }
+        ensures { snapshot_at result Locks ≡ first_phase self.now.config (own_number self.now.items) (SnapshotOp wait) }
     {
         Snapshot::new(wait, self.number(), self.config.nodes)
     }

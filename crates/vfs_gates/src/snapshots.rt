@@ -9,7 +9,7 @@ ghost use Rattle.gated_tree.specs.declared.snapshots.SnapshotStep.TheVariants.{L
 ghost use Rattle.node_words.specs.Nodes.{unpacked};
 ghost use Rattle.gate_steps.specs.call_events.Turns.{StateAgrees};
 ghost use Rattle.vfs_gates.specs.Buffers.{IsSized, completed, words_in};
-ghost use Rattle.vfs_gates.specs.Noted.{Noted, nodes_loaded, of_tree, taken_or, taking_at, with_kids, with_loaded, with_nodes, words_loaded};
+ghost use Rattle.vfs_gates.specs.Noted.{Noted, nodes_loaded, of_tree, taken_or, snapshot_at, with_kids, with_loaded, with_nodes, words_loaded};
 
 use crate::buffers::SnapshotBuffers;
 use access_model::{Next, Reply};
@@ -27,7 +27,7 @@ const FROZEN: u64 = 4;
 #[cold]
 #[inline(never)]
 fn leave(snapshot: Snapshot, step: SnapshotStep, found: u64, rest: &mut Next<TreePhase>) -> bool
-    ensures { taken_or result rest.new ≡ (after_of (taking_at snapshot step) found (Ok tt)).0 }
+    ensures { taken_or result rest.new ≡ (after_of (snapshot_at snapshot step) found (Ok tt)).0 }
 {
     let here = TreePhase::Snapshot(Snapshot { step, ..snapshot });
     let (next, _action) = here.after(found, Ok(()));
@@ -39,7 +39,7 @@ fn leave(snapshot: Snapshot, step: SnapshotStep, found: u64, rest: &mut Next<Tre
 #[cold]
 #[inline(never)]
 fn leave_at_node(snapshot: Snapshot, node: u8, rest: &mut Next<TreePhase>) -> bool
-    ensures { taken_or result rest.new ≡ Go (taking_at snapshot (LoadsNode node)) }
+    ensures { taken_or result rest.new ≡ Go (snapshot_at snapshot (LoadsNode node)) }
 {
     let step = SnapshotStep::LoadsNode(node);
     *rest = Next::Go(TreePhase::Snapshot(Snapshot { step, ..snapshot }));
@@ -65,9 +65,9 @@ fn load_nodes(
 ) -> Option<u8>
     requires many { (length nodes.old ≡ snapshot.nodes) × (1 ≤ snapshot.nodes) }
     requires table { seat.old.table_id ≡ gates.now.table.shared.table_id }
-    requires agrees { StateAgrees gates.now.config None (Some (taking_at snapshot (LoadsNode 0))) accesses.now seat.old.me.0.items }
+    requires agrees { StateAgrees gates.now.config None (Some (snapshot_at snapshot (LoadsNode 0))) accesses.now seat.old.me.0.items }
     ensures slots { seat.new.me.1 ≡ seat.old.me.1 }
-    ensures noted { Noted gates.now.config None accesses.now (Go (taking_at snapshot (LoadsNode 0))) seat.old.table_id seat.old.me.0
+    ensures noted { Noted gates.now.config None accesses.now (Go (snapshot_at snapshot (LoadsNode 0))) seat.old.table_id seat.old.me.0
         (λ r. r.next.nodes ≡ nodes.old) (Go (nodes_loaded snapshot result)) seat.new.table_id seat.new.me.0 (with_nodes nodes.new) }
 {
     let mut node = 0;
@@ -99,10 +99,10 @@ fn load_kids(
 )
     requires many { (length kids.old ≡ snapshot.nodes) × (1 ≤ snapshot.nodes) }
     requires table { seat.old.table_id ≡ gates.now.table.shared.table_id }
-    requires agrees { StateAgrees gates.now.config None (Some (taking_at snapshot (LoadsKids 0))) accesses.now seat.old.me.0.items }
+    requires agrees { StateAgrees gates.now.config None (Some (snapshot_at snapshot (LoadsKids 0))) accesses.now seat.old.me.0.items }
     ensures slots { seat.new.me.1 ≡ seat.old.me.1 }
-    ensures noted { Noted gates.now.config None accesses.now (Go (taking_at snapshot (LoadsKids 0))) seat.old.table_id seat.old.me.0
-        (λ r. r.next.kids ≡ kids.old) (Go (taking_at snapshot (Releases (Ok TreeReply)))) seat.new.table_id seat.new.me.0
+    ensures noted { Noted gates.now.config None accesses.now (Go (snapshot_at snapshot (LoadsKids 0))) seat.old.table_id seat.old.me.0
+        (λ r. r.next.kids ≡ kids.old) (Go (snapshot_at snapshot (Releases (Ok TreeReply)))) seat.new.table_id seat.new.me.0
         (λ r. completed (with_kids kids.new r)) }
 {
     let mut node = 0;
@@ -130,9 +130,9 @@ fn load_words(
 ) -> Option<u8>
     requires many { IsSized snapshot.nodes (words_of tree.old) × (1 ≤ snapshot.nodes) }
     requires table { seat.old.table_id ≡ gates.now.table.shared.table_id }
-    requires agrees { StateAgrees gates.now.config None (Some (taking_at snapshot LoadsUsed)) accesses.now seat.old.me.0.items }
+    requires agrees { StateAgrees gates.now.config None (Some (snapshot_at snapshot LoadsUsed)) accesses.now seat.old.me.0.items }
     ensures slots { seat.new.me.1 ≡ seat.old.me.1 }
-    ensures noted { Noted gates.now.config None accesses.now (Go (taking_at snapshot LoadsUsed)) seat.old.table_id seat.old.me.0
+    ensures noted { Noted gates.now.config None accesses.now (Go (snapshot_at snapshot LoadsUsed)) seat.old.table_id seat.old.me.0
         (λ r. r.next ≡ words_of tree.old) (Go (words_loaded snapshot result)) seat.new.table_id seat.new.me.0
         (with_loaded result (words_of tree.new)) }
 {
@@ -159,9 +159,9 @@ fn load_tree(
 ) -> bool
     requires many { IsSized snapshot.nodes (words_in buffers.old).next × (1 ≤ snapshot.nodes) }
     requires table { seat.old.table_id ≡ gates.now.table.shared.table_id }
-    requires agrees { StateAgrees gates.now.config None (Some (taking_at snapshot LoadsUsed)) accesses.now seat.old.me.0.items }
+    requires agrees { StateAgrees gates.now.config None (Some (snapshot_at snapshot LoadsUsed)) accesses.now seat.old.me.0.items }
     ensures slots { seat.new.me.1 ≡ seat.old.me.1 }
-    ensures noted { Noted gates.now.config None accesses.now (Go (taking_at snapshot LoadsUsed)) seat.old.table_id seat.old.me.0
+    ensures noted { Noted gates.now.config None accesses.now (Go (snapshot_at snapshot LoadsUsed)) seat.old.table_id seat.old.me.0
         (λ r. r ≡ words_in buffers.old) (taken_or result rest.new) seat.new.table_id seat.new.me.0 (λ r. words_in buffers.new) }
 {
     let tree = &mut buffers.next;
@@ -196,9 +196,9 @@ fn take_snapshot(
 ) -> bool
     requires table { seat.old.table_id ≡ gates.now.table.shared.table_id }
     requires many { IsSized snapshot.nodes (words_in buffers.old).next × (1 ≤ snapshot.nodes) }
-    requires agrees { StateAgrees gates.now.config (Some op) (Some (taking_at snapshot Locks)) accesses.now seat.old.me.0.items }
+    requires agrees { StateAgrees gates.now.config (Some op) (Some (snapshot_at snapshot Locks)) accesses.now seat.old.me.0.items }
     ensures slots { seat.new.me.1 ≡ seat.old.me.1 }
-    ensures noted { Noted gates.now.config (Some op) accesses.now (Go (taking_at snapshot Locks)) seat.old.table_id seat.old.me.0
+    ensures noted { Noted gates.now.config (Some op) accesses.now (Go (snapshot_at snapshot Locks)) seat.old.table_id seat.old.me.0
         (λ r. r ≡ words_in buffers.old) (taken_or result rest.new) seat.new.table_id seat.new.me.0 (λ r. words_in buffers.new) }
 {
     let step = SnapshotStep::Locks;
@@ -230,9 +230,9 @@ pub(crate) fn snapshot_first(
 ) -> Next<TreePhase>
     requires table { seat.old.table_id ≡ gates.now.table.shared.table_id }
     requires many { IsSized snapshot.nodes (words_in buffers.old).next × (1 ≤ snapshot.nodes) }
-    requires agrees { StateAgrees gates.now.config (Some op) (Some (taking_at snapshot Locks)) accesses.now seat.old.me.0.items }
+    requires agrees { StateAgrees gates.now.config (Some op) (Some (snapshot_at snapshot Locks)) accesses.now seat.old.me.0.items }
     ensures slots { seat.new.me.1 ≡ seat.old.me.1 }
-    ensures noted { Noted gates.now.config (Some op) accesses.now (Go (taking_at snapshot Locks)) seat.old.table_id seat.old.me.0
+    ensures noted { Noted gates.now.config (Some op) accesses.now (Go (snapshot_at snapshot Locks)) seat.old.table_id seat.old.me.0
         (λ r. r ≡ words_in buffers.old) (of_tree result) seat.new.table_id seat.new.me.0 (λ r. words_in buffers.new) }
 {
     let mut rest = Next::Done(Ok(Reply::Tree));

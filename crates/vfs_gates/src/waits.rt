@@ -33,9 +33,8 @@ fn ran(answer: Result<Reply, GateError>) -> Result<bool, GateError>
 impl Task {
     ghost use Rattle.gate_world.specs.Beginnings.{first_phase};
     ghost use Rattle.gate_world.specs.declared.operations.Op.TheVariants.{Want as WantOp, ChangeMount, RemountSb, Start, WantWrite, Callback as CallbackOp, Freeze as FreezeOp, Thaw as ThawOp};
-    ghost use Rattle.vfs_gates.specs.AtOnce.{BeginsAtOnce};
+    ghost use Rattle.vfs_gates.specs.AtOnce.{BeginsAtOnce, PerformedFrom};
     ghost use Rattle.vfs_gates.specs.Buffers.{is_of_snapshot};
-    ghost use Rattle.vfs_gates.specs.Lines.{PerformedFrom};
     ghost use Rattle.vfs_gates.specs.TaskStates.{IsFrom, own_number};
     ghost use Rattle.gate_steps.specs.call_events.Runs.{the_reply, Called, Replies, Performs};
     ghost use Rattle.gate_steps.specs.call_events.Asking.{PerformsAsking, RepliesAsking};

@@ -2,7 +2,7 @@
 use Rattle.std.proofs.Common.{◌≡◌, ℕ, arith, true}
 use Rattle.composite_ops.specs.declared.write_access.phases.WritePhase.TheVariants.{Takes}
 use Rattle.percpu_rwsem.specs.declared.readers.{DownRead.{DownRead}, DownReadStep.TheVariants.{EntersSection}}
-use Rattle.fast_paths.specs.Lines.{taking_at}
+use Rattle.fast_paths.specs.Paths.{taking_at}
 use Rattle.fast_paths.proofs.writes.first_writer.Goals as goal
 
 takes_first : (mount : ℕ) (r : DownRead) → r.level ≡ 1 → r.wait ≡ true → r.step ≡ EntersSection →

@@ -4,7 +4,7 @@ use Rattle.access_model.specs.declared.replies.Next.TheVariants.{Go}
 use Rattle.gated_tree.specs.{declared.snapshots.SnapshotStep.TheVariants.{LoadsKids}, Phases.{at_snapshot}}
 use Rattle.std.specs.Prelude.{Some, None}
 use Rattle.gate_steps.proofs.call_events.Leading.{still_agrees}
-use Rattle.vfs_gates.specs.{Buffers.{BufferWords}, Noted.{taking_at, with_kids}}
+use Rattle.vfs_gates.specs.{Buffers.{BufferWords}, Noted.{snapshot_at, with_kids}}
 use Rattle.vfs_gates.proofs.Loading.{fewer_left, kids_last, kids_noted, kids_on, next_node, noted_nowhere, noted_on, noted_to, taking_leaves}
 use Rattle.vfs_gates.proofs.snapshots.load_kids.Goals as goal
 
@@ -12,7 +12,7 @@ pub loop-next-init : goal.loop-next-init
 loop-next-init c = record {
   slots = refl;
   there = omega arith;
-  noted = noted_nowhere c.args.gates.now.config c.args.accesses.now (Go (taking_at c.args.snapshot (LoadsKids 0))) c.args.seat.now.table_id
+  noted = noted_nowhere c.args.gates.now.config c.args.accesses.now (Go (snapshot_at c.args.snapshot (LoadsKids 0))) c.args.seat.now.table_id
       c.args.seat.now.me.0 (λ (r : BufferWords) were i. with_kids (were i) r);
 }
 

@@ -3,7 +3,7 @@ use Rattle.std.proofs.Common.{arith, refl, sym, ◌∙◌}
 use Rattle.access_model.specs.declared.replies.Next.TheVariants.{Go}
 use Rattle.gated_tree.specs.{declared.snapshots.SnapshotStep.TheVariants.{LoadsNode}, Phases.{at_snapshot}}
 use Rattle.gate_steps.proofs.call_events.Leading.{still_agrees}
-use Rattle.vfs_gates.specs.{Buffers.{BufferWords}, Noted.{taking_at, with_nodes}}
+use Rattle.vfs_gates.specs.{Buffers.{BufferWords}, Noted.{snapshot_at, with_nodes}}
 use Rattle.vfs_gates.proofs.Loading.{next_node, node_last, node_none, node_noted, node_on, noted_nowhere, noted_on, noted_to, taking_leaves}
 use Rattle.vfs_gates.proofs.snapshots.load_nodes.Goals as goal
 
@@ -11,7 +11,7 @@ pub loop-snapshot-init : goal.loop-snapshot-init
 loop-snapshot-init c = record {
   slots = refl;
   there = omega arith;
-  noted = noted_nowhere c.args.gates.now.config c.args.accesses.now (Go (taking_at c.args.snapshot (LoadsNode 0))) c.args.seat.now.table_id
+  noted = noted_nowhere c.args.gates.now.config c.args.accesses.now (Go (snapshot_at c.args.snapshot (LoadsNode 0))) c.args.seat.now.table_id
       c.args.seat.now.me.0 (λ (r : BufferWords) were i. with_nodes (were i) r);
 }
 

@@ -5,7 +5,7 @@ use Rattle.gate_world.specs.{Views.{phase_after}, declared.{operations.Op.{Op}, 
 use Rattle.composite_ops.specs.declared.write_access.phases.WritePhase.{WritePhase}
 use Rattle.gate_steps.specs.call_events.{SeatedTasks.{task_state}, GhostAgrees.{GhostAgrees}, Turns.{StateAgrees, state_at, of_write}}
 use Rattle.gate_steps.specs.call_events.Waited.{OpUnderWayWaiting, OpAfterStepWaiting}
-use Rattle.fast_paths.specs.Lines.{done_or}
+use Rattle.fast_paths.specs.Paths.{done_or}
 use Rattle.fast_paths.proofs.writes.WritePhaseFastPath.run_fast_path.Goals as goal
 
 -- what holds of a taking that begins holds of it by its parts

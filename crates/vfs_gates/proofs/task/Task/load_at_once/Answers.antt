@@ -6,7 +6,7 @@ use Rattle.gate_steps.specs.call_events.Progress.TheVariants.{Going, Done}
 use Rattle.gate_world.specs.declared.{operations.Op.TheVariants.{Snapshot as SnapshotOp}, config.Config.{Config}, work.Phase.{Phase}}
 use Rattle.gate_world.specs.declared.work.Phase.TheVariants.{Trees}
 use Rattle.gated_tree.specs.declared.snapshots.SnapshotStep.TheVariants.{Locks}
-use Rattle.vfs_gates.specs.{Noted.{of_tree, taking_at}, TaskStates.{SeatedTask}, Buffers.{BuffersMatch, IsSized, words_in}}
+use Rattle.vfs_gates.specs.{Noted.{of_tree, snapshot_at}, TaskStates.{SeatedTask}, Buffers.{BuffersMatch, IsSized, words_in}}
 use Rattle.vfs_gates.proofs.{Admitting.{refused_by}, AtOnce.{refused_at_once, told_at_once}}
 use Rattle.vfs_gates.proofs.Calling.{Call, Left, call_with, is_agrees, items_of, not_begun, ghost_agrees_at, ghost_agrees_done, goes_at, ended_at}
 use Rattle.vfs_gates.proofs.{Loading.{left_by, loaded_done, loaded_buffers, nodes_as_begun}, Rooming.{begun_in}, Waiting.{left_tells, once}}
@@ -17,7 +17,7 @@ use Rattle.vfs_gates.proofs.task.Task.load_at_once.Goals as goal
 abbrev call : After-snapshot_first-next → Call
 call c =
     call_with (SnapshotOp c.args.wait) c.self.inside c.args.gates.now.words.config c.args.self.now c.self.view_is c.requires.1
-    c.self.invariant.0 c.admit.result c.admit.ensures c.in_default.not-Err (taking_at c.first_snapshot-first.result Locks)
+    c.self.invariant.0 c.admit.result c.admit.ensures c.in_default.not-Err (snapshot_at c.first_snapshot-first.result Locks)
     c.first_snapshot-first.ensures
 
 abbrev left : (c : After-snapshot_first-next) → Left (call c)
@@ -31,7 +31,7 @@ begun c = begun_in (call c) (words_in c.self.inside.buffers) c.self.inside.begin
 pub snapshot_first-next-requires-clause-agrees : goal.snapshot_first-next-requires-clause-agrees
 snapshot_first-next-requires-clause-agrees c =
     is_agrees (call_with (SnapshotOp c.args.wait) c.self.inside c.args.gates.now.words.config c.args.self.now c.self.view_is c.requires.1
-    c.self.invariant.0 c.admit.result c.admit.ensures c.in_default.not-Err (taking_at c.first_snapshot-first.result Locks)
+    c.self.invariant.0 c.admit.result c.admit.ensures c.in_default.not-Err (snapshot_at c.first_snapshot-first.result Locks)
     c.first_snapshot-first.ensures)
 
 -- there is room for as many nodes as it loads

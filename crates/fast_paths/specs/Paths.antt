@@ -1,4 +1,4 @@
--- Operations in a line.
+-- What comes next of operations whose usual steps are done in a line.
 use Rattle.std.specs.Prelude.{ℕ, Bool, true, false, Ok}
 use Rattle.access_model.specs.{Replies.{map_next}, declared.replies.Next.{Next, TheVariants.{Done}}}
 use Rattle.access_model.specs.declared.replies.Reply.{TheVariants.{Unit as UnitReply}}
