@@ -21,19 +21,21 @@ crates_below() {
         END { reach(top) }' "$root/crates.txt"
 }
 
-# Prints the crates that it reads, each after those that it stands on, once more: first those with the longest chain of crates above them.
+# Prints the crates that it reads, each after those that it stands on, once more: first those with the longest chain of crates above them, by their lines
+# of code.
 by_chain() {
-    local crate library below=()
-    local -A above
+    local below at crate library
+    local -A lines=()
     mapfile -t below
     for ((at = ${#below[@]} - 1; at >= 0; at--)); do
         crate=${below[at]}
+        lines[$crate]=$((${lines[$crate]-0} + $(find "$root/crates/$crate/src" -name '*.rt' -exec cat {} + | wc -l)))
         for library in $(libraries_of "$crate"); do
-            [[ ${above[$library]-0} -gt ${above[$crate]-0} ]] || above[$library]=$((${above[$crate]-0} + 1))
+            [[ ${lines[$library]-0} -ge ${lines[$crate]} ]] || lines[$library]=${lines[$crate]}
         done
     done
     for crate in "${below[@]}"; do
-        printf '%s %s\n' "${above[$crate]-0}" "$crate"
+        printf '%s %s\n' "${lines[$crate]}" "$crate"
     done | sort -k 1,1nr -s | cut -d ' ' -f 2
 }
 
