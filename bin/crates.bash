@@ -51,7 +51,7 @@ is_current() {
     [[ -z $(find "${sources[@]}" -newer "$1" -print -quit 2>/dev/null) ]]
 }
 
-# Prints what the kit's `rattle build` is told of this crate, a word on each line: the libraries are those that `rt ci` has proved and left below $2.
+# Prints what the kit's `rattle build` is told of this crate, a word on each line: the libraries are those that stand proved below $2.
 words_over() {
     local kit library
     kit=$(dirname "$(rt doc)")
