@@ -21,8 +21,7 @@ crates_below() {
         END { reach(top) }' "$root/crates.txt"
 }
 
-# Prints the crates that it reads, each after those that it stands on, once more: first those with the longest chain of crates above them, by their lines
-# of code.
+# Reads names of crates, each after those that it stands on. Prints them by the longest chain of crates above each, in lines of code: the longest first.
 by_chain() {
     local below at crate library
     local -A lines=()
@@ -71,7 +70,7 @@ words_over() {
 }
 
 # Builds the static library of mntgate_c over the libraries below it that stand here proved. crates.txt lists that crate as a library, so the kit's compiler
-# is told here what it is to build. It proves the crate for that, as what links code: with the words given, too.
+# is told here what it is to build, and proves the crate once more for it. Further words are handed on to the compiler.
 build_archive() {
     local words
     mapfile -t words < <(words_over mntgate_c "$root")
