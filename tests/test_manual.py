@@ -17,33 +17,31 @@ def text_of(path):
         return it.read()
 
 
-def heading(kind, words):
-    """How the page names an argument of this kind, of which these are the values before its help."""
+def heading(name, kind, value):
+    """How the page names an argument of this kind; the value is what help calls that of an option."""
     match kind:
-        case "File":
-            return "[FILE]"
-        case "Files":
-            return "[FILE]..."
         case "Word":
-            return f"[{words[0]}]"
+            return f"[{name}]"
+        case "Words":
+            return f"[{name}]..."
         case "Flag":
-            return f"--{words[0]}"
+            return f"--{name}"
         case "Number" | "Choice":
-            return f"--{words[0]} <{words[1]}>"
+            return f"--{name} <{value}>"
     sys.exit(f"test_manual: an argument of a kind that no page has: {kind}")
 
 
 def told_by_the_program():
     """The lines of the section, as the command line has them."""
-    source = text_of("crates/command_line/src/words.rt")
-    names = dict(re.findall(rf"^const (\w+): &str = {TEXT};", source, re.M))
+    source = text_of("crates/command_line/src/arguments.rt")
+    names = dict(re.findall(rf"^pub\(crate\) const (\w+): &str = {TEXT};", source, re.M))
     table = re.search(r"^const SUBCOMMANDS.*?^\];", source, re.M | re.S)[0]
     lines = []
     for name, about, arguments in re.findall(rf"name: {TEXT},\s*about: {TEXT},\s*arguments: &\[(.*?)\],\n    \}}", table, re.S):
         lines += [".TP", f".B {name}", about, ".RS"]
-        for kind, inside in re.findall(rf"Argument::(\w+)\(((?:{TEXT.replace('(', '(?:', 1)}|[^\"()])*)\)", arguments):
-            words = [text or names[word] for text, word in re.findall(rf"{TEXT}|\b([A-Z_]+)\b", inside)]
-            lines += [".TP", f".B {heading(kind, words[:-1])}", words[-1]]
+        argument = rf"name: (?:{TEXT}|(\w+)),\s*kind: ArgumentKind::(\w+)(?:\({TEXT}.*?\))?,\s*help: {TEXT},"
+        for text, constant, kind, value, told in re.findall(argument, arguments):
+            lines += [".TP", f".B {heading(text or names[constant], kind, value)}", told]
         lines.append(".RE")
     return [*lines, ".TP", *HELP]
 

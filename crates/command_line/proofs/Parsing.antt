@@ -7,7 +7,8 @@ use Rattle.clap.specs.{Simple.new_shape, Words.{AddsArg, AddsSubcommand, App, Ro
 use Rattle.clap.specs.declared.builder.{action.ArgAction.ArgAction, arg.Arg.Arg, command.Command.Command, range.ValueRange.ValueRange, texts.Texts.TheVariants.One, value_parser.ValueParser.ValueParser}
 use Rattle.clap.proofs.OnLiterals.{clap_on_literals}
 use Rattle.command_line.specs.CommandLine.{alone, are_plain, are_usual, argument_rule, ask_plainly, is_off, mntgate_app, subcommand_shape}
-use Rattle.command_line.specs.declared.words.{ProgramRequest.TheVariants.Replay as AsksReplay, ReplayForm.ReplayForm, Replay.Replay, Argument.Argument, Subcommand.Subcommand}
+use Rattle.command_line.specs.declared.words.{ProgramRequest.TheVariants.Replay as AsksReplay, ReplayForm.ReplayForm, Replay.Replay}
+use Rattle.command_line.specs.declared.arguments.{Argument.Argument, Subcommand.Subcommand}
 
 -- both of two tests
 pub and_left : (a b : Bool) → (a && b) ≡ true → a ≡ true

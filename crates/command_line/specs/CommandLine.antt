@@ -3,8 +3,8 @@ use Rattle.std.specs.{Option.option_map_or, Prelude.{◌≡◌, ◌&&◌, ℕ, B
 use Rattle.std.specs.Str.{bytes_eq}
 use Rattle.clap.specs.{Lexer.usize_max, Simple.new_shape, Words.{App, Row, Rule, Shape, Text, first_of, new_rule, one_of, subcommand_of, takes}}
 use Rattle.clap.specs.declared.builder.{action.ArgAction.TheVariants.SetTrue, value_parser.ValueParser.TheVariants.Unsigned}
-use Rattle.command_line.specs.declared.words.{Argument.{Argument, TheVariants.{File, Word, Files, Flag, Number, Choice}}, ProgramRequest.ProgramRequest}
-use Rattle.command_line.specs.declared.words.{ProgramRequest.TheVariants.Replay as AsksReplay, ReplayForm.TheVariants.Plain, Replay.Replay, Style.Style, Subcommand.Subcommand}
+use Rattle.command_line.specs.declared.arguments.{Argument.{Argument}, ArgumentKind.{ArgumentKind, TheVariants.{Word, Words, Flag, Number, Choice}}, Subcommand.Subcommand}
+use Rattle.command_line.specs.declared.words.{ProgramRequest.{ProgramRequest, TheVariants.Replay as AsksReplay}, ReplayForm.TheVariants.Plain, Replay.Replay, Style.Style}
 
 -- a flag, which is left out or given once
 abbrev pub flag_rule : Text → Rule
@@ -22,22 +22,25 @@ needed_rule name least most = record (number_rule name least most) { required = 
 abbrev pub word_rule : Text → Rule
 word_rule name = record (new_rule name) { long = Some name; value_names = 1 }
 
+-- words
+abbrev pub words_rule : Text → Rule
+words_rule name = record (new_rule name) { range = Some (record { start_inclusive = 1; end_inclusive = usize_max }) }
+
 -- a file at most
 abbrev pub file_rule : Rule
 file_rule = new_rule (codes "FILE")
 
--- files
-abbrev pub files_rule : Rule
-files_rule = record file_rule { range = Some (record { start_inclusive = 1; end_inclusive = usize_max }) }
+-- an argument of this name that is given so
+abbrev pub kind_rule : Text → ArgumentKind → Rule
+kind_rule name Word = new_rule name
+kind_rule name Words = words_rule name
+kind_rule name Flag = flag_rule name
+kind_rule name (Number value least most needed) = record (number_rule name least most) { required = needed }
+kind_rule name (Choice value) = word_rule name
 
 -- an argument
 abbrev pub argument_rule : Argument → Rule
-argument_rule (File help) = file_rule
-argument_rule (Word name help) = new_rule name.now
-argument_rule (Files help) = files_rule
-argument_rule (Flag name help) = flag_rule name.now
-argument_rule (Number name value least most needed help) = record (number_rule name.now least most) { required = needed }
-argument_rule (Choice name value help) = word_rule name.now
+argument_rule a = kind_rule a.name.now a.kind
 
 -- a command with its arguments
 abbrev pub command_of : Text → List Rule → Shape
@@ -51,7 +54,7 @@ replay_shape = command_of (codes "replay") (
 
 -- `check`
 abbrev pub check_shape : Shape
-check_shape = command_of (codes "check") (files_rule ∷ flag_rule (codes "bless") ∷ [])
+check_shape = command_of (codes "check") (words_rule (codes "FILE") ∷ flag_rule (codes "bless") ∷ [])
 
 -- `explain`
 abbrev pub explain_shape : Shape

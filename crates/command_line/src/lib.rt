@@ -1,6 +1,7 @@
 //! The command line of the program: from its words to what they ask for.
 #![tactic(auto)]
 
+mod arguments;
 pub mod words;
 
 pub use words::{

@@ -1,14 +1,17 @@
 //! The words of a command line.
 
 ghost use Rattle.std.specs.Prelude.{◌≡◌, ◌⊎◌, true, false, None, Some, IfOk, map, codes, string_bytes};
-ghost use Rattle.clap.specs.Words.{app_of, first_of, found_of, kind_of, one_of, rows_of, rule_of, subcommand_rows_of};
+ghost use Rattle.clap.specs.Words.{first_of, found_of, kind_of, one_of, rows_of, subcommand_rows_of};
 ghost use Rattle.clap.specs.declared.error.kind.ErrorKind.TheVariants.{OutOfMemory};
-ghost use Rattle.command_line.specs.CommandLine.{AreBare, IsBareReplay, IsPlainOfInput, MayAskPlainly, alone, are_plain, argument_rule, ask_plainly, is_off, is_plain_replay, mntgate_app, subcommand_shape, usual_style};
+ghost use Rattle.command_line.specs.CommandLine.{AreBare, IsBareReplay, IsPlainOfInput, MayAskPlainly, are_plain, ask_plainly, is_off, is_plain_replay, usual_style};
 ghost use Rattle.command_line.specs.declared.words.ReplayForm.TheVariants.{Plain};
 
-use clap::builder::ValueParser;
+use crate::arguments::{
+    BLESS, CALL, COLUMNS, DETAILS, ENDS, EVENTS, EXPLAIN, FILE, HTML, JSON, LIMIT, MODEL, NAMES,
+    NO_REDUCTION, OVER_GATES, RAW, REFUSAL, SAVE, SCHEDULES, command,
+};
 use clap::error::ErrorKind;
-use clap::{Arg, ArgAction, ArgMatches, Command, Error};
+use clap::{ArgMatches, Error};
 use exit_status::Printable;
 use std::alloc::{AllocError, Global};
 use std::fmt::Display;
@@ -22,235 +25,8 @@ const REPLAY_USAGE: &str = "replay [OPTIONS] [FILE]";
 
 const OUTCOMES_USAGE: &str = "outcomes [OPTIONS] [FILE]";
 
-/// The version of the program.
-const VERSION: &str = "1.1.0";
-
-/// The argument that names a schedule's file.
-const FILE: &str = "FILE";
-
-/// The flag of a replay over the gates that threads use.
-const OVER_GATES: &str = "over-gates";
-
-/// The flags of what is printed of a replay.
-const EVENTS: &str = "events";
-
-const COLUMNS: &str = "columns";
-
-const JSON: &str = "json";
-
-const HTML: &str = "html";
-
-/// The options of how words and their values are printed.
-const RAW: &str = "raw";
-
-const NAMES: &str = "names";
-
-/// The flag of a replay that tells what helps after a fault.
-const EXPLAIN: &str = "explain";
-
-/// The flag of a check that writes what is printed into the files.
-const BLESS: &str = "bless";
-
-/// The arguments of an explanation.
-const CALL: &str = "CALL";
-
-const REFUSAL: &str = "REFUSAL";
-
-/// The flag of a run that tells what its tasks met.
-const DETAILS: &str = "details";
-
-/// The flags of what is told of the outcomes of a race.
-const SCHEDULES: &str = "schedules";
-
-const MODEL: &str = "model";
-
-const ENDS: &str = "ends";
-
-const SAVE: &str = "save";
-
-const LIMIT: &str = "limit";
-
-const NO_REDUCTION: &str = "no-reduction";
-
 /// How many states a race may have, where nothing else is asked for.
 const STATES: u32 = 10_000_000;
-
-/// A command of the program, with its arguments in their order.
-#[derive(Clone, Copy)]
-struct Subcommand {
-    name: &'static str,
-    about: &'static str,
-    arguments: &'static [Argument],
-}
-
-/// An argument of a command; the last text of each is its help.
-#[derive(Clone, Copy)]
-enum Argument {
-    /// A file at most.
-    File(&'static str),
-    /// A word at most, by the name that help calls it.
-    Word(&'static str, &'static str),
-    /// Files.
-    Files(&'static str),
-    /// A flag of this name.
-    Flag(&'static str, &'static str),
-    /// An option of this name with a number, which help calls so, from the least to the most; and whether it has to be there.
-    Number(&'static str, &'static str, u64, u64, bool, &'static str),
-    /// An option of this name with a word, which help calls so.
-    Choice(&'static str, &'static str, &'static str),
-}
-
-const SUBCOMMANDS: [Subcommand; 5] = [
-    Subcommand {
-        name: "replay",
-        about: "Replays a schedule, and prints what its lines ask for",
-        arguments: &[
-            Argument::File("Its file; standard input, where none is named, or '-'"),
-            Argument::Flag(
-                EVENTS,
-                "Prints each beginning and each step, and for whom a task waits",
-            ),
-            Argument::Flag(COLUMNS, "Prints them in a column for each task"),
-            Argument::Flag(
-                JSON,
-                "Prints a line of JSON for each beginning, step, answer and listing",
-            ),
-            Argument::Flag(HTML, "Prints a page with a picture of them"),
-            Argument::Flag(RAW, "Prints values as numbers in these forms"),
-            Argument::Choice(
-                NAMES,
-                "WHOSE",
-                "Names words in these forms as 'schedule' or as 'kernel' does",
-            ),
-            Argument::Flag(
-                OVER_GATES,
-                "Replays it over the gates that threads use, in one thread",
-            ),
-            Argument::Flag(
-                EXPLAIN,
-                "Tells a fault with its line, and how to mend it, as on a terminal",
-            ),
-        ],
-    },
-    Subcommand {
-        name: "check",
-        about: "Replays schedules and lists outcomes of races, and compares what they print with their lines '#> TEXT'",
-        arguments: &[
-            Argument::Files("Their files; standard input, where none is named, or '-'"),
-            Argument::Flag(
-                BLESS,
-                "Writes what they print into the files, in the place of what they say of it",
-            ),
-        ],
-    },
-    Subcommand {
-        name: "explain",
-        about: "Explains a refusal: what it means, what the state is now, what to do next, and what never to do",
-        arguments: &[
-            Argument::Word(
-                CALL,
-                "A call, as 'remount' or 'remount_sb'; an index of all refusals, where none is named",
-            ),
-            Argument::Word(
-                REFUSAL,
-                "A refusal of it, as '16', 'EBUSY' or 'Busy'; all of the call, where none is named",
-            ),
-        ],
-    },
-    Subcommand {
-        name: "outcomes",
-        about: "Prints all outcomes of a race: what its calls can answer, whatever their order",
-        arguments: &[
-            Argument::File("Its file; standard input, where none is named, or '-'"),
-            Argument::Flag(
-                SCHEDULES,
-                "Prints a schedule for each outcome, with few switches between tasks",
-            ),
-            Argument::Flag(COLUMNS, "Prints one too, in a column for each task"),
-            Argument::Flag(
-                MODEL,
-                "Prints the final model of each outcome, or how many it has",
-            ),
-            Argument::Flag(
-                ENDS,
-                "Prints a line for each pair of answers and final model",
-            ),
-            Argument::Flag(
-                JSON,
-                "Prints a line of JSON for each outcome, and of what else is printed",
-            ),
-            Argument::Flag(
-                HTML,
-                "Prints a page with a picture of a schedule for each outcome",
-            ),
-            Argument::Flag(RAW, "Prints values as numbers"),
-            Argument::Choice(
-                NAMES,
-                "WHOSE",
-                "Names words as 'schedule' or as 'kernel' does",
-            ),
-            Argument::Choice(
-                SAVE,
-                "DIR",
-                "Writes a schedule for each outcome to a file in DIR, behind the set-up",
-            ),
-            Argument::Number(
-                LIMIT,
-                "STATES",
-                1,
-                4_294_967_295,
-                false,
-                "How many states to search at most: 10000000, if not given; past it, the outcomes so far are printed",
-            ),
-            Argument::Flag(
-                NO_REDUCTION,
-                "Searches all states, also those that are not needed for the outcomes",
-            ),
-        ],
-    },
-    Subcommand {
-        name: "run",
-        about: "Runs writers, a remounter and a backup in threads, and prints what they did",
-        arguments: &[
-            Argument::Number(
-                "tasks",
-                "N",
-                3,
-                64,
-                true,
-                "Tasks, each in a thread of its own: 3 to 64",
-            ),
-            Argument::Number(
-                "cpus",
-                "N",
-                1,
-                64,
-                true,
-                "Processors, with count words of their own: 1 to 64",
-            ),
-            Argument::Number(
-                "rounds",
-                "N",
-                1,
-                10_000,
-                true,
-                "Rounds of each writer and of the remounter: 1 to 10000",
-            ),
-            Argument::Number(
-                "freezes",
-                "N",
-                0,
-                1_000,
-                true,
-                "Freezes, each with a snapshot: 0 to 1000",
-            ),
-            Argument::Flag(
-                DETAILS,
-                "Prints after that what they met: refusals, waits, snapshots' sizes, time",
-            ),
-        ],
-    },
-];
 
 /// The numbers of a run.
 #[derive(Clone, Copy)]
@@ -703,60 +479,5 @@ fn files_of<'a>(alloc: Global, check: &ArgMatches<'a>) -> Result<Vec<&'a str>, A
     match check.get_strs(FILE) {
         Some(names) => names.to_vec(alloc),
         None => Ok(Vec::new(alloc)),
-    }
-}
-
-/// The command line: each command of the program.
-fn command<'a>(alloc: Global) -> Result<Command<'a>, AllocError>
-    ensures { IfOk result (λ command. app_of command ≡ mntgate_app) }
-{
-    let mut program = Command::new(alloc, "mntgate")
-        .about("Write gates of a mounted file system")
-        .version(VERSION)
-        .subcommand_required(true);
-    for subcommand in SUBCOMMANDS.iter() {
-        let Ok(sub) = subcommand_of(alloc, subcommand) else {
-            drop(program);
-            return Err(AllocError);
-        };
-        program = program.subcommand(sub)?;
-    }
-    Ok(program)
-}
-
-/// A command of the program, with its arguments in their order.
-fn subcommand_of<'a>(alloc: Global, subcommand: &Subcommand) -> Result<Command<'a>, AllocError>
-    ensures { IfOk result (λ command. app_of command ≡ alone (subcommand_shape subcommand.now)) }
-{
-    let mut command = Command::new(alloc, subcommand.name).about(subcommand.about);
-    for argument in subcommand.arguments {
-        command = command.arg(argument_of(alloc, argument))?;
-    }
-    Ok(command)
-}
-
-/// An argument of a command.
-fn argument_of<'a>(alloc: Global, argument: &Argument) -> Arg<'a>
-    ensures rule { rule_of result ≡ argument_rule argument.now }
-    ensures local { result.global ≡ false }
-{
-    match *argument {
-        Argument::File(help) => Arg::new(alloc, FILE).help(help),
-        Argument::Word(name, help) => Arg::new(alloc, name).help(help),
-        Argument::Files(help) => Arg::new(alloc, FILE).help(help).num_args(1..),
-        Argument::Flag(name, help) => Arg::new(alloc, name)
-            .help(help)
-            .long(name)
-            .action(ArgAction::SetTrue),
-        Argument::Number(name, value, least, most, is_needed, help) => Arg::new(alloc, name)
-            .help(help)
-            .long(name)
-            .value_name(value)
-            .value_parser(ValueParser::unsigned(least, most))
-            .required(is_needed),
-        Argument::Choice(name, value, help) => Arg::new(alloc, name)
-            .help(help)
-            .long(name)
-            .value_name(value),
     }
 }

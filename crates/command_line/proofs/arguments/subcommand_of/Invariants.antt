@@ -1,7 +1,7 @@
 use Rattle.std.proofs.Common.{◌≡◌, map, take}
 use Rattle.clap.specs.Words.{app_of}
 use Rattle.command_line.specs.CommandLine.{alone, argument_rule, command_of}
-use Rattle.command_line.proofs.words.subcommand_of.Given as goal
+use Rattle.command_line.proofs.arguments.subcommand_of.Given as goal
 
 abbrev pub invariant-loop-argument : goal.invariant-loop-argument
 invariant-loop-argument l =

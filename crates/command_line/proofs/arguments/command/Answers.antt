@@ -1,7 +1,7 @@
 use Rattle.std.proofs.Common.{ap, ◌∙◌, refl, true}
 use Rattle.clap.specs.{Words.{App}, Simple.{app_of_fields, on_top}}
 use Rattle.command_line.proofs.Parsing.{commands_all, commands_more, joined}
-use Rattle.command_line.proofs.words.command.Goals as goal
+use Rattle.command_line.proofs.arguments.command.Goals as goal
 
 -- with a version
 abbrev versioned : App → App

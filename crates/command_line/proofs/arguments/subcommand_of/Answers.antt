@@ -1,8 +1,8 @@
 use Rattle.std.proofs.{Common.{◌∙◌, List, ap, map, arith}, lemmas.List.{take_all}}
 use Rattle.clap.specs.{Words.{Rule}, Simple.{app_of_fields}}
-use Rattle.command_line.specs.{declared.words.Argument.{Argument}, CommandLine.{alone, argument_rule, command_of}}
+use Rattle.command_line.specs.{declared.arguments.Argument.{Argument}, CommandLine.{alone, argument_rule, command_of}}
 use Rattle.command_line.proofs.Parsing.{added, rules_more}
-use Rattle.command_line.proofs.words.subcommand_of.Goals as goal
+use Rattle.command_line.proofs.arguments.subcommand_of.Goals as goal
 
 pub loop-argument-init : goal.loop-argument-init
 loop-argument-init c = ap app_of_fields c.about-command.ensures ∙ c.new.ensures.app
