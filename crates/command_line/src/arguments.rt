@@ -77,15 +77,15 @@ struct Argument {
 /// What an argument is given as.
 #[derive(Clone, Copy)]
 enum ArgumentKind {
-    /// A word at most.
+    /// A word at its place, or none.
     Word,
-    /// Words.
+    /// Words at their place, or none.
     Words,
-    /// A flag.
+    /// `--NAME`, or not.
     Flag,
-    /// An option with a number, which help calls so, from the least to the most; and whether it has to be there.
+    /// `--NAME` and a number, which help calls so, from the least to the most; and whether it has to be there.
     Number(&'static str, u64, u64, bool),
-    /// An option with a word, which help calls so.
+    /// `--NAME` and a word, which help calls so, or not.
     Choice(&'static str),
 }
 
