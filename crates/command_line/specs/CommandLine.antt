@@ -18,11 +18,11 @@ number_rule name least most = record (new_rule name) { long = Some name; value_n
 abbrev pub needed_rule : Text → ℕ → ℕ → Rule
 needed_rule name least most = record (number_rule name least most) { required = true }
 
--- a word, which may be left out
-abbrev pub word_rule : Text → Rule
-word_rule name = record (new_rule name) { long = Some name; value_names = 1 }
+-- an option with a word, which may be left out
+abbrev pub choice_rule : Text → Rule
+choice_rule name = record (new_rule name) { long = Some name; value_names = 1 }
 
--- words
+-- words at their place, or none
 abbrev pub words_rule : Text → Rule
 words_rule name = record (new_rule name) { range = Some (record { start_inclusive = 1; end_inclusive = usize_max }) }
 
@@ -36,7 +36,7 @@ kind_rule name Word = new_rule name
 kind_rule name Words = words_rule name
 kind_rule name Flag = flag_rule name
 kind_rule name (Number value least most needed) = record (number_rule name least most) { required = needed }
-kind_rule name (Choice value) = word_rule name
+kind_rule name (Choice value) = choice_rule name
 
 -- an argument
 abbrev pub argument_rule : Argument → Rule
@@ -50,7 +50,7 @@ command_of name rules = record (new_shape name) { rules = rules }
 abbrev pub replay_shape : Shape
 replay_shape = command_of (codes "replay") (
     file_rule ∷ flag_rule (codes "events") ∷ flag_rule (codes "columns") ∷ flag_rule (codes "json") ∷ flag_rule (codes "html")
-    ∷ flag_rule (codes "raw") ∷ word_rule (codes "names") ∷ flag_rule (codes "over-gates") ∷ flag_rule (codes "explain") ∷ [])
+    ∷ flag_rule (codes "raw") ∷ choice_rule (codes "names") ∷ flag_rule (codes "over-gates") ∷ flag_rule (codes "explain") ∷ [])
 
 -- `check`
 abbrev pub check_shape : Shape
@@ -64,8 +64,8 @@ explain_shape = command_of (codes "explain") (new_rule (codes "CALL") ∷ new_ru
 abbrev pub outcomes_shape : Shape
 outcomes_shape = command_of (codes "outcomes") (
     file_rule ∷ flag_rule (codes "schedules") ∷ flag_rule (codes "columns") ∷ flag_rule (codes "model") ∷ flag_rule (codes "ends")
-    ∷ flag_rule (codes "json") ∷ flag_rule (codes "html") ∷ flag_rule (codes "raw") ∷ word_rule (codes "names")
-    ∷ word_rule (codes "save") ∷ number_rule (codes "limit") 1 4294967295 ∷ flag_rule (codes "no-reduction") ∷ [])
+    ∷ flag_rule (codes "json") ∷ flag_rule (codes "html") ∷ flag_rule (codes "raw") ∷ choice_rule (codes "names")
+    ∷ choice_rule (codes "save") ∷ number_rule (codes "limit") 1 4294967295 ∷ flag_rule (codes "no-reduction") ∷ [])
 
 -- `run`
 abbrev pub run_shape : Shape
