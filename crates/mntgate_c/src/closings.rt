@@ -1,8 +1,8 @@
 //! Gates closed by a handle, and what their words hold then.
 
-ghost use Rattle.std.specs.Prelude.{◌≡◌, ◌<◌, ℕ, true, false, Err, OnOk, length, slice_index, slice_index_or};
-ghost use Rattle.access_model.specs.declared.errors.GateError.TheVariants.{Busy, Invalid, Order};
-ghost use Rattle.vfs_gates.specs.Ended.{HasAll};
+ghost use Rattle.std.specs.Prelude.{◌≡◌, ◌<◌, ◌⊎◌, ℕ, true, false, Err, IfErr, IfOk, OnOk, length, slice_index, slice_index_or};
+ghost use Rattle.access_model.specs.declared.errors.GateError.TheVariants.{Busy, Invalid, NoMemory, Order};
+ghost use Rattle.vfs_gates.specs.Ended.{EndedWith, HasAll};
 ghost use Rattle.mntgate_c.specs.Closings.{ClosedWith, IsValue, name_asked, no_word};
 
 use crate::events::WordRecord;
@@ -67,6 +67,35 @@ fn write_values(closed: &Closed, asked: &[WordRecord], values: &mut [u64])
 }
 
 impl TaskHandle {
+    /// Closes the gates, whose last task this is, and leaves the handle without one.
+    ///
+    /// # Errors
+    ///
+    /// Order unless the task rests and has all other numbers, and Busy if another handle has the gates still: then the task is as it was.
+    /// NoMemory if another handle has the gates still, and there was no memory to keep the task.
+    fn take_closed(&mut self, alloc: Global) -> Result<Closed, GateError>
+        requires { self.old.full ≡ true }
+        ensures closed { IfOk result (λ c. (self.new.full ≡ false) × HasAll self.old.state × (c.config ≡ self.old.state.config)
+            × EndedWith c.config c.words self.old.state.items self.old.state.seen) }
+        ensures refused { IfErr result (λ e. (e ≡ Order) ⊎ (e ≡ Busy) ⊎ (e ≡ NoMemory)) }
+        ensures order { result ≡ Err Order → (self.new.full ≡ true) × (self.new.state ≡ self.old.state) × ¬ HasAll self.old.state }
+        ensures busy { result ≡ Err Busy → (self.new.full ≡ true) × (self.new.state ≡ self.old.state) }
+    {
+        if !self.member().task.has_all() {
+            return Err(GateError::Order);
+        }
+        match Box::into_inner(self.take(alloc)).close() {
+            Ok(closed) => Ok(closed),
+            Err(back) => match Box::new(alloc, back) {
+                Ok(member) => {
+                    self.put(member);
+                    Err(GateError::Busy)
+                }
+                Err(_) => Err(GateError::NoMemory),
+            },
+        }
+    }
+
     /// Closes the gates, whose last task this is, and leaves the handle without one. Writes to `values` what each word that is asked for
     /// holds at the end, and 0 for a word that there isn't.
     ///
@@ -91,21 +120,8 @@ impl TaskHandle {
         if asked.len() != values.len() {
             return Err(GateError::Invalid);
         }
-        if !self.member().task.has_all() {
-            return Err(GateError::Order);
-        }
-        match Box::into_inner(self.take(alloc)).close() {
-            Ok(closed) => {
-                write_values(&closed, asked, values);
-                Ok(())
-            }
-            Err(back) => match Box::new(alloc, back) {
-                Ok(member) => {
-                    self.put(member);
-                    Err(GateError::Busy)
-                }
-                Err(_) => Err(GateError::NoMemory),
-            },
-        }
+        let closed = self.take_closed(alloc)?;
+        write_values(&closed, asked, values);
+        Ok(())
     }
 }

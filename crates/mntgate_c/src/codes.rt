@@ -13,18 +13,8 @@ fn refusal_code(refusal: GateError) -> u32
     ensures { answer_of result ≡ Err refusal }
 {
     match refusal {
-        GateError::NoEntry => 2,
-        GateError::Again => 11,
-        GateError::NoMemory => 12,
-        GateError::Busy => 16,
-        GateError::NotDir => 20,
-        GateError::IsDir => 21,
-        GateError::Invalid => 22,
-        GateError::TooMany => 24,
-        GateError::NoSpace => 28,
-        GateError::ReadOnly => 30,
-        GateError::Order => 35,
         GateError::Hook(code) => HOOK + u32::from(code),
+        _ => u32::from(refusal.number()),
     }
 }
 
