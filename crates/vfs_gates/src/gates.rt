@@ -18,9 +18,15 @@ use std::alloc::Global;
 /// let (gates, mut first) = Gates::new(alloc, config)?;
 /// let second = first.split(alloc, &gates)?;
 /// ```
-#[derive(Drop)]
 pub struct Gates {
     pub(crate) words: GateWords,
+}
+
+/// Written out, so that a crate which lets gates go proves one call of this, and not anew what becomes of each word.
+impl Drop for Gates {
+    fn drop(self) {
+        let Gates { words: _ } = self;
+    }
 }
 
 impl Gates {
