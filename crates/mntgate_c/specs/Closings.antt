@@ -1,10 +1,10 @@
 -- What C is told of the words of closed gates.
 use Rattle.std.specs.Prelude.{◌≡◌, ℕ, ◌*◌, ◌%◌, ◌<◌, ◌==◌, nat_le, if◌then◌else◌, Option, Some, None, List, length, slice_index, slice_index_or}
-use Rattle.access_model.specs.declared.actions.Gate.{Gate, TheVariants.{Mount, Level}}
+use Rattle.access_model.specs.declared.{actions.Gate.{Gate, TheVariants.{Mount, Level}}, errors.GateError.{GateError, TheVariants.{Busy, NoMemory, Order}}}
 use Rattle.cpu_words.specs.{Names.{IsWord, place, stride}, declared.names.WordName.{WordName}}
 use Rattle.finite_sums.specs.Sums.{total}
 use Rattle.gate_world.specs.Configs.{extents_of}
-use Rattle.vfs_gates.specs.{Ended.{ClosedState, EndedWith}, Sums.{count_word, IsGate}, TaskStates.{SeatedTask}}
+use Rattle.vfs_gates.specs.{Ended.{ClosedState, EndedWith, HasAll}, Sums.{count_word, IsGate}, TaskStates.{SeatedTask}}
 use Rattle.mntgate_c.specs.{Events.{word_at}, declared.events.WordRecord.{WordRecord}}
 
 -- the word that is asked for
@@ -18,6 +18,13 @@ gate_asked r = if r.kind == 15 then Some (Mount r.first) else if r.kind == 16 th
 -- where none is asked for
 abbrev pub no_word : WordRecord
 no_word = record { kind = 0; first = 0; second = 0 }
+
+-- why a task does not close its gates
+abbrev pub CloseIsRefused : SeatedTask → GateError → Type 0
+CloseIsRefused s Order = ¬ HasAll s
+CloseIsRefused s Busy = HasAll s
+CloseIsRefused s NoMemory = HasAll s
+CloseIsRefused s e = ⊥
 
 -- The value of the word that was asked for, or the wrapping sum of a gate's counts, which is 0; 0 where there is no such word or gate.
 pub record IsValue (e : ClosedState) (asked : WordRecord) (value : ℕ) : Type 0 where

@@ -1,9 +1,9 @@
 //! Gates closed by a handle, and what their words hold then.
 
-ghost use Rattle.std.specs.Prelude.{◌≡◌, ◌<◌, ◌⊎◌, ℕ, true, false, Err, IfErr, IfOk, OnOk, length, slice_index, slice_index_or};
-ghost use Rattle.access_model.specs.declared.errors.GateError.TheVariants.{Busy, Invalid, NoMemory, Order};
+ghost use Rattle.std.specs.Prelude.{◌≡◌, ◌<◌, ℕ, true, false, Err, IfErr, IfOk, OnOk, length, slice_index, slice_index_or};
+ghost use Rattle.access_model.specs.declared.errors.GateError.TheVariants.{Busy, Invalid, Order};
 ghost use Rattle.vfs_gates.specs.Ended.{EndedWith, HasAll};
-ghost use Rattle.mntgate_c.specs.Closings.{ClosedWith, IsValue, name_asked, no_word};
+ghost use Rattle.mntgate_c.specs.Closings.{CloseIsRefused, ClosedWith, IsValue, name_asked, no_word};
 
 use crate::events::WordRecord;
 use crate::handles::TaskHandle;
@@ -47,10 +47,7 @@ fn value(closed: &Closed, asked: WordRecord) -> u64
     let value = match asked.kind {
         15 => closed.gate_sum(Gate::Mount(asked.first)),
         16 => closed.gate_sum(Gate::Level(asked.first)),
-        _ => match word_name(asked) {
-            Some(name) => closed.word(name),
-            None => None,
-        },
+        _ => word_name(asked).and_then(|name| closed.word(name)),
     };
     value.unwrap_or(0)
 }
@@ -77,8 +74,8 @@ impl TaskHandle {
         requires { self.old.full ≡ true }
         ensures closed { IfOk result (λ c. (self.new.full ≡ false) × HasAll self.old.state × (c.config ≡ self.old.state.config)
             × EndedWith c.config c.words self.old.state.items self.old.state.seen) }
-        ensures refused { IfErr result (λ e. (e ≡ Order) ⊎ (e ≡ Busy) ⊎ (e ≡ NoMemory)) }
-        ensures order { result ≡ Err Order → (self.new.full ≡ true) × (self.new.state ≡ self.old.state) × ¬ HasAll self.old.state }
+        ensures why { IfErr result (CloseIsRefused self.old.state) }
+        ensures order { result ≡ Err Order → (self.new.full ≡ true) × (self.new.state ≡ self.old.state) }
         ensures busy { result ≡ Err Busy → (self.new.full ≡ true) × (self.new.state ≡ self.old.state) }
     {
         if !self.member().task.has_all() {
@@ -114,7 +111,8 @@ impl TaskHandle {
         ensures words { OnOk result (ClosedWith self.old.state asked.now values.new) }
         ensures length { length values.new ≡ length values.old }
         ensures many { ¬ (length asked.now ≡ length values.old) → (result ≡ Err Invalid) × (self.new.full ≡ true) × (self.new.state ≡ self.old.state) }
-        ensures refused { result ≡ Err Order → (self.new.full ≡ true) × (self.new.state ≡ self.old.state) × ¬ HasAll self.old.state }
+        ensures why { length asked.now ≡ length values.old → IfErr result (CloseIsRefused self.old.state) }
+        ensures order { result ≡ Err Order → (self.new.full ≡ true) × (self.new.state ≡ self.old.state) }
         ensures busy { result ≡ Err Busy → (self.new.full ≡ true) × (self.new.state ≡ self.old.state) }
     {
         if asked.len() != values.len() {

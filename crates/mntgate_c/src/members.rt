@@ -6,7 +6,7 @@ ghost use Rattle.vfs_gates.specs.Held.{Rests};
 ghost use Rattle.vfs_gates.specs.Ended.{HasAll, EndedWith, HasOpeningWords};
 ghost use Rattle.vfs_gates.specs.Parts.{SplitOf};
 ghost use Rattle.mntgate_c.specs.Openings.{SplitIsRefused};
-ghost use Rattle.access_model.specs.declared.errors.GateError.TheVariants.{Invalid, NoMemory, Order};
+ghost use Rattle.access_model.specs.declared.errors.GateError.TheVariants.{Invalid, NoMemory};
 
 use std::alloc::Global;
 use std::marker::Model;
@@ -37,10 +37,7 @@ fn boxed(alloc: Global, member: Member) -> Result<Box<Member, Global>, GateError
     ensures made { IfOk result (λ b. b.value ≡ member) }
     ensures memory { IfErr result (λ e. e ≡ NoMemory) }
 {
-    match Box::new(alloc, member) {
-        Ok(boxed) => Ok(boxed),
-        Err(_) => Err(GateError::NoMemory),
-    }
+    Box::new(alloc, member).map_err(|_| GateError::NoMemory)
 }
 
 impl Member {
@@ -57,30 +54,23 @@ impl Member {
         ensures memory { IsWithin config → IfErr result (λ e. e ≡ NoMemory) }
     {
         let (gates, task) = Gates::new(alloc, config)?;
-        let Ok(gates) = Arc::new(alloc, gates) else {
-            return Err(GateError::NoMemory);
-        };
+        let gates = Arc::new(alloc, gates).map_err(|_| GateError::NoMemory)?;
         boxed(alloc, Member { gates, task })
     }
 
-    /// Splits off a task with the lowest number that this one has to give.
+    /// Splits off a task with the lowest number that this one has to give. This one rests, so it can take the number back where there is no
+    /// memory for the new one's block.
     ///
     /// # Errors
     ///
-    /// Order unless this task rests: so it can take the number back, where there is no memory for the new one's block. TooMany where no
-    /// number is left, NoMemory where a growth was refused.
+    /// TooMany where no number is left, NoMemory where a growth was refused.
     pub(crate) fn split(&mut self, alloc: Global) -> Result<Box<Member, Global>, GateError>
+        requires { Rests self.old }
         ensures made { IfOk result (λ b. SplitOf self.old self.new b.value) }
         ensures rests { IfOk result (λ b. Rests b.value × Rests self.new) }
-        ensures order { result ≡ Err Order → self.new ≡ self.old }
         ensures refused { IfErr result (SplitIsRefused self.old) }
     {
-        if !self.task.rests() {
-            return Err(GateError::Order);
-        }
-        let Ok(gates) = Arc::try_clone(&self.gates) else {
-            return Err(GateError::NoMemory);
-        };
+        let gates = Arc::try_clone(&self.gates)?;
         let task = self.task.split(alloc, &self.gates)?;
         match Box::new(alloc, Member { gates, task }) {
             Ok(boxed) => Ok(boxed),

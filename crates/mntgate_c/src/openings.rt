@@ -82,6 +82,9 @@ impl TaskHandle {
         ensures order { result ≡ Err Order → self.new.state ≡ self.old.state }
         ensures why { IfErr result (SplitIsRefused self.old.state) }
     {
+        if !self.member().task.rests() {
+            return Err(GateError::Order);
+        }
         other.put(self.member().split(alloc)?);
         Ok(())
     }

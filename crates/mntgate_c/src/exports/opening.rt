@@ -6,7 +6,7 @@ ghost use Rattle.gate_world.specs.Configs.{IsWithin};
 ghost use Rattle.vfs_gates.specs.Ended.{HasAll, HasOpeningWords};
 ghost use Rattle.vfs_gates.specs.Held.{Rests};
 ghost use Rattle.vfs_gates.specs.Parts.{SplitOf};
-ghost use Rattle.mntgate_c.specs.Closings.{ClosedWith};
+ghost use Rattle.mntgate_c.specs.Closings.{CloseIsRefused, ClosedWith};
 ghost use Rattle.mntgate_c.specs.Codes.{answer_of};
 ghost use Rattle.mntgate_c.specs.Openings.{SplitIsRefused, config_of};
 
@@ -82,7 +82,8 @@ pub extern "C" fn mntgate_close_words(
     ensures words { OnOk (answer_of result) (ClosedWith task.old.state asked.now values.new) }
     ensures length { length values.new ≡ length values.old }
     ensures many { ¬ (length asked.now ≡ length values.old) → (answer_of result ≡ Err Invalid) × (task.new.full ≡ true) × (task.new.state ≡ task.old.state) }
-    ensures refused { answer_of result ≡ Err Order → (task.new.full ≡ true) × (task.new.state ≡ task.old.state) × ¬ HasAll task.old.state }
+    ensures why { length asked.now ≡ length values.old → IfErr (answer_of result) (CloseIsRefused task.old.state) }
+    ensures order { answer_of result ≡ Err Order → (task.new.full ≡ true) × (task.new.state ≡ task.old.state) }
     ensures busy { answer_of result ≡ Err Busy → (task.new.full ≡ true) × (task.new.state ≡ task.old.state) }
 {
     code(task.close(alloc, asked, values))
