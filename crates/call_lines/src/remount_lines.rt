@@ -131,10 +131,7 @@ fn hold_mounts(
     let mut mount = 0u8;
     let mut held = MountSet::empty();
     loop {
-        let Some(further) = hold_mount(gates, seat, accesses, remount, mount, held, rest) else {
-            return None;
-        };
-        held = further;
+        held = hold_mount(gates, seat, accesses, remount, mount, held, rest)?;
         match following(mount, remount.mounts) {
             Some(next) => mount = next,
             None => return Some(held),

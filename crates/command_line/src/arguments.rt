@@ -281,11 +281,7 @@ pub(crate) fn command<'a>(alloc: Global) -> Result<Command<'a>, AllocError>
         .version(VERSION)
         .subcommand_required(true);
     for subcommand in SUBCOMMANDS.iter() {
-        let Ok(sub) = subcommand_of(alloc, subcommand) else {
-            drop(program);
-            return Err(AllocError);
-        };
-        program = program.subcommand(sub)?;
+        program = program.subcommand(subcommand_of(alloc, subcommand)?)?;
     }
     Ok(program)
 }

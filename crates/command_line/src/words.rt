@@ -178,16 +178,8 @@ pub fn read_words<'a, E: Write>(
 {
     let command = command(alloc)?;
     match command.try_get_matches_from(words) {
-        Ok(matches) => {
-            let asked = request_of(alloc, &matches, errors);
-            drop(matches);
-            asked
-        }
-        Err(error) => {
-            let asked = answer_of(alloc, &error, errors);
-            drop(error);
-            asked
-        }
+        Ok(matches) => request_of(alloc, &matches, errors),
+        Err(error) => answer_of(alloc, &error, errors),
     }
 }
 
@@ -379,7 +371,6 @@ fn check_of<'a, E: Write>(
         return Ok(ProgramRequest::Check(files));
     }
     if files.is_empty() || files.contains(&"-") {
-        drop(files);
         let why = "the argument '--bless' needs files: standard input can't be written";
         return Ok(misused(why, "check [OPTIONS] [FILE]...", errors));
     }

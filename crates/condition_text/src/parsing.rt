@@ -110,7 +110,6 @@ pub fn parse(alloc: Global, names: &Names, text: &[u8]) -> Result<Condition, Con
     if piece_at(text, at).is_empty() {
         Ok(condition)
     } else {
-        drop(condition);
         Err(ConditionFault::Unexpected(unexpected(text, at, Expected::End)))
     }
 }
@@ -237,10 +236,7 @@ fn numbered_call_at(
 fn calls_of(names: &Names, task: u8) -> u8
     ensures { result ≡ slice_index names.now.calls.items task }
 {
-    match names.calls.get(task as usize) {
-        Some(calls) => *calls,
-        None => 0,
-    }
+    names.calls.get(task as usize).copied().unwrap_or(0)
 }
 
 /// Reads what stands behind the number of a call.

@@ -36,16 +36,15 @@ pub fn read_bytes<R: Files + Alloc<A = Global>, I: Read, E: Write>(
     ensures refused { IfErr result (λ ending. ending ≡ Refused) }
 {
     match file {
-        Some(file) if !is_input(Some(file)) => match fs::read(rt, file) {
-            Ok(bytes) => Ok(bytes),
-            Err(error) => Err(unopened(Some(file), &error, errors)),
-        },
+        Some(file) if !is_input(Some(file)) => {
+            fs::read(rt, file).map_err(|error| unopened(Some(file), &error, errors))
+        }
         _ => {
             let mut bytes = Vec::new(alloc);
-            match reader.read_to_end(&mut bytes) {
-                Ok(_) => Ok(bytes),
-                Err(error) => Err(unopened(None, &error, errors)),
-            }
+            reader
+                .read_to_end(&mut bytes)
+                .map_err(|error| unopened(None, &error, errors))?;
+            Ok(bytes)
         }
     }
 }

@@ -348,9 +348,7 @@ pub fn in_threads<R: Threads + Wait + Sync, W: RunObserver + Sync>(
             let mut task = task;
             let mut workers = Vec::new(alloc);
             let starter = Starter { scope, rt, alloc };
-            let met = run_threads(&starter, gates, plan, watch, &mut task, &mut workers);
-            drop(workers);
-            let met = met?;
+            let met = run_threads(&starter, gates, plan, watch, &mut task, &mut workers)?;
             Ok((task, met))
         },
     )

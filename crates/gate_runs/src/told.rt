@@ -37,10 +37,7 @@ pub fn run_told<R: Threads + Wait + Clock + Sync, P: RunObserver + Sync, W: Writ
         Ok((totals, details, _)) => (totals, details),
         Err(refusal) => return refused(refusal, errors),
     };
-    let took = match start {
-        Some(start) => start.elapsed(rt).ok(),
-        None => None,
-    };
+    let took = start.and_then(|start| start.elapsed(rt).ok());
     let mut lines = String::new(alloc);
     if add_rows(&mut lines, count, totals, details, took).is_err() {
         return refused(GateError::NoMemory, errors);

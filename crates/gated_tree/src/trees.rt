@@ -183,12 +183,10 @@ impl Tree {
         ensures { let words = words_of self.now in
             IsTrue result ↔ HasDirectory (length words.nodes) (node_at words) (node_at words node) }
     {
-        match self.node(node) {
-            Some(info) => {
-                matches!(self.node(info.parent), Some(parent) if parent.kind == Kind::Dir)
-            }
-            None => true,
-        }
+        self.node(node).is_none_or(|info| {
+            self.node(info.parent)
+                .is_some_and(|parent| parent.kind == Kind::Dir)
+        })
     }
 
     /// Whether a node is there and dirty.

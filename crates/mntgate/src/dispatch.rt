@@ -52,9 +52,7 @@ pub fn run<
     ensures ran { IfOk result (λ ending. ending ≡ Ran → WasSomeRun) }
 {
     let asked = read_words(alloc, words, errors)?;
-    let ended = do_asked(rt, alloc, &asked, reader, writer, errors, person);
-    drop(asked);
-    ended
+    do_asked(rt, alloc, &asked, reader, writer, errors, person)
 }
 
 /// Does what is asked for.
@@ -132,10 +130,9 @@ fn run_threads<R: Threads + Wait + Clock + Sync, W: Write, E: Write>(
         Ok(plan) => plan,
         Err(refusal) => return refused(refusal, errors),
     };
-    let progress = match watched {
-        Some(stderr) => Progress::new(rt, tasks, rounds, freezes, stderr).ok(),
-        None => None,
-    };
+    let progress = watched.and_then(|stderr| Progress::new(
+        rt, tasks, rounds, freezes, stderr,
+    ).ok());
     let count = count_of(tells);
     match progress {
         Some(progress) => run_told(rt, alloc, plan, count, &progress, writer, errors),

@@ -9,7 +9,7 @@ use crate::dispatch::run;
 use access_model::GateError;
 use exit_status::{ProgramEnding, refused, unreadable};
 use program_replay::Terminal;
-use std::alloc::{AllocError, Global};
+use std::alloc::Global;
 use std::io::{IsTerminal, Stderr};
 use std::process::ExitCode;
 
@@ -35,12 +35,7 @@ fn main(rt: HostRuntime) -> ExitCode {
                 &mut errors,
                 person,
             );
-            // Before any way out, so that it is dropped in one place.
-            drop(words);
-            match ended {
-                Ok(ending) => ending,
-                Err(AllocError) => refused(GateError::NoMemory, &mut errors),
-            }
+            ended.unwrap_or_else(|_| refused(GateError::NoMemory, &mut errors))
         }
         Err(ending) => ending,
     };
@@ -57,11 +52,8 @@ fn words_of(
     alloc: Global,
     errors: &mut Stderr,
 ) -> Result<Vec<String>, ProgramEnding> {
-    match std::env::args(rt) {
-        Ok(words) => match words.collect(alloc) {
-            Ok(words) => Ok(words),
-            Err(AllocError) => Err(refused(GateError::NoMemory, errors)),
-        },
-        Err(error) => Err(unreadable(&error, errors)),
-    }
+    let words = std::env::args(rt).map_err(|error| unreadable(&error, errors))?;
+    words
+        .collect(alloc)
+        .map_err(|_| refused(GateError::NoMemory, errors))
 }

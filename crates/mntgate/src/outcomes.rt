@@ -82,11 +82,7 @@ fn answer_outcomes<R: Files + Clock + Alloc<A = Global>, W: Write, E: Write>(
     let mut told = Output::new(rt.alloc());
     let mut watch = SearchProgress::new(rt, watched);
     match answer_race(rt, asked, bytes, &mut watch, &mut told, errors) {
-        Ok(answered) => {
-            let ending = write_told(&told, &answered, writer, errors);
-            drop(answered);
-            ending
-        }
+        Ok(answered) => write_told(&told, &answered, writer, errors),
         Err(ending) => ending,
     }
 }
@@ -141,10 +137,10 @@ fn answer_race<R: Files + Clock + Alloc<A = Global>, E: Write>(
         IfOk result (λ answered. TellsRace asked.entry answered.is_whole bytes.now told.old.bytes.items told.new.bytes.items) }
 {
     let alloc = rt.alloc();
-    match read_race(alloc, bytes) {
-        Ok(file) => answer_file(rt, asked, bytes, file, watch, told, errors),
-        Err(fault) => Err(tell_fault(alloc, bytes, fault, asked.file, errors)),
-    }
+    let file = read_race(alloc, bytes).map_err(|fault| tell_fault(
+        alloc, bytes, fault, asked.file, errors,
+    ))?;
+    answer_file(rt, asked, bytes, file, watch, told, errors)
 }
 
 /// Tells the outcomes of a race that was read from these bytes, and what its claims come to.
@@ -173,13 +169,10 @@ fn answer_file<R: Files + Clock + Alloc<A = Global>, E: Write>(
     let answered = list_judged(source, core, asked, watch, told);
     watch.end();
     match answered {
-        Ok(answered) => match save(rt, source, &answered.listing, asked, errors) {
-            Ok(()) => Ok(answered),
-            Err(ending) => {
-                drop(answered);
-                Err(ending)
-            }
-        },
+        Ok(answered) => {
+            save(rt, source, &answered.listing, asked, errors)?;
+            Ok(answered)
+        }
         Err(stop) => Err(stopped(stop, asked, errors)),
     }
 }
@@ -223,21 +216,13 @@ fn list_judged<W: Observer>(
     let listing = list_race(source, core, asked, watch, told)?;
     tell_verdicts(asked, &verdicts, told);
     let is_whole = listing.all.found.is_whole();
-    if verdicts.settled().is_err() {
-        drop(listing);
-        return Err(Stop::NoMemory);
-    }
-    match told.settled() {
-        Ok(()) => Ok(Answered {
-            listing,
-            is_whole,
-            judged,
-        }),
-        Err(AllocError) => {
-            drop(listing);
-            Err(Stop::NoMemory)
-        }
-    }
+    verdicts.settled()?;
+    told.settled()?;
+    Ok(Answered {
+        listing,
+        is_whole,
+        judged,
+    })
 }
 
 /// Judges what a file claims of its race, and tells the verdicts.

@@ -18,13 +18,7 @@ pub(crate) struct SearchProgress<'r, R> {
 impl<'r, R: Clock> SearchProgress<'r, R> {
     /// That of a search that begins now. Where the clock can't be read, nobody is told.
     pub(crate) fn new(rt: &'r R, errors: Option<Stderr>) -> SearchProgress<'r, R> {
-        let watched = match errors {
-            Some(errors) => match Instant::now(rt) {
-                Ok(start) => Some((start, errors)),
-                Err(_) => None,
-            },
-            None => None,
-        };
+        let watched = errors.and_then(|errors| Some((Instant::now(rt).ok()?, errors)));
         SearchProgress {
             rt,
             watched,

@@ -497,10 +497,7 @@ impl Model {
     {
         let mut used: u64 = 0;
         for node in &self.nodes {
-            used += match node {
-                Some(info) => u64::from(info.size),
-                None => 0,
-            };
+            used += node.map_or(0, |info| u64::from(info.size));
         }
         used
     }
@@ -625,30 +622,22 @@ impl Model {
     fn is_file(&self, node: u8) -> bool
         ensures { IsTrue result ↔ ((node < (limits_of self.now).nodes) × IsFile ((state_of self.now).tree node)) }
     {
-        match self.tree(node) {
-            Some(info) => info.kind == Kind::File,
-            None => false,
-        }
+        self.tree(node).is_some_and(|info| info.kind == Kind::File)
     }
 
     /// Whether a node is a file that wasn't removed.
     fn is_linked(&self, node: u8) -> bool
         ensures { IsTrue result ↔ ((node < (limits_of self.now).nodes) × IsLinkedFile ((state_of self.now).tree node)) }
     {
-        match self.tree(node) {
-            Some(info) => info.kind == Kind::File && !info.removed,
-            None => false,
-        }
+        self.tree(node)
+            .is_some_and(|info| info.kind == Kind::File && !info.removed)
     }
 
     /// Whether a node is a directory.
     fn is_directory(&self, node: u8) -> bool
         ensures { IsTrue result ↔ ((node < (limits_of self.now).nodes) × IsDirectory ((state_of self.now).tree node)) }
     {
-        match self.tree(node) {
-            Some(info) => info.kind == Kind::Dir,
-            None => false,
-        }
+        self.tree(node).is_some_and(|info| info.kind == Kind::Dir)
     }
 
     /// Whether a file may grow by this many blocks.

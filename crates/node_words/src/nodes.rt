@@ -133,16 +133,13 @@ impl NodeWord {
         ensures { result ≡ node_shown word }
     {
         let node = NodeWord::fields(word);
-        match node.kind {
-            Some(kind) => Some(NodeInfo {
-                kind,
-                parent: node.parent,
-                size: node.size,
-                dirty: node.dirty,
-                removed: node.removed,
-            }),
-            None => None,
-        }
+        Some(NodeInfo {
+            kind: node.kind?,
+            parent: node.parent,
+            size: node.size,
+            dirty: node.dirty,
+            removed: node.removed,
+        })
     }
 
     /// The file of a word, or why a call refuses it; None where the word is no node's.

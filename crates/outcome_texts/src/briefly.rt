@@ -10,7 +10,7 @@ use exploration::{Stop, Unobserved};
 use gate_core::Core;
 use races::Race;
 use schedule_text::Output;
-use std::alloc::{AllocError, Global};
+use std::alloc::Global;
 
 /// Prints the outcomes of a race on this core, of no more states than the limit: how many states and outcomes there are, and then a line for each
 /// outcome. Returns whether these are all.
@@ -36,11 +36,8 @@ pub fn print_briefly(
     let are_all = listing.all.found.is_whole();
     print_counts(&listing, out);
     print_lines(listing.outcomes.as_slice(), out);
-    drop(listing);
-    match out.settled() {
-        Ok(()) => Ok(are_all),
-        Err(AllocError) => Err(Stop::NoMemory),
-    }
+    out.settled()?;
+    Ok(are_all)
 }
 
 /// Prints how many states and outcomes there are.

@@ -91,10 +91,10 @@ fn bless<R: Files + Alloc<A = Global>, I: Read, E: Write>(
         file: Some(file),
         bytes: bytes.as_slice(),
     };
-    match blessed(alloc, source) {
-        Ok(lines) => write_new(rt, alloc, file, source.bytes, &lines, errors),
-        Err(stopped) => Err(tell_stopped(alloc, source, stopped, errors)),
-    }
+    let lines = blessed(alloc, source).map_err(|stopped| tell_stopped(
+        alloc, source, stopped, errors,
+    ))?;
+    write_new(rt, alloc, file, source.bytes, &lines, errors)
 }
 
 /// Tells why a file can't be made to say what it prints.
@@ -129,10 +129,12 @@ fn write_new<R: Files, E: Write>(
     if lines.bytes.as_slice() == others {
         return Ok(false);
     }
-    match replace(rt, alloc, file, lines.bytes.as_slice()) {
-        Ok(()) => Ok(true),
-        Err(error) => Err(unopened(Some(file), &error, errors)),
-    }
+    replace(rt, alloc, file, lines.bytes.as_slice()).map_err(|error| unopened(
+        Some(file),
+        &error,
+        errors,
+    ))?;
+    Ok(true)
 }
 
 /// Writes a file beside this one, and puts it in its place, so that none is lost if a write fails.

@@ -124,7 +124,6 @@ impl Comparison<'_> {
             Err(fault) => return self.stop(alloc, source, Stopped::Fault(fault)),
         };
         if let Some(text) = bad_claim_in(alloc, source, &file)? {
-            drop(file);
             self.passed = false;
             self.told.put(text.as_str());
             self.told.put("\n");
@@ -225,7 +224,5 @@ fn judge_claims(
         margin: b"  ",
         style: Style::of(false, false),
     };
-    let judged = tell_claims(source, &core, STATES, form, &mut Unobserved, told);
-    drop(core);
-    judged
+    tell_claims(source, &core, STATES, form, &mut Unobserved, told)
 }

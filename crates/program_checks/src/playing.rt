@@ -10,7 +10,7 @@ use race_files::setting_up::{SetUpObserver, do_setting};
 use race_files::{Lines, RaceFault, RaceFile};
 use schedule_lines::bytes::ReplayFault;
 use schedule_text::{Fault, LINES, Output};
-use std::alloc::{AllocError, Global};
+use std::alloc::Global;
 use transcripts::Session;
 
 /// How many states a race may have here.
@@ -61,7 +61,6 @@ impl<'a> Source<'a> {
         match set_up {
             Ok(session) => {
                 let done = print_race(alloc, &session, &mut lines, &mut printed);
-                drop(session);
                 watch.take(&lines, &mut printed);
                 done
             }
@@ -72,10 +71,7 @@ impl<'a> Source<'a> {
 
     /// Whether the file is named as a race.
     fn is_named_race(self) -> bool {
-        match self.file {
-            Some(file) => file.ends_with(RACE),
-            None => false,
-        }
+        self.file.is_some_and(|file| file.ends_with(RACE))
     }
 }
 
@@ -88,12 +84,10 @@ fn print_race(
 ) -> Result<(), Stopped> {
     let rest = lines.rest();
     let said = first_said(rest);
-    let file = match RaceFile::read(alloc, session, lines) {
-        Ok(file) => file,
-        Err(fault) => return Err(Stopped::Fault(lines.fault(fault))),
-    };
+    let file = RaceFile::read(alloc, session, lines).map_err(|fault| Stopped::Fault(lines.fault(
+        fault,
+    )))?;
     if said.is_none() && claims_some(rest) {
-        drop(file);
         return Ok(());
     }
     match print_outcomes(alloc, file, printed) {
@@ -101,10 +95,7 @@ fn print_race(
             if said == Some(OUTCOMES) {
                 leave_counts_out(alloc, printed);
             }
-            match printed.settled() {
-                Ok(()) => Ok(()),
-                Err(AllocError) => Err(refused(lines)),
-            }
+            printed.settled().map_err(|_| refused(lines))
         }
         Ok(false) => {
             printed.clear();

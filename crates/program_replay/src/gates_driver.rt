@@ -51,18 +51,8 @@ impl GatesDriver {
         ensures memory { IsWithin config → IfErr result (λ e. e ≡ NoMemory) }
     {
         let (gates, first) = Gates::new(alloc, config)?;
-        let tasks = match all_tasks(alloc, &gates, first, config.tasks) {
-            Ok(tasks) => tasks,
-            Err(refusal) => {
-                drop(gates);
-                return Err(refusal);
-            }
-        };
-        let Ok(words) = words_at_start(alloc) else {
-            drop(tasks);
-            drop(gates);
-            return Err(GateError::NoMemory);
-        };
+        let tasks = all_tasks(alloc, &gates, first, config.tasks)?;
+        let words = words_at_start(alloc)?;
         Ok(GatesDriver {
             config,
             gates,
@@ -153,10 +143,7 @@ impl Driver for GatesDriver {
         ensures there { (t : SeatedTask) → task < vec_len self.now.tasks → result ≡ asked_by (task_in self.now task t).phase }
         ensures not_there { vec_len self.now.tasks ≤ task → result ≡ None }
     {
-        match self.tasks.get(task as usize) {
-            Some(task) => task.wants_hook(),
-            None => None,
-        }
+        self.tasks.get(task as usize)?.wants_hook()
     }
 
     /// The value of a word, as the events so far have left it; None where the configuration has no such word.
@@ -203,14 +190,8 @@ fn all_tasks(
     ensures memory { IfErr result (λ e. e ≡ NoMemory) }
 {
     let mut tasks = Vec::new(alloc);
-    if let Err(refusal) = split_all(alloc, gates, &mut first, count, &mut tasks) {
-        drop(tasks);
-        drop(first);
-        return Err(refusal);
-    }
-    let Ok(()) = tasks.insert(0, first) else {
-        return Err(GateError::NoMemory);
-    };
+    split_all(alloc, gates, &mut first, count, &mut tasks)?;
+    tasks.insert(0, first).map_err(|_| GateError::NoMemory)?;
     Ok(tasks)
 }
 

@@ -80,10 +80,7 @@ fn open_file<R: Files, E: Write>(
     {
         return Err(folder_told(file, errors));
     }
-    match fs::open(rt, file) {
-        Ok(opened) => Ok(opened),
-        Err(error) => Err(unopened(Some(file), &error, errors)),
-    }
+    fs::open(rt, file).map_err(|error| unopened(Some(file), &error, errors))
 }
 
 /// Replays the schedule of standard input; a person who is to type it is told so.

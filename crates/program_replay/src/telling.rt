@@ -95,10 +95,7 @@ fn show_page<D: Driver, R: Read, W: Write>(
 
 /// Writes out a part of a page.
 fn write_page<W: Write>(out: &mut Output, writer: &mut W) -> Result<(), ReplayFault> {
-    let written = match settled(out) {
-        Ok(()) => write_out(writer, out.bytes.as_slice()),
-        Err(fault) => Err(fault),
-    };
+    let written = settled(out).and_then(|()| write_out(writer, out.bytes.as_slice()));
     out.clear();
     written.map_err(|fault| fault_after(0, fault))
 }

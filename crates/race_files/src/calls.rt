@@ -91,10 +91,8 @@ impl Calls {
         if is_claim(line) {
             return Ok(());
         }
-        match is_race(line) {
-            Ok(false) => {}
-            Ok(true) => return Err(RaceFault::RaceTwice),
-            Err(fault) => return Err(RaceFault::Schedule(fault)),
+        if is_race(line)? {
+            return Err(RaceFault::RaceTwice);
         }
         if first_word(after_word(line)) == b"hook".as_slice() {
             return self.read_hook(alloc, line);
@@ -123,10 +121,8 @@ impl Calls {
             when,
             retries: retries_at(rest),
         };
-        match plain_line(alloc, line) {
-            Ok(plain) => self.read_call(alloc, prefix, plain.as_slice()),
-            Err(refused) => Err(RaceFault::Schedule(no_memory(refused))),
-        }
+        let plain = plain_line(alloc, line).map_err(no_memory)?;
+        self.read_call(alloc, prefix, plain.as_slice())
     }
 
     /// Reads a line that begins an operation, as a call with this prefix.
@@ -137,18 +133,15 @@ impl Calls {
         ensures fault { IfErr result (IsToldOrMemory
             (begin_line self.old.race.calls.items prefix (parsed line.now (Some self.old.race.tasks)))) }
     {
-        match parse(line, Some(self.race.tasks)) {
-            Ok(Line::Skipped) => Ok(()),
-            Ok(
-                Line::Request(
-                    Request::Task {
-                        task,
-                        command: TaskCommand::Begin(op),
-                    },
-                ),
+        match parse(line, Some(self.race.tasks))? {
+            Line::Skipped => Ok(()),
+            Line::Request(
+                Request::Task {
+                    task,
+                    command: TaskCommand::Begin(op),
+                },
             ) => self.add(alloc, task, prefix.call(op), line),
-            Ok(Line::Config(_) | Line::Request(_)) => Err(RaceFault::CallExpected),
-            Err(fault) => Err(RaceFault::Schedule(fault)),
+            Line::Config(_) | Line::Request(_) => Err(RaceFault::CallExpected),
         }
     }
 
@@ -160,22 +153,19 @@ impl Calls {
         ensures fault { IfErr result (IsToldOrMemory
             (hook_line self.old.race.calls.items (parsed (as_run line.now) (Some self.old.race.tasks)))) }
     {
-        match parse_run(alloc, line, self.race.tasks) {
-            Ok(Line::Skipped) => Ok(()),
-            Ok(
-                Line::Request(
-                    Request::Task {
-                        task,
-                        command: TaskCommand::Run {
-                            failure: Some(failure),
-                        },
+        match parse_run(alloc, line, self.race.tasks)? {
+            Line::Skipped => Ok(()),
+            Line::Request(
+                Request::Task {
+                    task,
+                    command: TaskCommand::Run {
+                        failure: Some(failure),
                     },
-                ),
+                },
             ) => self.fail(task, failure),
-            Ok(Line::Config(_) | Line::Request(_)) => {
+            Line::Config(_) | Line::Request(_) => {
                 Err(RaceFault::Schedule(Fault::WrongNumberOfWords))
             }
-            Err(fault) => Err(RaceFault::Schedule(fault)),
         }
     }
 
@@ -190,14 +180,9 @@ impl Calls {
             return Err(RaceFault::Schedule(Fault::NoSuchTask));
         };
         let turn = count_of(calls) as u8;
-        match with_call(*calls, call) {
-            Ok(more) => *calls = more,
-            Err(fault) => return Err(fault),
-        }
-        match self.keep(alloc, task, turn, line) {
-            Ok(()) => Ok(()),
-            Err(refused) => Err(RaceFault::Schedule(no_memory(refused))),
-        }
+        *calls = with_call(*calls, call)?;
+        self.keep(alloc, task, turn, line).map_err(no_memory)?;
+        Ok(())
     }
 
     /// Keeps the line by which a task begins a call.
@@ -219,13 +204,8 @@ impl Calls {
         let Some(calls) = self.race.calls.get_mut(usize::from(task)) else {
             return Err(RaceFault::Schedule(Fault::NoSuchTask));
         };
-        match with_failure(*calls, failure) {
-            Ok(failing) => {
-                *calls = failing;
-                Ok(())
-            }
-            Err(fault) => Err(fault),
-        }
+        *calls = with_failure(*calls, failure)?;
+        Ok(())
     }
 }
 
@@ -324,10 +304,8 @@ fn parse_run(alloc: Global, line: &[u8], tasks: u8) -> Result<Line, Fault>
 {
     let mut run = Output::new(alloc);
     print_run(line, &mut run);
-    match settled(&run) {
-        Ok(()) => parse(run.bytes.as_slice(), Some(tasks)),
-        Err(refused) => Err(refused),
-    }
+    settled(&run)?;
+    parse(run.bytes.as_slice(), Some(tasks))
 }
 
 /// Prints a line with `run` in the place of its second word.

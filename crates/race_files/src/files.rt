@@ -37,13 +37,8 @@ impl RaceFile {
         expect_idle(session.gates())?;
         let core = session.gates().twin().map_err(no_memory)?;
         lines.take();
-        match Calls::read(alloc, core.config().tasks, lines) {
-            Ok(calls) => Ok(RaceFile { core, calls }),
-            Err(fault) => {
-                drop(core);
-                Err(fault)
-            }
-        }
+        let calls = Calls::read(alloc, core.config().tasks, lines)?;
+        Ok(RaceFile { core, calls })
     }
 }
 
@@ -62,10 +57,7 @@ pub fn read_race(alloc: Global, bytes: &[u8]) -> Result<RaceFile, ReplayFault>
     ensures { IfOk result (λ file. IsRaceIn (lines_in 1048576 bytes.now) file.core file.calls.race.calls.items) }
 {
     let mut lines = Lines::new(bytes);
-    match read_lines(alloc, &mut lines) {
-        Ok(file) => Ok(file),
-        Err(fault) => Err(lines.fault(fault)),
-    }
+    read_lines(alloc, &mut lines).map_err(|fault| lines.fault(fault))
 }
 
 fn read_lines(alloc: Global, lines: &mut Lines<'_>) -> Result<RaceFile, RaceFault>

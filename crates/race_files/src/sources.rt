@@ -41,8 +41,8 @@ impl<'a> RaceSource<'a> {
     pub fn gates_behind(self, movers: &[u8]) -> Result<Session<Core>, AllocError> {
         let mut session = self.gates()?;
         let mut unread = Output::new(self.alloc);
-        let moved = print_schedule(self.alloc, self.calls, &mut session, movers, &mut unread);
-        moved.and(Ok(session))
+        print_schedule(self.alloc, self.calls, &mut session, movers, &mut unread)?;
+        Ok(session)
     }
 
     /// Returns a line for each of these moves, which a replay takes: a beginning as it stands in the file, `T step`, or `T step CODE` where the hook
@@ -50,9 +50,8 @@ impl<'a> RaceSource<'a> {
     pub fn schedule(self, movers: &[u8]) -> Result<Output, AllocError> {
         let mut session = self.gates()?;
         let mut schedule = Output::new(self.alloc);
-        let printed = print_schedule(self.alloc, self.calls, &mut session, movers, &mut schedule);
-        drop(session);
-        printed.and(Ok(schedule))
+        print_schedule(self.alloc, self.calls, &mut session, movers, &mut schedule)?;
+        Ok(schedule)
     }
 
     /// Returns moves that lead to the same answers as these, where each task begins a call right before the call's first step; a beginning that no step
@@ -60,8 +59,6 @@ impl<'a> RaceSource<'a> {
     /// are the same.
     pub fn begun_late(self, movers: &[u8]) -> Result<Vec<u8>, AllocError> {
         let mut session = self.gates()?;
-        let late = begin_late(self.alloc, self.calls, &mut session, movers);
-        drop(session);
-        late
+        begin_late(self.alloc, self.calls, &mut session, movers)
     }
 }

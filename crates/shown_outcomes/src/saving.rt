@@ -38,17 +38,14 @@ pub fn save_outcomes<R: Files + Alloc<A = Global>, E: Write>(
     requires within { All (λ outcome. outcome.end < length listing.now.all.found.states) listing.now.outcomes.items }
     ensures { IfErr result (λ ending. ending ≡ Refused) }
 {
-    let Ok(runs) = runs_for(source.alloc, &source.calls.race, &listing.all.found, true) else {
-        return Err(refused_of(GateError::NoMemory, Some(folder), errors));
-    };
+    let runs = runs_for(source.alloc, &source.calls.race, &listing.all.found, true).map_err(
+        |_| refused_of(GateError::NoMemory, Some(folder), errors),
+    )?;
     let mut number = 1u64;
     for outcome in &listing.outcomes {
-        let Ok(movers) = movers_of(source, listing, &runs, outcome.end) else {
-            return Err(refused_of(GateError::NoMemory, Some(folder), errors));
-        };
-        let Ok(file) = file_of(source, outcome, movers.as_slice(), style) else {
-            return Err(refused_of(GateError::NoMemory, Some(folder), errors));
-        };
+        let file = movers_of(source, listing, &runs, outcome.end)
+            .and_then(|movers| file_of(source, outcome, movers.as_slice(), style))
+            .map_err(|_| refused_of(GateError::NoMemory, Some(folder), errors))?;
         write_file(
             rt,
             source.alloc,
@@ -72,13 +69,16 @@ fn write_file<R: Files, E: Write>(
     ensures { IfErr result (λ ending. ending ≡ Refused) }
 {
     let (folder, number) = place;
-    let Ok(name) = format!(in alloc; "{folder}/{number}.schedule") else {
-        return Err(refused_of(GateError::NoMemory, Some(folder), errors));
-    };
-    match fs::write(rt, name.as_str(), bytes) {
-        Ok(()) => Ok(()),
-        Err(error) => Err(unopened(Some(name.as_str()), &error, errors)),
-    }
+    let name = format!(in alloc; "{folder}/{number}.schedule").map_err(|_| refused_of(
+        GateError::NoMemory,
+        Some(folder),
+        errors,
+    ))?;
+    fs::write(rt, name.as_str(), bytes).map_err(|error| unopened(
+        Some(name.as_str()),
+        &error,
+        errors,
+    ))
 }
 
 /// Returns the lines of the file of an outcome, to which these moves lead.

@@ -71,15 +71,8 @@ pub fn show_outcomes<W: Observer>(
         Finals::unknown(source)
     };
     let listing = listed(source, core, plan, exhibit.ends, watch)?;
-    let shown = show_listing(source, &listing, exhibit, &finals, out);
-    drop(finals);
-    match shown {
-        Ok(()) => Ok(listing),
-        Err(AllocError) => {
-            drop(listing);
-            Err(Stop::NoMemory)
-        }
-    }
+    show_listing(source, &listing, exhibit, &finals, out)?;
+    Ok(listing)
 }
 
 /// Lists the outcomes of a race on this core, or its ends.
@@ -98,9 +91,7 @@ fn listed<W: Observer>(
     ensures within { IfOk result (λ listing. All (λ outcome. outcome.end < length listing.all.found.states) listing.outcomes.items) }
 {
     if ends {
-        let listing = list_ends(source, &core, plan.limit, watch);
-        drop(core);
-        return listing;
+        return list_ends(source, &core, plan.limit, watch);
     }
     list(source.alloc, &source.calls.race, core, plan, watch)
 }

@@ -23,10 +23,7 @@ use percpu_rwsem::{DownRead, DownReadStep, UpRead};
 pub(crate) fn outcome(answer: Result<Reply, GateError>) -> Result<(), GateError>
     ensures { result ≡ told_as unit_of answer }
 {
-    match answer {
-        Ok(_) => Ok(()),
-        Err(refusal) => Err(refusal),
-    }
+    answer.map(|_| ())
 }
 
 /// 1 where the event before found what the operation waits for, else 0.

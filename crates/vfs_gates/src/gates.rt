@@ -52,12 +52,8 @@ impl Gates {
         if !config.is_within() {
             return Err(GateError::Invalid);
         }
-        let Ok(buffers) = SnapshotBuffers::new(alloc, config.nodes) else {
-            return Err(GateError::NoMemory);
-        };
-        let Ok((words, seat)) = GateWords::open(alloc, config) else {
-            return Err(GateError::NoMemory);
-        };
+        let buffers = SnapshotBuffers::new(alloc, config.nodes)?;
+        let (words, seat) = GateWords::open(alloc, config)?;
         Ok((Gates { words }, Task::first(config, seat, buffers)))
     }
 

@@ -38,9 +38,7 @@ impl Task {
         let Some(number) = lowest(&self.spare) else {
             return Err(GateError::TooMany);
         };
-        let Ok(buffers) = SnapshotBuffers::new(alloc, self.config.nodes) else {
-            return Err(GateError::NoMemory);
-        };
+        let buffers = SnapshotBuffers::new(alloc, self.config.nodes)?;
         let seat = gates.words.give(&mut self.seat, number);
         self.spare[number as usize] = false;
         Ok(Task {

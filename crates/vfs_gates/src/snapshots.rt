@@ -81,10 +81,7 @@ fn load_nodes(
         if !is_there {
             return Some(node);
         }
-        match following(node, snapshot.nodes) {
-            Some(next) => node = next,
-            None => return None,
-        }
+        node = following(node, snapshot.nodes)?;
     }
 }
 

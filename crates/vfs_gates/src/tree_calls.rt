@@ -23,10 +23,9 @@ fn node(answer: Result<Reply, GateError>) -> Result<u8, GateError>
     requires { IfOk answer IsNodeReply }
     ensures { result ≡ told_as node_of answer }
 {
-    match answer {
-        Ok(Reply::Node(node)) => Ok(node),
-        Ok(_) => unreachable!(),
-        Err(refusal) => Err(refusal),
+    match answer? {
+        Reply::Node(node) => Ok(node),
+        _ => unreachable!(),
     }
 }
 

@@ -23,10 +23,9 @@ fn ran(answer: Result<Reply, GateError>) -> Result<bool, GateError>
     requires { IfOk answer IsRanReply }
     ensures { result ≡ told_as ran_of answer }
 {
-    match answer {
-        Ok(Reply::Ran(ran)) => Ok(ran),
-        Ok(_) => unreachable!(),
-        Err(refusal) => Err(refusal),
+    match answer? {
+        Reply::Ran(ran) => Ok(ran),
+        _ => unreachable!(),
     }
 }
 

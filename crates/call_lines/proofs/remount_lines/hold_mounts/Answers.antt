@@ -7,8 +7,8 @@ use Rattle.gate_steps.proofs.call_events.Leading.{led_on, led_to, led_nowhere, s
 use Rattle.call_lines.proofs.Remounting.{past_on, past_last}
 use Rattle.call_lines.proofs.remount_lines.hold_mounts.Goals as goal
 
-pub loop-further-init : goal.loop-further-init
-loop-further-init c = record {
+pub loop-held-init : goal.loop-held-init
+loop-held-init c = record {
   slots = refl;
   led = led_to (ap (λ h. Go (remounting_at c.args.remount (LoadsFlags 0 h))) (sym c.empty-held.ensures))
       (led_nowhere c.args.gates.now.config c.args.accesses.now (Go (remounting_at c.args.remount (LoadsFlags 0 no_mounts)))
@@ -16,18 +16,18 @@ loop-further-init c = record {
 }
 
 pub hold_mount-requires-clause-agrees : goal.hold_mount-requires-clause-agrees
-hold_mount-requires-clause-agrees c = still_agrees c.loop-further.invariant.led c.requires.agrees
+hold_mount-requires-clause-agrees c = still_agrees c.loop-held.invariant.led c.requires.agrees
 
-pub returns-in_default-clause-led : goal.returns-in_default-clause-led
-returns-in_default-clause-led c = led_on c.loop-further.invariant.led c.in_default.ensures.led
+pub returns-in_err-held-clause-led : goal.returns-in_err-held-clause-led
+returns-in_err-held-clause-led c = rw c.from_residual.ensures (led_on c.loop-held.invariant.led c.in_err-held.ensures.led)
 
-pub loop-further-preserved : goal.loop-further-preserved
-loop-further-preserved c = record {
-  slots = c.in-Some.ensures.slots ∙ c.loop-further.invariant.slots;
-  led = led_on c.loop-further.invariant.led
-      (led_to (past_on c.args.remount c.loop-further.mount c.in-Some.further c.in-Some-following.next c.in-Some-following.ensures) c.in-Some.ensures.led);
+pub loop-held-preserved : goal.loop-held-preserved
+loop-held-preserved c = record {
+  slots = c.in_ok-held.ensures.slots ∙ c.loop-held.invariant.slots;
+  led = led_on c.loop-held.invariant.led
+      (led_to (past_on c.args.remount c.loop-held.mount c.in_ok-held.held c.in-Some.next c.in-Some.ensures) c.in_ok-held.ensures.led);
 }
 
 pub returns-in-None-clause-led : goal.returns-in-None-clause-led
 returns-in-None-clause-led c =
-    led_on c.loop-further.invariant.led (led_to (past_last c.args.remount c.loop-further.mount c.in-Some.further c.in-None.ensures) c.in-Some.ensures.led)
+    led_on c.loop-held.invariant.led (led_to (past_last c.args.remount c.loop-held.mount c.in_ok-held.held c.in-None.ensures) c.in_ok-held.ensures.led)

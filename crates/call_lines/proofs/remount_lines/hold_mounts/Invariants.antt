@@ -7,12 +7,12 @@ use Rattle.call_lines.specs.Remounting.{remounting_at}
 use Rattle.gate_steps.specs.call_events.KnownSteps.{KnownSteps}
 use Rattle.call_lines.proofs.remount_lines.hold_mounts.Given as goal
 
-abbrev pub invariant-loop-further : goal.invariant-loop-further
-invariant-loop-further l = record {
+abbrev pub invariant-loop-held : goal.invariant-loop-held
+invariant-loop-held l = record {
   slots : l.seat.me.1 ≡ l.fn.seat.me.1;
   led : KnownSteps l.fn.gates.config None l.fn.accesses (Go (remounting_at l.fn.remount (LoadsFlags 0 no_mounts))) l.fn.seat.table_id l.fn.seat.me.0
       (Go (remounting_at l.fn.remount (LoadsFlags l.mount l.held))) l.seat.table_id l.seat.me.0;
 }
 
-abbrev pub decreases-loop-further : goal.decreases-loop-further
-decreases-loop-further l = l.fn.remount.mounts - l.mount
+abbrev pub decreases-loop-held : goal.decreases-loop-held
+decreases-loop-held l = l.fn.remount.mounts - l.mount

@@ -20,7 +20,7 @@ loop-subcommand-init c =
 pub loop-subcommand-preserved : goal.loop-subcommand-preserved
 loop-subcommand-preserved c =
     commands_more _ _ _ _ _ c.loop-subcommand-test.true c.loop-subcommand.invariant
-    (joined _ _ _ _ _ c.in_ok-program.ensures refl c.in-Ok.ensures refl)
+    (joined _ _ _ _ _ c.in_ok-program.ensures refl c.in_ok-subcommand_of.ensures refl)
 
 pub returns : goal.returns
 returns c = let all = commands_all _ _ _ c.loop-subcommand-test.false c.loop-subcommand.invariant in all

@@ -3,8 +3,8 @@ use Rattle.mntgate.proofs.Listed.{tells_as}
 use Rattle.schedule_lines.specs.declared.output.Output.{Output}
 use Rattle.mntgate.proofs.outcomes.list_judged.Goals as goal
 
-pub returns-in-Ok-clause-told : goal.returns-in-Ok-clause-told
-returns-in-Ok-clause-told g c = λ text pairs. record {
+pub returns-clause-told : goal.returns-clause-told
+returns-clause-told g c = λ text pairs. record {
   core = c.args.core;
   calls = c.args.source.calls.now.race.calls.items;
   race = c.requires.race;
@@ -13,5 +13,5 @@ returns-in-Ok-clause-told g c = λ text pairs. record {
       c.requires.tasks (c.in_ok-listing.ensures.all text pairs) (c.in_ok-listing.ensures.some text pairs);
   verdicts = c.judge_claims.new.verdicts.bytes.items;
   claims = λ none. ap (λ (o : Output). o.bytes.items) (c.in_ok-judged.ensures none) ∙ c.new-verdicts.ensures.nothing;
-  written = (c.tell_verdicts.ensures text).printed c.in-Ok.ensures.whole;
+  written = (c.tell_verdicts.ensures text).printed c.in_ok-settled-2.ensures.whole;
 }

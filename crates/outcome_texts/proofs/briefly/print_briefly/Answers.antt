@@ -5,8 +5,8 @@ use Rattle.outcome_texts.specs.{Briefly.{line_of}, declared.listing.Outcome.{Out
 use Rattle.outcome_texts.proofs.{OutcomeLines.{told_briefly}, Ordered.{written}}
 use Rattle.outcome_texts.proofs.briefly.print_briefly.Goals as goal
 
-pub returns-in-Ok : goal.returns-in-Ok
-returns-in-Ok c = λ are_all.
+pub returns : goal.returns
+returns c = λ are_all.
     let listing = c.in_ok-listing.listing in
     let whole : listing.all.found.expanded ≡ length listing.all.found.states =
     c.is_whole-are_all.ensures.0 are_all ∙ c.in_ok-listing.ensures.table.lengths in
@@ -14,4 +14,4 @@ returns-in-Ok c = λ are_all.
     c.print_lines.new.out (c.in_ok-listing.ensures.states whole) (c.in_ok-listing.ensures.outcomes whole) c.in_ok-listing.ensures.each
     c.print_counts.ensures
     (prints_same c.print_lines.ensures (ap (λ (outcomes : List Outcome). flat_map line_of (written outcomes)) c.as_slice.ensures.value))
-    c.in-Ok.ensures.whole
+    c.in_ok-settled.ensures.whole

@@ -28,25 +28,25 @@ pub loop-snapshot-preserved : goal.loop-snapshot-preserved
 loop-snapshot-preserved c =
     let before = c.loop-snapshot.invariant.noted in record {
       slots = c.find-found.ensures.slots ∙ c.loop-snapshot.invariant.slots;
-      there = next_node c.loop-snapshot.node c.in-Some.next c.args.snapshot.nodes c.in-Some.ensures;
+      there = next_node c.loop-snapshot.node c.in_ok-node.node c.args.snapshot.nodes c.in_ok-node.ensures;
       noted = noted_on before (λ r were. refl)
-          (noted_to (node_on c.args.snapshot c.loop-snapshot.node c.in-Some.next c.find-found.result
-          (sym c.if-not-is_there.false ∙ c.is_node-is_there.ensures) c.in-Some.ensures)
+          (noted_to (node_on c.args.snapshot c.loop-snapshot.node c.in_ok-node.node c.find-found.result
+          (sym c.if-not-is_there.false ∙ c.is_node-is_there.ensures) c.in_ok-node.ensures)
           (node_noted c.args.snapshot c.loop-snapshot.node c.find-found.result c.loop-snapshot.nodes c.find-found.ensures.led
           c.find-found.ensures.items (still_agrees before.led c.requires.agrees)));
     }
 
-pub returns-in-None-clause-slots : goal.returns-in-None-clause-slots
-returns-in-None-clause-slots c = c.find-found.ensures.slots ∙ c.loop-snapshot.invariant.slots
+pub returns-in_err-node-clause-slots : goal.returns-in_err-node-clause-slots
+returns-in_err-node-clause-slots c = c.find-found.ensures.slots ∙ c.loop-snapshot.invariant.slots
 
-pub returns-in-None-clause-noted : goal.returns-in-None-clause-noted
-returns-in-None-clause-noted c =
+pub returns-in_err-node-clause-noted : goal.returns-in_err-node-clause-noted
+returns-in_err-node-clause-noted c =
     let before = c.loop-snapshot.invariant.noted in
-    noted_on before (λ r were. refl)
+    rw c.from_residual.ensures (noted_on before (λ r were. refl)
     (noted_to (node_last c.args.snapshot c.loop-snapshot.node c.find-found.result
-    (sym c.if-not-is_there.false ∙ c.is_node-is_there.ensures) c.in-None.ensures)
+    (sym c.if-not-is_there.false ∙ c.is_node-is_there.ensures) c.in_err-node.ensures)
     (node_noted c.args.snapshot c.loop-snapshot.node c.find-found.result c.loop-snapshot.nodes c.find-found.ensures.led
-    c.find-found.ensures.items (still_agrees before.led c.requires.agrees)))
+    c.find-found.ensures.items (still_agrees before.led c.requires.agrees))))
 
 pub returns-then-not-is_there-clause-slots : goal.returns-then-not-is_there-clause-slots
 returns-then-not-is_there-clause-slots c = c.find-found.ensures.slots ∙ c.loop-snapshot.invariant.slots

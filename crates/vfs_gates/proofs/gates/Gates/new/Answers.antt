@@ -25,23 +25,3 @@ returns-then-not-is_within c = record {
   invalid = λ outside. refl;
   memory = λ within. absurd (true≢false (sym (c.if-not-is_within.ensures.1 within)));
 }
-
-pub returns-in_default : goal.returns-in_default
-returns-in_default c = record {
-  made = tt;
-  words = tt;
-  rests = tt;
-  within = tt;
-  invalid = λ outside. absurd (outside (c.if-not-is_within.ensures.0 refl));
-  memory = λ within. refl;
-}
-
-pub returns-in_default-open : goal.returns-in_default-open
-returns-in_default-open c = record {
-  made = tt;
-  words = tt;
-  rests = tt;
-  within = tt;
-  invalid = λ outside. absurd (outside (c.if-not-is_within.ensures.0 refl));
-  memory = λ within. refl;
-}

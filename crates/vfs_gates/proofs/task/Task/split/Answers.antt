@@ -1,4 +1,4 @@
-use Rattle.std.proofs.Common.{◌≡◌, ◌≤◌, ℕ, refl, length, set, false, arith, sym, ap, ◌∙◌, subst, None}
+use Rattle.std.proofs.{Common.{◌≡◌, ◌≤◌, ℕ, refl, length, set, false, arith, sym, ap, ◌∙◌, subst, None}, lemmas.Result.{err_from_is_err_and}}
 use Rattle.gate_world.specs.declared.views.View.{View}
 use Rattle.gate_steps.specs.{Seating.{DealtNumbers, times}, call_events.{GhostAgrees.{GhostAgrees}, TaskState.{TaskState}}}
 use Rattle.vfs_gates.proofs.Parting.{split_self, split_new, lowest_there, none_begun, none_there}
@@ -15,7 +15,7 @@ invariant_of-result c = let old = c.self.inside in let n : ℕ = c.in-Some.numbe
     let ghost_agrees = subst (λ (l : DealtNumbers). GhostAgrees n old.config None c.idle.result c.none.result l) (sym (ap (λ z. z.0.items) given)) m in (
       ghost_agrees,
       ap (λ z. z.1) given,
-      room_new old.config.nodes _ None c.idle.result.phase c.give-seat.result.me.0.items c.in-Ok.ensures.0 c.in-Ok.ensures.1
+      room_new old.config.nodes _ None c.idle.result.phase c.give-seat.result.me.0.items c.in_ok-buffers.ensures.0 c.in_ok-buffers.ensures.1
           (ap (λ z. (own_view z.0.items).snapshot) given ∙ given_unseen n old.seat.me.0.items) (ap (λ (k : TaskState). k.phase) c.idle.ensures),
       given_tells n old.config c.idle.result c.none.result n old.seat.me.0.items c.give-seat.result.me.0.items (ap (λ z. z.0.items) given) ghost_agrees
           (ap (λ (k : TaskState). k.phase) c.idle.ensures),
@@ -96,18 +96,19 @@ returns-in_default c =
       rests = tt;
     }
 
-pub returns-in_default-new : goal.returns-in_default-new
-returns-in_default-new c =
+pub returns-in_err-buffers : goal.returns-in_err-buffers
+returns-in_err-buffers c =
     let old = c.self.inside in
     let n : ℕ = c.in-Some.number in
     let low = c.in-Some.ensures.some in
     let spares = lowest_there old.number old.config old.begins old.state old.spare old.seat.me.0.items n c.self.invariant.0 low.1 low.2 in
     let there : 1 ≤ times n (spare_of c.args.self.now.items) =
-    subst (λ (s : SeatedTask). 1 ≤ times n (spare_of s.items)) c.self.view_is spares.0 in record {
+    subst (λ (s : SeatedTask). 1 ≤ times n (spare_of s.items)) c.self.view_is spares.0 in
+    let p = err_from_is_err_and c.from_residual.result c.from_residual.ensures.1 in rw (p.1, p.2) (record {
       table = refl;
       config = refl;
       from = tt;
       made = tt;
       refused = (refl, (c.if-not-is_idle.ensures.0 refl, λ gave. let none : times n (spare_of c.args.self.now.items) ≡ 0 = gave n in absurd (omega arith)));
       rests = tt;
-    }
+    })
