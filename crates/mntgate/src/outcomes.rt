@@ -293,9 +293,7 @@ fn list_race<W: Observer>(
     let (plan, details) = (plan_of(asked), details_of(asked));
     let shape = match asked.form {
         OutcomeForm::Text if asked.ends => {
-            let listing = tell_ends(source, &core, plan.limit, details, watch, told);
-            drop(core);
-            return listing;
+            return tell_ends(source, &core, plan.limit, details, watch, told);
         }
         OutcomeForm::Text => return tell(source, core, plan, details, watch, told),
         OutcomeForm::Json => Shape::Records,

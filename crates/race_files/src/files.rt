@@ -64,7 +64,5 @@ fn read_lines(alloc: Global, lines: &mut Lines<'_>) -> Result<RaceFile, RaceFaul
     ensures { IfOk result (λ file. IsRaceIn (left_in lines.old) file.core file.calls.race.calls.items) }
 {
     let session = set_up(alloc, lines)?;
-    let file = RaceFile::read(alloc, &session, lines);
-    drop(session);
-    file
+    RaceFile::read(alloc, &session, lines)
 }
