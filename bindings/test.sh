@@ -1,6 +1,7 @@
 #!/bin/bash
 # Tests the gates from C, Rust and Python with this machine's own compilers. It builds and installs the C library into out/c, compiles the header as
-# C and C++, runs the C and Python programs and the tests of the Rust crate, and says what it does. A difference ends it.
+# C and C++, runs the C and Python programs and the tests of the Rust crate, C programs also under the thread sanitizer where it can, and says what
+# it does. A difference ends it.
 #
 #     bindings/test.sh
 set -euo pipefail
@@ -11,6 +12,7 @@ prefix=$root/out/c
 work=$(mktemp -d)
 trap 'rm -rf "$work"' EXIT
 strict=(-Wall -Wextra -Werror -pedantic)
+compiler=gcc
 
 say() {
     printf 'bindings: %s\n' "$*"
@@ -28,14 +30,18 @@ expect() {
     fi
 }
 
+# As it is, and as the thread sanitizer has it.
 test_header() {
-    printf '#include "mntgate.h"\nint main(void) { return 0; }\n' >"$work/header.c"
+    local standard how
+    printf '#include "mntgate.h"\nint main(void) { struct mntgate_task task = MNTGATE_NONE; return task.at != NULL || mntgate_split(&task, &task); }\n' >"$work/header.c"
     cp "$work/header.c" "$work/header.cc"
-    for standard in c99 c11; do
-        gcc "-std=$standard" "${strict[@]}" -I"$prefix/include" -fsyntax-only "$work/header.c"
-    done
-    for standard in c++11 c++20; do
-        g++ "-std=$standard" "${strict[@]}" -I"$prefix/include" -fsyntax-only "$work/header.cc"
+    for how in -DPLAIN -fsanitize=thread; do
+        for standard in c99 c11; do
+            gcc "-std=$standard" "$how" "${strict[@]}" -I"$prefix/include" -fsyntax-only "$work/header.c"
+        done
+        for standard in c++11 c++20; do
+            g++ "-std=$standard" "$how" "${strict[@]}" -I"$prefix/include" -fsyntax-only "$work/header.cc"
+        done
     done
 }
 
@@ -43,7 +49,7 @@ test_header() {
 compile() {
     local source=$1 program=$2
     shift 2
-    gcc -std=c11 -O2 -D_GNU_SOURCE "${strict[@]}" -I"$prefix/include" -o "$program" "$source" "$@" "$prefix/lib/libmntgate.a" -lpthread
+    "$compiler" -std=c11 -O2 -D_GNU_SOURCE "${strict[@]}" -I"$prefix/include" -o "$program" "$source" "$@" "$prefix/lib/libmntgate.a" -lpthread
 }
 
 test_c() {
@@ -59,6 +65,34 @@ test_c() {
     compile bindings/c/examples/log_backup.c "$work/log_backup"
     expect "without the gates: backups are torn" "$work/log_backup" without
     expect "with the gates: no backup is torn" "$work/log_backup" with
+}
+
+# Prints the first compiler here that has the runtime of the thread sanitizer.
+thread_sanitizer() {
+    local compiler
+    printf 'int main(void) { return 0; }\n' >"$work/nothing.c"
+    for compiler in gcc clang; do
+        if "$compiler" -fsanitize=thread -o "$work/nothing" "$work/nothing.c" 2>/dev/null && "$work/nothing" 2>/dev/null; then
+            printf '%s\n' "$compiler"
+            return
+        fi
+    done
+}
+
+# Every call under the sanitizer; memory that the gates guard, in which it finds no race; and a race that is planted, which it finds.
+test_threads() {
+    local compiler=$1 status=0
+    local -x TSAN_OPTIONS=exitcode=66
+    compile bindings/c/tests/calls.c "$work/calls_watched" -fsanitize=thread
+    expect "all calls" "$work/calls_watched"
+    compile bindings/c/tests/threads.c "$work/threads" -g -fsanitize=thread bindings/c/tests/threads_writers.c
+    expect "0 records torn" "$work/threads" guarded
+    "$work/threads" planted >"$work/said" 2>&1 || status=$?
+    if [[ $status -ne 66 ]] || ! grep -q 'ThreadSanitizer: data race' "$work/said"; then
+        cat "$work/said" >&2
+        say "the thread sanitizer didn't find the race that is planted"
+        exit 1
+    fi
 }
 
 test_python() {
@@ -80,6 +114,12 @@ say "compiles the header as C99, C11, C++11 and C++20"
 test_header
 say "runs the C programs"
 test_c
+if [[ -n $(thread_sanitizer) ]]; then
+    say "runs C programs under the thread sanitizer of $(thread_sanitizer)"
+    test_threads "$(thread_sanitizer)"
+else
+    say "no compiler here has the thread sanitizer's runtime: its tests are left out"
+fi
 say "runs the Python programs"
 test_python
 say "runs the tests of the Rust crate"

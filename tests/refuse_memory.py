@@ -1,7 +1,9 @@
 #!/usr/bin/env -S python3 -B
 """Refuses the program as it was built each growth of memory in turn, and fails unless it then ends by itself with exit status 1, and says why: as
 `refused 12 NoMemory`. What it has printed by then has to be how its whole output begins, and each file is as it was or as it would be. It may also do
-without a growth, as without room that it asks for ahead: then it ends as if none had been refused.
+without a growth, as without room that it asks for ahead: then it ends as if none had been refused. A plain replay, over the core and over the gates,
+tells the line too: the one behind the lines that were done, which have printed all that they print. Which these are is known from its schedule cut
+short: the line that asks for the growth is the first with which the schedule asks for so many.
 
     tests/refuse_memory.py [PROGRAM..]
 
@@ -10,14 +12,15 @@ isn't proved has another malloc, and can't be tested. Of a command line with man
 a fixed seed. It prints a line for each command line, and what was wanted and what came if one ended otherwise. The exit status is 0 if all ended as
 they should, else 1."""
 
+import bisect
 import concurrent.futures
+import functools
 import os
 import random
 import re
 import subprocess
 import sys
 import tempfile
-from functools import partial
 from typing import NamedTuple
 
 from program.cases import ROOT, changes
@@ -42,6 +45,8 @@ SCHEDULE, RACE = example("waiting.schedule"), example("races/two-changes.race")
 # The files that lie where a command line runs.
 FILES = {
     "waiting.schedule": SCHEDULE,
+    # Its configuration stands behind what one read gives.
+    "late.schedule": f"# {'-' * 97}\n" * 700 + "config 2 1 1 2 8\n0 want 0 0\n0 run\nwords\n",
     "listing.schedule": "config 2 1 1 4 8\n0 freeze\n0 run\n0 snapshot\n0 run\nwords\ntree\nmodel\n",
     "faulty.schedule": "config 2 1 1 2 8\n0 want 0 0\n0 run\n0 rum\n",
     "unblessed.schedule": SCHEDULE.replace("ok", "done"),
@@ -60,6 +65,8 @@ class CommandLine(NamedTuple):
     besides: bytes = rb"(?!)"
     # Whether it writes files: then it has a folder of its own.
     writes: bool = False
+    # Whether it is a plain replay of the file that its last word names: then it tells at which line memory was refused.
+    replays: bool = False
 
 
 # What says that memory was refused: of which file and at which line, if it is of one. The line may stand below.
@@ -72,8 +79,12 @@ UNWRITTEN = REFUSAL + rb"0 written, 0 unchanged, 1 failed\n"
 # If there is no memory to explain a fault, it is told alone.
 UNEXPLAINED = rb"faulty\.schedule: line 4: unknown command\n0 ok\n"
 COMMANDS = [
-    CommandLine("replay waiting.schedule"),
-    CommandLine("replay --over-gates waiting.schedule"),
+    CommandLine("replay waiting.schedule", replays=True),
+    CommandLine("replay --over-gates waiting.schedule", replays=True),
+    CommandLine("replay late.schedule", replays=True),
+    CommandLine("replay --over-gates late.schedule", replays=True),
+    CommandLine("replay listing.schedule", replays=True),
+    CommandLine("replay --over-gates listing.schedule", replays=True),
     CommandLine("replay --events waiting.schedule"),
     CommandLine("replay --columns listing.schedule"),
     CommandLine("replay --json --over-gates listing.schedule"),
@@ -149,6 +160,42 @@ class Refuser:
             return Came(ended, int.from_bytes(growths.read(8), sys.byteorder), {})
 
 
+# How a replay ends if a growth is refused before it begins, as one for the words of its command line.
+UNBEGUN = Ended(1, b"", b"refused 12 NoMemory\n")
+
+
+class CutReplay:
+    """A plain replay, whose schedule is cut short to see what its lines ask for and print."""
+
+    def __init__(self, refuser, line):
+        self.refuser, self.line, self.file = refuser, line, line.words.split(" ")[-1]
+        self.lines = FILES[self.file].splitlines(keepends=True)
+
+    @functools.cache
+    def after(self, done):
+        """How it ends with so many lines, of which all are done."""
+        with tempfile.TemporaryDirectory() as folder:
+            with open(f"{folder}/{self.file}", "w", encoding="utf-8") as file:
+                file.writelines(self.lines[:done])
+            return self.refuser.run_by(Program(self.refuser.program.path, folder), self.line, 0)
+
+    def refusal(self, refused):
+        """How it ends if this growth is refused: at the line that asks for it, or the first one, behind what the lines before it print."""
+        done = bisect.bisect_left(range(1, len(self.lines) + 1), refused, key=lambda count: self.after(count).growths)
+        return Ended(1, self.after(done).ended.printed, f"{self.file}: line {done + 1}: refused 12 NoMemory\n".encode())
+
+    def differences(self, whole, came, numbers):
+        """How it ended otherwise for each of these growths that was refused; nothing if it didn't. No growth of the replay itself comes before one of its
+        command line."""
+        has_begun, found = False, []
+        for each, refused in zip(came, numbers):
+            wanted = self.refusal(refused)
+            has_begun = has_begun or each.ended == wanted or refused > self.after(0).growths
+            is_right = is_without(whole, each) or each.ended == (wanted if has_begun else UNBEGUN)
+            found.append("" if is_right else f"it was to tell {wanted.told!r} and to print {wanted.printed!r}, and ended by {each.ended!r}\n")
+        return found
+
+
 def is_without(whole, came):
     """Whether a command line ended as if no growth had been refused."""
     return (came.ended, came.files) == (whole.ended, whole.files)
@@ -187,8 +234,11 @@ def test_line(refuser, pool, part, line):
     """Tests a command line with a part of the growths refused, and prints how that went; whether it ended as it should."""
     whole = refuser.run(line)
     numbers = chosen(whole.growths)[::part]
-    came = list(pool.map(partial(refuser.run, line), numbers))
+    came = list(pool.map(functools.partial(refuser.run, line), numbers))
     differences = [difference(line, whole, *pair) for pair in zip(came, numbers)]
+    if line.replays:
+        lines = CutReplay(refuser, line).differences(whole, came, numbers)
+        differences = ["".join(pair) for pair in zip(differences, lines)]
     wrong = [f"growth {number} refused:\n{text}" for number, text in zip(numbers, differences) if text]
     if not whole.growths:
         wrong.append("no growth was counted: the program asks for memory in another way\n")

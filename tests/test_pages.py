@@ -17,30 +17,23 @@ Pictures   Those of the pages are what the program makes (tests/pictures.py), an
 
 And each docs/NAME.md that a file of the repository mentions exists. Prints what is wrong, by page and line; the exit status is 1 then."""
 
-import difflib
 import glob
 import os
 import re
-import subprocess
 import sys
 import tempfile
 import textwrap
 from typing import NamedTuple
 
+from consoles import FOLDERS, PROGRAM, ROOT, command_fault, expect_program, is_missing, make_folder, parts_of
 from pictures import picture_faults
 from verdicts import verdict
 
-ROOT = os.path.dirname(os.path.dirname(os.path.realpath(__file__)))
-PROGRAM = f"{ROOT}/crates/mntgate/out/mntgate"
 FENCE = re.compile(r"^(\s*)```+(.*)$")
 LINK = re.compile(r"\[(?:[^\]`]|`[^`]*`)*\]\(([^)\s]+)\)")
 CODE = re.compile(r"`([^`]+)`")
 HEADING = re.compile(r"^#{1,6} +(.*?)(?: +#+)?$")
-FOLDERS = ("crates", "bench", "bin", "bindings", "docs", "examples", "kernel", "man", "tests", ".ci")
-PATH = re.compile(rf"^(?:{'|'.join(map(re.escape, FOLDERS))})/[\w./*-]*$")
 MENTION = re.compile(r"\bdocs/[\w./-]*?\.md\b")
-# How long one command may take, in seconds.
-LONGEST = 60
 
 
 class Block(NamedTuple):
@@ -115,9 +108,8 @@ def path_faults(page):
     for number, line in page.prose:
         for code in CODE.findall(line):
             word = code.split(" ")[0].rstrip(".,:")
-            if PATH.match(word) and not any(part in word for part in ("NAME", "..", "<", "/out")):
-                if not glob.glob(f"{ROOT}/{word}"):
-                    yield f"{page.path}:{number}: no path {word}"
+            if is_missing(word):
+                yield f"{page.path}:{number}: no path {word}"
 
 
 def mention_faults():
@@ -136,33 +128,6 @@ def mention_faults():
                         yield f"{os.path.relpath(path, ROOT)}: no page {mentioned}"
 
 
-def parts_of(lines):
-    """Lines in parts between those that are `...`."""
-    parts = [[]]
-    for line in lines:
-        if line.strip() == "...":
-            parts.append([])
-        else:
-            parts[-1].append(line)
-    return parts
-
-
-def fits(wanted, came):
-    """Whether lines are those wanted, where `...` stands for any."""
-    parts, at = parts_of(wanted), 0
-    if len(parts) == 1:
-        return wanted == came
-    if came[: len(parts[0])] != parts[0]:
-        return False
-    at = len(parts[0])
-    for part in parts[1:-1]:
-        at = next((k + len(part) for k in range(at, len(came) + 1) if came[k : k + len(part)] == part), None)
-        if at is None:
-            return False
-    last = parts[-1]
-    return len(came) - len(last) >= at and (not last or came[-len(last) :] == last)
-
-
 def commands_of(block):
     """The commands of a block, each with its line and what it should print."""
     found = []
@@ -176,42 +141,15 @@ def commands_of(block):
     return [(number, "\n".join(words), printed) for number, words, printed in found]
 
 
-def make_folder(folder, program):
-    """Makes a folder like the repository, with this program in its bin."""
-    os.mkdir(f"{folder}/bin")
-    os.symlink(os.path.abspath(program), f"{folder}/bin/mntgate")
-    for name in os.listdir(ROOT):
-        if name not in ("bin", ".git"):
-            os.symlink(f"{ROOT}/{name}", f"{folder}/{name}")
-
-
-def run(command, folder):
-    """Runs a command; what it printed, line by line, and its exit status."""
-    environment = {**os.environ, "LC_ALL": "C", "COLUMNS": "100"}
-    words = ["bash", "-c", command]
-    try:
-        ended = subprocess.run(words, cwd=folder, env=environment, stdin=subprocess.DEVNULL, stdout=subprocess.PIPE, stderr=subprocess.STDOUT,
-                               timeout=LONGEST, check=False)
-    except subprocess.TimeoutExpired:
-        return [f"(no end within {LONGEST} seconds)"], 1
-    return [line.rstrip() for line in ended.stdout.decode("utf-8", "replace").splitlines()], ended.returncode
-
-
 def command_faults(page, program):
     """The commands of a page that print something else; and how many there are."""
-    faults, count = [], 0
+    faults = []
     with tempfile.TemporaryDirectory() as folder:
         make_folder(folder, program)
         for block in page.blocks:
             for number, command, wanted in commands_of(block) if block.info == "console" else []:
-                came, status = run(command, folder)
-                count += 1
-                if not fits(wanted, came):
-                    changed = difflib.unified_diff(wanted, came, "the page", "the program", lineterm="", n=1)
-                    faults.append("\n".join([f"{page.path}:{number}: $ {command}", *changed]))
-                elif status:
-                    faults.append(f"{page.path}:{number}: $ {command}\nends with status {status}, which the page doesn't say")
-    return faults, count
+                faults.append(command_fault(f"{page.path}:{number}", command, wanted, folder))
+    return [fault for fault in faults if fault], len(faults)
 
 
 def quote_faults(page):
@@ -245,8 +183,8 @@ def main(words):
     """Tests the pages; the exit status."""
     links_alone = "--links" in words
     program = next((word for word in words if word != "--links"), PROGRAM)
-    if not links_alone and not os.access(program, os.X_OK):
-        sys.exit(f"test_pages: there is no program {os.path.relpath(program)}: bin/prove builds it")
+    if not links_alone:
+        expect_program(program, "test_pages")
     every = pages()
     by_path = {page.path: page for page in every}
     faults, commands, quotes = list(mention_faults()), 0, 0

@@ -19,6 +19,7 @@ from functools import partial
 from typing import Callable, NamedTuple
 
 from program.cases import ANYTHING, NOTHING, ROOT, Unreadable, Wanted, changes, exactly, read_cases, wanted_of, write_files
+from program.files import checks_of_files
 from program.runs import Ended, Program, built_programs
 from program.stories import REACHED, random_schedule
 
@@ -334,7 +335,7 @@ def test(path, cases):
     with tempfile.TemporaryDirectory() as folder:
         write_files(cases, folder)
         parts = (checks_of_cases(cases), checks_of_examples(), checks_of_reads(), checks_of_writes(), checks_of_full(), checks_of_persons(),
-                 checks_of_forms(), checks_of_blessings())
+                 checks_of_forms(), checks_of_blessings(), checks_of_files())
         failures, count = failures_of(Program(path, folder), [check for part in parts for check in part])
     shown = os.path.relpath(path)
     if failures:

@@ -14,7 +14,8 @@ import os
 import subprocess
 import sys
 
-from test_pages import ROOT, commands_of, fits, read_page
+from consoles import ROOT, fits
+from test_pages import commands_of, read_page
 from verdicts import verdict
 
 PAGE = "docs/steps.md"

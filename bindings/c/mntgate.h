@@ -14,9 +14,12 @@
  *   2. Each handle is used by one call at a time. It may go to another thread by a mutex, by pthread_create or pthread_join, or by a
  *      sequentially consistent atomic.
  *   3. A call gets a handle that has a task. Only the handle of mntgate_open and the second one of mntgate_split have none.
- *   4. mntgate_join gets two tasks that come from one mntgate_open.
+ *   4. mntgate_join and mntgate_meet get two tasks that come from one mntgate_open.
  *   5. No call is made by a signal handler, nor in the child of a fork of a process with threads.
  *   6. malloc, realloc and free come from one allocator.
+ *   7. Each pointer argument points to a valid object of its type, or to as many as the call's count says. So none is null: not the one to a
+ *      configuration, nor those to no words. (Only `hooks` may be NULL.) No two arguments of a call point to the same object, so its two
+ *      handles are two. No other thread writes meanwhile what an argument points to, or reads what the call writes.
  *
  * Results
  *   A call answers 0, or why it was refused: an errno (EBUSY, EROFS ..), or MNTGATE_HOOK and more where a hook of the file system failed.
@@ -31,8 +34,9 @@
  *   A handle that is lost leaves what its task held: give back, join, close. docs/refusals.md says what the others meet.
  *   C cuts off a number that is too large for its parameter: 256 is mount 0 then. A hook's result is cut off likewise: 65536 is no failure
  *   then. gcc and clang warn of both under -Wconversion.
- *   A thread sanitizer doesn't see into the archive. Under -fsanitize=thread this header tells it that each call orders what was before it
- *   and what comes after it. It then misses races that the gates don't prevent.
+ *   The thread sanitizer doesn't see into the library. Under -fsanitize=thread this header tells it of each call that reads or writes a word
+ *   of the gates: what follows the call comes after what preceded every such call that began earlier. So it reports no accesses that the gates
+ *   order, and it misses some races that they don't prevent. It isn't told of a call through a pointer to one of these functions.
  *
  * Link with -lmntgate -lpthread (pkg-config mntgate). docs/c.md is the guide.
  */
@@ -48,6 +52,27 @@
 
 #ifdef __cplusplus
 extern "C" {
+#endif
+
+#if defined(__SANITIZE_THREAD__)
+#define MNTGATE_THREAD_SANITIZER 1
+#elif defined(__has_feature)
+#if __has_feature(thread_sanitizer)
+#define MNTGATE_THREAD_SANITIZER 1
+#endif
+#endif
+
+/* Calls what reads or writes words of the gates, and tells the thread sanitizer that this orders memory. `mntgate_order` stands for all words of
+ * all gates. Each file that includes this header defines it, and the linker keeps one for the program. */
+#ifdef MNTGATE_THREAD_SANITIZER
+extern void __tsan_acquire(void *at);
+extern void __tsan_release(void *at);
+extern char mntgate_order;
+__attribute__((weak, visibility("default"))) char mntgate_order;
+#define MNTGATE_ORDERED(call) __extension__({ mntgate_result mntgate_told; __tsan_release(&mntgate_order); mntgate_told = (call); __tsan_acquire(&mntgate_order); mntgate_told; })
+#define MNTGATE_ORDERED_VOID(call) __extension__({ __tsan_release(&mntgate_order); (call); __tsan_acquire(&mntgate_order); })
+#else
+#define MNTGATE_ORDERED(call) (call)
 #endif
 
 /* A task of some gates, or none. One thread at a time uses it. Calls don't write the handle, but for those that give it a task or take
@@ -83,18 +108,26 @@ struct mntgate_config {
 
 /* Opening and closing ------------------------------------------------------------------------------------------------------------------ */
 
-/* Opens gates. `task`, which has none, gets the task with number 0, which has all other numbers to give.
+/* Opens gates. `task`, which has none, gets the task with number 0, which holds nothing and has all other numbers to give. Nobody has done
+ * anything at the gates: all mounts and the superblock are writable, nothing is frozen, and the tree has its root alone.
  *   EINVAL  a number of the configuration is out of its limits.   ENOMEM  there is no memory. The handle then has no task. */
 mntgate_result mntgate_open(struct mntgate_task *task, const struct mntgate_config *config);
 
-/* Gives `other`, which has no task, one with the lowest number that `task` has to give.
- *   EDEADLK  `task` has an operation under way, or holds something.   EMFILE  it has no number left to give.   ENOMEM  there is no memory.
- *   `other` then has no task. */
+/* Gives `other`, which has no task, one with the lowest number that `task` has to give. What `task` has done lies behind all that `other` does.
+ * If the call is refused, `other` has no task.
+ *   EDEADLK  `task` has an operation under way, or holds something; it is as it was.
+ *   EMFILE  it has no number left to give; it is as it was.
+ *   ENOMEM  there is no memory; `task` has its own number and all numbers to give, as before. */
 mntgate_result mntgate_split(struct mntgate_task *task, struct mntgate_task *other);
 
 /* Takes the numbers of `other` back, which has no task then. What the two have done lies behind all that `task` does from here on.
  *   EDEADLK  one of them has an operation under way or holds something; both are as they were. */
 mntgate_result mntgate_join(struct mntgate_task *task, struct mntgate_task *other);
+
+/* Brings two tasks together: what either has done lies behind all that both do from here on. They keep what they hold. Neither has to rest. It
+ * waits for nobody: it reads one word of the gates four times. No contract says what an operation was as a whole if a meeting comes between its
+ * begin and its last step. */
+void mntgate_meet(struct mntgate_task *task, struct mntgate_task *other);
 
 /* A word of the gates, for mntgate_close_reading and mntgate_step. */
 enum mntgate_word_kind {
@@ -126,12 +159,14 @@ struct mntgate_word {
 /* Closes the gates, whose last task `task` is; the handle has none then. Writes to `values` what the `count` words of `words` hold at the
  * end, and 0 for a word that there isn't. Every sum is 0, the umount word is 0, and no mount is held: that is proved.
  *   EDEADLK  the task has an operation under way or holds something, or another task was not joined; it is as it was.
- *   EBUSY, ENOMEM  never, unless point 3 or 4 above was not met: another handle has the gates still. */
+ *   EBUSY, ENOMEM  the task rests and has all numbers, and another handle has the gates still. Where points 1 to 4 above are met there is none
+ *   such, which no proof says. With EBUSY the task is as it was. With ENOMEM there was no memory to keep it, and the handle has none.
+ *   EINVAL  (mntgate_close_words) the two counts differ; the task is as it was. */
 mntgate_result mntgate_close_words(struct mntgate_task *task, const struct mntgate_word *words, size_t words_count, uint64_t *values, size_t values_count);
 
 static inline mntgate_result mntgate_close_reading(struct mntgate_task *task, const struct mntgate_word *words, uint64_t *values, size_t count)
 {
-	return mntgate_close_words(task, words, count, values, count);
+	return MNTGATE_ORDERED(mntgate_close_words(task, words, count, values, count));
 }
 
 /* Closes the gates, as mntgate_close_reading does, and reads no word. */
@@ -140,7 +175,7 @@ static inline mntgate_result mntgate_close(struct mntgate_task *task)
 	const struct mntgate_word none = { 0, 0, 0 };
 	uint64_t nothing = 0;
 
-	return mntgate_close_words(task, &none, 0, &nothing, 0);
+	return MNTGATE_ORDERED(mntgate_close_words(task, &none, 0, &nothing, 0));
 }
 
 /* Calls that wait for nobody ----------------------------------------------------------------------------------------------------------- */
@@ -162,7 +197,8 @@ mntgate_result mntgate_end(struct mntgate_task *task, uint8_t level, uint8_t pro
 /* Gives an access at a mount back and leaves level 1, as after mntgate_want_write (mnt_drop_write). */
 mntgate_result mntgate_drop_write(struct mntgate_task *task, uint8_t mount, uint8_t processor);
 
-/* Makes a mount read-only, or writable again (mnt_make_readonly). EDEADLK inside a level.
+/* Makes a mount read-only, or writable again (mnt_make_readonly). EDEADLK inside a level. Under a read-only superblock a change to read-only
+ * answers 0 and sets nothing, so the mount is writable as soon as the superblock is.
  *   EAGAIN  another task owns s_umount.   EBUSY  writers are counted at the mount. */
 mntgate_result mntgate_try_change_mount(struct mntgate_task *task, uint8_t mount, bool read_only);
 
@@ -211,8 +247,9 @@ struct mntgate_node {
 	uint64_t kids;  /* the children of a directory */
 };
 
-/* Writes a node of the last snapshot that the task has taken, or the blocks that were charged in it.
- *   ENOENT  the task has taken none; nothing is written. */
+/* Writes a node of the last snapshot that the task has taken, or the blocks that were charged in it. A number that no node has is written as
+ * that of a free node.
+ *   ENOENT  the task has taken no snapshot; nothing is written. There is no other refusal. */
 mntgate_result mntgate_tree_node(struct mntgate_task *task, uint8_t number, struct mntgate_node *node);
 mntgate_result mntgate_tree_used(struct mntgate_task *task, uint64_t *used);
 
@@ -350,8 +387,11 @@ mntgate_result mntgate_thaw_at_once(struct mntgate_task *task, bool by_kernel, s
 /* Calls that wait ---------------------------------------------------------------------------------------------------------------------- */
 
 /* These are loops of C over the calls above. They try again and again, with pauses that grow (mntgate_pause): a wait of some microseconds spins,
- * a longer one leaves the processor each time, and a long one sleeps, for less than a millisecond each time. There is no wake-up and no time
- * limit: who needs one writes such a loop over mntgate_begin and mntgate_run. */
+ * a longer one leaves the processor each time, and a long one sleeps, for less than a millisecond each time. There is no wake-up.
+ *
+ * There is no time limit either. A want, a start, a change, a close of a file and a snapshot need none: repeat their try form as long as you
+ * like, and give up while it answers EAGAIN. Nothing gives up an operation that has begun. So a freeze, a thaw, a remount, a callback and
+ * mntgate_want_write are done to their end, by mntgate_run, however long that takes. A freeze that has begun keeps its levels closed till then. */
 
 /* The hooks of a file system. Each answers 0, or a code from 1 to 65535 by which it failed. NULL stands for a hook that answers 0. They
  * are called between two steps, while their task owns s_umount: a hook must not wait for another task, nor use the handle. It must return.
@@ -369,26 +409,29 @@ struct mntgate_hooks {
 #define MNTGATE_USER false
 #define MNTGATE_KERNEL true
 
-#if defined(__SANITIZE_THREAD__)
-#define MNTGATE_THREAD_SANITIZER 1
-#elif defined(__has_feature)
-#if __has_feature(thread_sanitizer)
-#define MNTGATE_THREAD_SANITIZER 1
-#endif
-#endif
+/* The calls that read or write words of the gates. The others act on their task alone. */
 #ifdef MNTGATE_THREAD_SANITIZER
-extern void __tsan_acquire(void *at);
-extern void __tsan_release(void *at);
-static char mntgate_order;
-#define MNTGATE_ORDERED(call) __extension__({ __tsan_release(&mntgate_order); __typeof__(call) mntgate_told = call; __tsan_acquire(&mntgate_order); mntgate_told; })
+#define mntgate_split(...) MNTGATE_ORDERED(mntgate_split(__VA_ARGS__))
+#define mntgate_join(...) MNTGATE_ORDERED(mntgate_join(__VA_ARGS__))
+#define mntgate_meet(...) MNTGATE_ORDERED_VOID(mntgate_meet(__VA_ARGS__))
+#define mntgate_close_words(...) MNTGATE_ORDERED(mntgate_close_words(__VA_ARGS__))
 #define mntgate_try_want(...) MNTGATE_ORDERED(mntgate_try_want(__VA_ARGS__))
 #define mntgate_drop_mount(...) MNTGATE_ORDERED(mntgate_drop_mount(__VA_ARGS__))
 #define mntgate_try_start(...) MNTGATE_ORDERED(mntgate_try_start(__VA_ARGS__))
 #define mntgate_end(...) MNTGATE_ORDERED(mntgate_end(__VA_ARGS__))
 #define mntgate_drop_write(...) MNTGATE_ORDERED(mntgate_drop_write(__VA_ARGS__))
 #define mntgate_try_change_mount(...) MNTGATE_ORDERED(mntgate_try_change_mount(__VA_ARGS__))
+#define mntgate_create(...) MNTGATE_ORDERED(mntgate_create(__VA_ARGS__))
+#define mntgate_remove(...) MNTGATE_ORDERED(mntgate_remove(__VA_ARGS__))
+#define mntgate_grow(...) MNTGATE_ORDERED(mntgate_grow(__VA_ARGS__))
+#define mntgate_move_to(...) MNTGATE_ORDERED(mntgate_move_to(__VA_ARGS__))
+#define mntgate_fault(...) MNTGATE_ORDERED(mntgate_fault(__VA_ARGS__))
+#define mntgate_flush(...) MNTGATE_ORDERED(mntgate_flush(__VA_ARGS__))
+#define mntgate_open_file(...) MNTGATE_ORDERED(mntgate_open_file(__VA_ARGS__))
+#define mntgate_try_close_file(...) MNTGATE_ORDERED(mntgate_try_close_file(__VA_ARGS__))
 #define mntgate_try_snapshot(...) MNTGATE_ORDERED(mntgate_try_snapshot(__VA_ARGS__))
-#define mntgate_wants_hook(...) MNTGATE_ORDERED(mntgate_wants_hook(__VA_ARGS__))
+#define mntgate_step(...) MNTGATE_ORDERED_VOID(mntgate_step(__VA_ARGS__))
+#define mntgate_run(...) MNTGATE_ORDERED_VOID(mntgate_run(__VA_ARGS__))
 #define mntgate_want_write_at_once(...) MNTGATE_ORDERED(mntgate_want_write_at_once(__VA_ARGS__))
 #define mntgate_callback_at_once(...) MNTGATE_ORDERED(mntgate_callback_at_once(__VA_ARGS__))
 #define mntgate_remount_sb_at_once(...) MNTGATE_ORDERED(mntgate_remount_sb_at_once(__VA_ARGS__))
@@ -523,7 +566,8 @@ static inline mntgate_result mntgate_want_write(struct mntgate_task *task, uint8
 	return mntgate_answer(task, begun, &outcome);
 }
 
-/* Makes a mount read-only, or writable again; waits for s_umount.   EBUSY  as mntgate_try_change_mount. */
+/* Makes a mount read-only, or writable again; waits for s_umount. What mntgate_try_change_mount says of a read-only superblock holds here.
+ *   EBUSY  as mntgate_try_change_mount. */
 static inline mntgate_result mntgate_change_mount(struct mntgate_task *task, uint8_t mount, bool read_only)
 {
 	mntgate_result result = mntgate_try_change_mount(task, mount, read_only);

@@ -156,6 +156,7 @@ class _Outcome(ctypes.Structure):
 _BYTE, _BOOL, _U32 = ctypes.c_uint8, ctypes.c_bool, ctypes.c_uint32
 _CALLS: dict = {
     "open": (_U32, [ctypes.POINTER(_Config)]), "split": (_U32, [ctypes.POINTER(_Handle)]), "join": (_U32, [ctypes.POINTER(_Handle)]),
+    "meet": (None, [ctypes.POINTER(_Handle)]),
     "close_words": (_U32, [ctypes.POINTER(_Word), ctypes.c_size_t, ctypes.POINTER(ctypes.c_uint64), ctypes.c_size_t]),
     "try_want": (_U32, [_BYTE, _BYTE]), "drop_mount": (_U32, [_BYTE, _BYTE]), "try_start": (_U32, [_BYTE, _BYTE]), "end": (_U32, [_BYTE, _BYTE]),
     "drop_write": (_U32, [_BYTE, _BYTE]), "try_change_mount": (_U32, [_BYTE, _BOOL]), "create": (_U32, [_BYTE, _BOOL, ctypes.POINTER(_BYTE)]),
@@ -371,6 +372,18 @@ class Task:
                 raise ValueError("the task was joined or closed")
             self._ask("join", ctypes.byref(other._handle))
 
+    def meet(self, other: "Task") -> None:
+        """Brings two tasks together: what either has done lies behind all that both do from here on. They keep what they hold, and neither has to
+        rest. No other call needs a meeting: it lets you conclude from what one task holds what a call of the other answers. EINVAL for a task of other gates, or the task itself."""
+        if other._gates is not self._gates or other is self:
+            raise Error(errno.EINVAL, "a task of other gates")
+        # (in one order, so that two threads may call it for the same two tasks)
+        first, second = sorted((self, other), key=id)
+        with first._lock, second._lock:
+            if other._handle.at is None:
+                raise ValueError("the task was joined or closed")
+            self._do("meet", ctypes.byref(other._handle))
+
     def close(self, words: Sequence[Tuple[int, int, int]] = ()) -> Tuple[int, ...]:
         """Closes the gates, whose last task this is; what these words hold at the end (kind, of what, processor). EDEADLK unless all others were
         joined and it rests."""
@@ -440,11 +453,12 @@ class Task:
         self._ask("drop_write", _u8(mount), _u8(processor))
 
     def try_change_mount(self, mount: int, read_only: bool) -> None:
-        """Makes a mount read-only, or writable. EAGAIN, EBUSY."""
+        """Makes a mount read-only, or writable. EAGAIN, EBUSY. Under a read-only superblock a change to read-only sets nothing: the mount is writable
+        as soon as the superblock is."""
         self._ask("try_change_mount", _u8(mount), read_only)
 
     def change_mount(self, mount: int, read_only: bool) -> None:
-        """Makes a mount read-only, or writable; waits for s_umount. EBUSY."""
+        """Makes a mount read-only, or writable; waits for s_umount. EBUSY. See `try_change_mount` for a read-only superblock."""
         self._retry("try_change_mount", _u8(mount), read_only)
 
     def remount(self, read_only: bool, hooks: Optional[Hooks] = None) -> None:

@@ -112,6 +112,30 @@ class Gates(unittest.TestCase):
         self.refused(errno.EINVAL, self.task.try_want, 1)
         self.assertEqual((self.task.number, self.other.number), (0, 1))
 
+    def test_meeting(self) -> None:
+        with self.other.write(0):
+            self.task.meet(self.other)
+            self.refused(errno.EBUSY, self.task.change_mount, 0, True)
+            self.other.meet(self.task)
+            self.assertTrue(self.other.holds_mount(0) == 1 and self.other.holds_level(1) and self.task.rests)
+        self.refused(errno.EINVAL, self.task.meet, self.task)
+        with mntgate.open() as stranger:
+            self.refused(errno.EINVAL, self.task.meet, stranger)
+            joined = stranger.split()
+            stranger.join(joined)
+            self.assertRaises(ValueError, stranger.meet, joined)
+            self.assertRaises(ValueError, joined.meet, stranger)
+
+    def test_meetings_from_both_sides(self) -> None:
+        def meet(one: mntgate.Task, two: mntgate.Task) -> None:
+            for _ in range(2000):
+                one.meet(two)
+
+        thread = threading.Thread(target=meet, args=(self.task, self.other))
+        thread.start()
+        meet(self.other, self.task)
+        thread.join()
+
     def test_hook_is_no_busy(self) -> None:
         class Fails(mntgate.Hooks):
             def freeze_fs(self) -> int:

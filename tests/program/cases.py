@@ -4,7 +4,7 @@ In a file of cases an empty line stands behind each case. The marks before its l
 
     #         a remark
     @ NAME    a file that lies where the command lines of all cases run, with the '<' lines of this case
-    $ WORDS   a command line; several of a case have the same input, and end the same
+    $ WORDS   a command line; several of a case have the same input, and end the same; a plain replay has one with --over-gates beside it
     < LINE    a line of standard input
     << TEXT   a part of it that isn't a whole line: \n, \t, \r, \\ and \xff stand for one byte each
     <* N TEXT such a part, so many times
@@ -25,6 +25,10 @@ import re
 from typing import NamedTuple
 
 ROOT = os.path.dirname(os.path.dirname(os.path.dirname(os.path.realpath(__file__))))
+
+
+# A plain replay, and the same over the gates of threads: the program calls `replay_gates` for it.
+PLAIN, OVER_GATES = "mntgate replay", "mntgate replay --over-gates"
 
 
 class Unreadable(Exception):
@@ -127,6 +131,8 @@ def read_case(place, lines):
     names, words = ([text for mark, text in parts if mark == wanted] for wanted in "@$")
     if parts and (len(names) + bool(words) != 1 or len(statuses) > 1):
         raise Unreadable(f"{place}: a case has command lines and one status at most, or is one file")
+    if PLAIN in words and OVER_GATES not in words:
+        raise Unreadable(f"{place}: a plain replay is done over the gates of threads, too: no contract says that this prints the same")
     printed, told = (wanted_of([(text, mark[1:] == "~") for mark, text in parts if mark[0] == wanted]) for wanted in ">!")
     return Case(place, names, words, inputs_of(parts), sum(statuses), printed, told) if parts else None
 

@@ -58,6 +58,33 @@ static void test_accesses(struct mntgate_task *task, struct mntgate_task *other)
 	assert(mntgate_try_change_mount(other, 0, false) == 0);
 }
 
+/* Tasks meet whatever they hold, and keep it. */
+static void test_meetings(struct mntgate_task *task, struct mntgate_task *other)
+{
+	const struct mntgate_op freeze = { MNTGATE_OP_FREEZE, 0, 0, MNTGATE_USER, true, 0 };
+	struct mntgate_outcome outcome;
+
+	mntgate_meet(task, other);
+	assert(mntgate_rests(task) && mntgate_rests(other));
+	assert(mntgate_want_write(other, 0, 0) == 0);
+	mntgate_meet(task, other);
+	assert(mntgate_try_change_mount(task, 0, true) == EBUSY);
+	mntgate_meet(task, other);
+	assert(mntgate_begin(task, &freeze) == 0);
+	mntgate_meet(other, task);
+	assert(!mntgate_is_idle(task) && mntgate_holds_mount(other, 0) == 1 && mntgate_holds_level(other, 1));
+	assert(mntgate_number(task) == 0 && mntgate_number(other) == 1 && mntgate_drop_write(other, 0, 1) == 0);
+	assert(mntgate_finish(task, NULL, false, &outcome) == 0 && mntgate_thaw(task, MNTGATE_USER, NULL) == 0 && mntgate_settle(task) == 0);
+}
+
+/* Under a read-only superblock a change to read-only sets nothing. */
+static void test_change_that_sets_nothing(struct mntgate_task *task)
+{
+	assert(mntgate_remount_sb(task, true, NULL) == 0 && mntgate_change_mount(task, 0, true) == 0 && mntgate_want(task, 0, 0) == EROFS);
+	assert(mntgate_remount_sb(task, false, NULL) == 0 && mntgate_want(task, 0, 0) == 0 && mntgate_drop_mount(task, 0, 0) == 0);
+	assert(mntgate_try_change_mount(task, 0, true) == 0 && mntgate_want(task, 0, 0) == EROFS && mntgate_change_mount(task, 0, false) == 0);
+}
+
 static void test_levels(struct mntgate_task *task, struct mntgate_task *other)
 {
 	assert(mntgate_start(task, 1, 0) == 0 && mntgate_try_start(task, 2, 0) == 0);
@@ -257,6 +284,8 @@ int main(void)
 	assert(mntgate_open(&task, &config) == 0 && mntgate_number(&task) == 0);
 	assert(mntgate_split(&task, &other) == 0 && mntgate_number(&other) == 1 && mntgate_split(&task, &third) == EMFILE && third.at == NULL);
 	test_accesses(&task, &other);
+	test_meetings(&task, &other);
+	test_change_that_sets_nothing(&task);
 	test_levels(&task, &other);
 	test_hooks(&task);
 	test_hook_that_leaves(&task, &other);

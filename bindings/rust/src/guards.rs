@@ -61,7 +61,8 @@ guard! {
 }
 
 guard! {
-    /// A mount that is read-only: nobody has an access there until a task makes it writable. The drop does so, whatever it was before.
+    /// A mount that is read-only: nobody has an access there until a task makes it writable. The drop does so, whatever it was before. If
+    /// the superblock was read-only already, the mount is writable as soon as a task makes the superblock so.
     ReadOnly { mount } task => task.change_mount(*mount, false)
 }
 

@@ -166,6 +166,21 @@ impl Task {
         }
     }
 
+    /// Brings two tasks together: what either has done lies behind all that both do from here on. They keep what they hold, and neither has
+    /// to rest. The call waits for nobody. No other call needs a meeting: it lets you conclude from what one task holds what a call of the
+    /// other answers.
+    ///
+    /// # Errors
+    ///
+    /// `Invalid` if the other task is of other gates. Both are then as they were.
+    pub fn meet(&mut self, other: &mut Task) -> Result<(), Error> {
+        if !self.gates.is(&other.gates) {
+            return Err(Error::Invalid);
+        }
+        unsafe { sys::mntgate_meet(self.handle(), other.handle()) };
+        Ok(())
+    }
+
     /// Closes the gates, where all other tasks were joined.
     ///
     /// # Errors
@@ -279,7 +294,8 @@ impl Task {
         answer(unsafe { sys::mntgate_drop_write(self.handle(), mount, processor) })
     }
 
-    /// Makes a mount read-only, or writable. `Again` where another task owns `s_umount`, `Busy` where it has writers.
+    /// Makes a mount read-only, or writable. `Again` where another task owns `s_umount`, `Busy` where it has writers. Under a read-only
+    /// superblock a change to read-only is `Ok` and sets nothing, so the mount is writable as soon as the superblock is.
     pub fn try_change_mount(&mut self, mount: u8, read_only: bool) -> Result<(), Error> {
         answer(unsafe { sys::mntgate_try_change_mount(self.handle(), mount, read_only) })
     }

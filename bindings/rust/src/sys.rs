@@ -88,6 +88,7 @@ extern "C" {
     pub fn mntgate_open(task: *mut TaskHandle, config: *const Config) -> u32;
     pub fn mntgate_split(task: *mut TaskHandle, other: *mut TaskHandle) -> u32;
     pub fn mntgate_join(task: *mut TaskHandle, other: *mut TaskHandle) -> u32;
+    pub fn mntgate_meet(task: *mut TaskHandle, other: *mut TaskHandle);
     pub fn mntgate_close_words(task: *mut TaskHandle, words: *const Word, count: usize, values: *mut u64, values_count: usize) -> u32;
     pub fn mntgate_try_want(task: *mut TaskHandle, mount: u8, processor: u8) -> u32;
     pub fn mntgate_drop_mount(task: *mut TaskHandle, mount: u8, processor: u8) -> u32;

@@ -152,6 +152,26 @@ fn a_task_is_joined_to_its_own_gates_alone() {
 }
 
 #[test]
+fn tasks_meet_whatever_they_hold() {
+    let (mut task, mut other) = pair();
+    let mut write = other.write(0, 0).unwrap();
+    task.meet(&mut write).unwrap();
+    assert_eq!(task.change_mount(0, true), Err(Error::Busy));
+    write.meet(&mut task).unwrap();
+    assert!(write.holds_mount(0) == 1 && write.holds_level(1) && task.rests());
+    drop(write);
+    task.begin(Op::Freeze { holder: Holder::User }).unwrap();
+    other.meet(&mut task).unwrap();
+    assert!(!task.is_idle() && other.rests());
+    while task.run(Ok(()), 1024) != Progress::Done(Ok(Reply::Unit)) {}
+    task.thaw(Holder::User, &mut ()).unwrap();
+    let mut stranger = Gates::open(CONFIG).unwrap();
+    assert_eq!((task.meet(&mut stranger), stranger.meet(&mut task)), (Err(Error::Invalid), Err(Error::Invalid)));
+    stranger.close().unwrap();
+    close(task, other);
+}
+
+#[test]
 fn an_operation_can_be_stepped() {
     let (mut task, mut other) = pair();
     task.begin(Op::Start { level: 1, processor: 0, wait: true }).unwrap();

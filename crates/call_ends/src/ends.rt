@@ -16,12 +16,12 @@ ghost use Rattle.gate_steps.specs.call_events.Turns.{StateAgrees, AgreesAfter};
 ghost use Rattle.gate_steps.specs.call_events.Runs.{Called, OpUnderWay, IsTrying};
 ghost use Rattle.gate_steps.specs.call_events.Asking.{CalledAsking, OpUnderWayAsking, OpAfterStepAsking};
 
+use crate::backoff::Backoff;
 use access_model::{GateError, Next, Reply};
 use call_lines::{
     callback_first, close_second, end_freeze, freeze_first, freeze_locked, go_on_level,
     remount_first, remount_locked, reopen_all, run_callback, thaw_first, thaw_locked,
 };
-use crossbeam_utils::Backoff;
 use freeze_levels::{Freeze, FreezeStep, HookCall, Thaw, ThawStep};
 use gate_events::PendingOp;
 use gate_steps::call_events::{GateWords, GhostSeat, StepResult, TimedHooks, do_event, step_once};
@@ -391,9 +391,9 @@ pub fn run_to_reply<P: PendingOp>(
 }
 
 /// Goes on with an operation to its reply, however long it has to wait. A hook of the file system is asked once, right before the event that
-/// reads its answer. Where an event found what the operation waits for, it waits a little, and the longer the more often one did: soon the
-/// processor is left to others each time, since who is waited for may need it. A wait may take several events before it looks again, so none of
-/// these makes the pauses short again. It tells how many events did.
+/// reads its answer. After an event that found what the operation waits for it pauses,
+/// and the longer the more often one did (`Backoff`). A wait may take several events before it looks again, so none of these makes the pauses short
+/// again. It tells how many events did.
 #[cold]
 #[inline(never)]
 fn step_waiting<R: Wait, H: TimedHooks, P: Waiting>(
@@ -416,7 +416,7 @@ fn step_waiting<R: Wait, H: TimedHooks, P: Waiting>(
         CalledAsking H.answers of start before (task_state seat.new.table_id gates.now.config None None seat.new.me.0) result.0 result.1
         hooks.new }
 {
-    let backoff = Backoff::new();
+    let mut backoff = Backoff::new();
     let mut waited: u64 = 0;
     let mut next = begun;
     for _ in rt.forever() {
@@ -425,7 +425,7 @@ fn step_waiting<R: Wait, H: TimedHooks, P: Waiting>(
             Next::Go(further) => further,
             Next::Wait(further) => {
                 waited = waited.saturating_add(1);
-                backoff.snooze();
+                backoff.snooze(rt);
                 further
             }
         };

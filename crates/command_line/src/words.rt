@@ -20,6 +20,9 @@ use std::io::Write;
 /// Why names can't be asked for.
 const WHOSE: &str = "the argument '--names' takes 'schedule' or 'kernel'";
 
+/// Why schedules can't be saved: a variable of the shell may have had no value.
+const NO_FOLDER: &str = "the argument '--save' needs the name of a folder";
+
 /// How a replay and a list of outcomes are asked for.
 const REPLAY_USAGE: &str = "replay [OPTIONS] [FILE]";
 
@@ -421,6 +424,9 @@ fn outcomes_asked<'a, E: Write>(outcomes: &ArgMatches<'a>, errors: &mut E) -> Pr
         return misused(WHOSE, OUTCOMES_USAGE, errors);
     };
     let asked = outcomes_of(outcomes, form, style);
+    if asked.save == Some("") {
+        return misused(NO_FOLDER, OUTCOMES_USAGE, errors);
+    }
     if (style.raw || style.kernel_names) && !asked.names_words() {
         let why =
             "the arguments '--raw' and '--names' need '--schedules', '--columns', '--json', '--html' or '--save'";

@@ -1,7 +1,7 @@
 -- The texts of what is expected.
 use Rattle.std.specs.Prelude.{ℕ, List, codes}
 use Rattle.condition_text.specs.declared.faults.Expected.{Expected}
-use Rattle.condition_text.specs.declared.faults.Expected.TheVariants.{Fact, Shallower, Close, End, Task, DotOrHolds, Call, EqualsOrWaits, Answer, Code, Held, Equals, Access, Mount, Level, Stage, Holder, Node, NodeFact}
+use Rattle.condition_text.specs.declared.faults.Expected.TheVariants.{Fact, Shallower, Close, End, Task, DotOrHolds, Call, EqualsOrDue, Answer, Code, Held, Equals, Access, Mount, Level, Stage, Holder, Node, NodeFact}
 
 abbrev pub text_of : Expected → List ℕ
 text_of Fact = codes "a fact, '!' or '('"
@@ -11,7 +11,7 @@ text_of End = codes "'&', '|' or the end"
 text_of Task = codes "a task"
 text_of DotOrHolds = codes "'.' or 'holds'"
 text_of Call = codes "a call of the task"
-text_of EqualsOrWaits = codes "'=' or 'waits'"
+text_of EqualsOrDue = codes "'=' or 'due'"
 text_of Answer = codes "'ok', 'refused' or 'skipped'"
 text_of Code = codes "a code"
 text_of Held = codes "'mount', 'level' or 'file'"

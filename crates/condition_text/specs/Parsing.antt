@@ -3,23 +3,23 @@
 --   condition  all [ '|' condition ]
 --   all        one [ '&' all ]
 --   one        '!' one, '(' condition ')', or a fact
---   fact       TASK '.' CALL 'waits', TASK '.' CALL '=' answer, TASK 'holds' held, 'sb' '=' access, 'mount' MOUNT '=' access,
---              'stage' '=' STAGE, 'holder' holder, or 'node' NODE kind
---   answer     'ok', or 'refused', behind which a reason may stand: a name, or 'Hook' CODE
+--   fact       TASK '.' CALL 'due', or 'waits' in its place, TASK '.' CALL '=' answer, TASK 'holds' held, 'sb' '=' access,
+--              'mount' MOUNT '=' access, 'stage' '=' STAGE, 'holder' holder, or 'node' NODE kind
+--   answer     'ok', 'skipped', or 'refused', behind which a reason may stand: a name, or 'Hook' CODE
 --   held       'mount' MOUNT, 'level' LEVEL, or 'file' NODE
 --   access     'ro', or 'rw'
 --   holder     'kernel', or 'user'
 --   kind       'free', 'file', 'dir', 'dirty', or 'removed'
 --
 -- So `!` binds most, and `&` more than `|`.
-use Rattle.std.specs.Prelude.{◌≡◌, ℕ, zero, suc, nat_lt, Bool, true, false, if◌then◌else◌, List, [], ◌∷◌, codes, bytes_eq, find, Option, Some, None, Result, Ok, Err, slice_index}
+use Rattle.std.specs.Prelude.{◌≡◌, ◌||◌, ℕ, zero, suc, nat_lt, Bool, true, false, if◌then◌else◌, List, [], ◌∷◌, codes, bytes_eq, find, Option, Some, None, Result, Ok, Err, slice_index}
 use Rattle.access_model.specs.{Errors.{name_of}, declared.actions.Gate.TheVariants.{Mount as MountGate, Level as LevelGate}}
 use Rattle.access_model.specs.declared.{actions.Holder.{Holder, TheVariants.{Kernel, User}}, errors.GateError.{GateError}}
 use Rattle.access_model.specs.declared.errors.GateError.TheVariants.{NoEntry, Again, NoMemory, Busy, NotDir, IsDir, Invalid, TooMany, NoSpace, ReadOnly, Order, Hook}
 use Rattle.gate_world.specs.declared.config.Config.{Config}
 use Rattle.race_conditions.specs.{Conditions.{Formula, Is, Not, And, Or}, declared.conditions.CallAnswer.{CallAnswer}}
 use Rattle.race_conditions.specs.declared.conditions.{CallAnswer.TheVariants.{Done, Refused, RefusedFor, Skipped}, Fact.{Fact}}
-use Rattle.race_conditions.specs.declared.conditions.Fact.TheVariants.{Answered, Waits, Holds, HasOpen, Superblock, Mount, Stage, FrozenBy, Node}
+use Rattle.race_conditions.specs.declared.conditions.Fact.TheVariants.{Answered, Due, Holds, HasOpen, Superblock, Mount, Stage, FrozenBy, Node}
 use Rattle.race_conditions.specs.declared.conditions.NodeFact.{NodeFact, TheVariants.{Free, File, Dir, Dirty, Removed}}
 use Rattle.condition_text.specs.{Pieces.{end_of, is_next, piece_at, unexpected}, declared.faults.ConditionFault.{ConditionFault}}
 use Rattle.condition_text.specs.declared.faults.ConditionFault.TheVariants.{Unexpected as IsUnexpected, NoMemory as OutOfMemory}
@@ -123,11 +123,15 @@ module _ (text : List ℕ) where
     answer ← answer_at at
     Ok (Answered t call answer.0, answer.1)
 
+  -- a call is said to be due, by that word or by an older one
+  abbrev pub is_due : ℕ → Bool
+  is_due at = is_next text at (codes "due") || is_next text at (codes "waits")
+
   -- behind `TASK . CALL`
   unfoldable pub call_fact_at : ℕ → ℕ → ℕ → Read Fact
   call_fact_at t call at =
-      if is_next text at (codes "waits") then Ok (Waits t call, end_of text at) else
-      if is_next text at (codes "=") then answered_at t call (end_of text at) else Err (unexpected text at expect.EqualsOrWaits)
+      if is_due at then Ok (Due t call, end_of text at) else
+      if is_next text at (codes "=") then answered_at t call (end_of text at) else Err (unexpected text at expect.EqualsOrDue)
 
   unfoldable pub stage_fact_at : ℕ → Read Fact
   stage_fact_at at = do

@@ -22,8 +22,8 @@ pub enum Expected {
     DotOrHolds,
     /// A call that the task has.
     Call,
-    /// `=` or `waits`.
-    EqualsOrWaits,
+    /// `=` or `due`.
+    EqualsOrDue,
     /// `ok` or `refused`.
     Answer,
     /// The code of a hook, 1 to 65,535.
@@ -61,7 +61,7 @@ impl Expected {
             Expected::Task => "a task",
             Expected::DotOrHolds => "'.' or 'holds'",
             Expected::Call => "a call of the task",
-            Expected::EqualsOrWaits => "'=' or 'waits'",
+            Expected::EqualsOrDue => "'=' or 'due'",
             Expected::Answer => "'ok', 'refused' or 'skipped'",
             Expected::Code => "a code",
             Expected::Held => "'mount', 'level' or 'file'",

@@ -5,7 +5,7 @@ ghost use Rattle.race_conditions.specs.Conditions.{formula_of, Not};
 ghost use Rattle.race_conditions.specs.Named.{AllNamed, IsNamed};
 ghost use Rattle.condition_text.specs.Pieces.{piece_at};
 ghost use Rattle.schedule_lines.specs.Numbers.{code_of};
-ghost use Rattle.condition_text.specs.Parsing.{access_at, after_piece, answer_at, behind_task, both, call_fact_at, condition_at, condition_in, coded, fact_at, held_at, held_file_at, held_level_at, held_mount_at, holder_at, holder_fact_at, IsFaultOf, mount_fact_at, node_fact, node_fact_at, number_at, numbered_call_at, part_of, reason_of, refusal_at, sign_text, stage_fact_at, superblock_fact_at, task_fact_at};
+ghost use Rattle.condition_text.specs.Parsing.{access_at, after_piece, answer_at, behind_task, both, call_fact_at, condition_at, condition_in, coded, fact_at, held_at, held_file_at, held_level_at, held_mount_at, holder_at, holder_fact_at, IsFaultOf, is_due, mount_fact_at, node_fact, node_fact_at, number_at, numbered_call_at, part_of, reason_of, refusal_at, sign_text, stage_fact_at, superblock_fact_at, task_fact_at};
 
 use crate::faults::{ConditionFault, Expected, Unexpected};
 use crate::pieces::{end_of, is_next, piece_at, unexpected};
@@ -239,6 +239,13 @@ fn calls_of(names: &Names, task: u8) -> u8
     names.calls.get(task as usize).copied().unwrap_or(0)
 }
 
+/// Whether a call is said to be due: by that word, or by `waits`, which is an older word for the same.
+fn is_due(text: &[u8], at: usize) -> bool
+    ensures { result ≡ is_due text.now at }
+{
+    is_next(text, at, "due") || is_next(text, at, "waits")
+}
+
 /// Reads what stands behind the number of a call.
 #[tactic(auto, unfolding(crate::specs::Parsing::call_fact_at))]
 fn call_fact_at(
@@ -253,13 +260,13 @@ fn call_fact_at(
     ensures named { IfOk result (λ read. IsNamed names.now.config read.0) }
 {
     let _ = names;
-    if is_next(text, at, "waits") {
-        Ok((Fact::Waits { task, call }, end_of(text, at)))
+    if is_due(text, at) {
+        Ok((Fact::Due { task, call }, end_of(text, at)))
     } else if is_next(text, at, "=") {
         let (answer, at) = answer_at(text, end_of(text, at))?;
         Ok((Fact::Answered { task, call, answer }, at))
     } else {
-        Err(unexpected(text, at, Expected::EqualsOrWaits))
+        Err(unexpected(text, at, Expected::EqualsOrDue))
     }
 }
 

@@ -105,13 +105,14 @@ impl fmt::Display for Printable<'_> {
     }
 }
 
-/// The name by which what is read is told: that of its file, in printable characters; `<stdin>` if no file is named, or `-`.
+/// The name by which what is read is told: that of its file, in printable characters, or `''` where that has none; `<stdin>` if no file is named, or `-`.
 #[derive(Clone, Copy)]
 pub struct SourceName<'a>(pub Option<&'a str>);
 
 impl fmt::Display for SourceName<'_> {
     fn fmt<W: fmt::Write>(&self, f: &mut fmt::Formatter<W>) -> fmt::Result {
         match self.0 {
+            Some("") => write!(f, "''"),
             Some(file) if !is_input(self.0) => write!(f, "{}", Printable(file)),
             _ => write!(f, "<stdin>"),
         }

@@ -1,19 +1,23 @@
 -- What the calls of a run's tasks answer, and how they leave their tasks: at rest, or with the write access that was granted.
-use Rattle.std.proofs.Common.{◌≡◌, ◌≢◌, inl, inr, ℕ, zero, suc, ◌+◌, ◌<◌, true, List, refl, sym, ap, ◌∙◌, subst, arith, lt-ltb}
-use Rattle.std.specs.Prelude.{◌⊎◌, None, Some, Result, Ok, Err}
-use Rattle.access_model.specs.{Holders.{held_by}, Histories.{mounts_of, levels_of}, declared.actions.Action.{Action, TheVariants.{Grant}}}
+use Rattle.std.proofs.Common.{◌≡◌, ◌≢◌, inl, inr, ℕ, zero, suc, ◌+◌, ◌<◌, true, List, [], ◌∷◌, ◌++◌, refl, sym, ap, ◌∙◌, subst, arith, lt-ltb}
+use Rattle.std.specs.Prelude.{◌⊎◌, if◌then◌else◌, Bool, false, None, Some, Result, Ok, Err}
+use Rattle.access_model.specs.{Holders.{held_by, nobody}, Histories.{mounts_of, levels_of}, declared.actions.Action.{Action, TheVariants.{Grant, Hold, Leave, Reopen, Stage}}}
 use Rattle.access_model.specs.declared.actions.{Gate.TheVariants.{Mount, Level}, Holder.TheVariants.{User}, Kind.TheVariants.{File}}
 use Rattle.access_model.specs.declared.errors.GateError.{GateError}
-use Rattle.access_model.specs.declared.errors.GateError.TheVariants.{Again, Busy, Hook, Invalid, IsDir, NoEntry, NoSpace, NotDir, Order, ReadOnly, TooMany}
+use Rattle.access_model.specs.declared.errors.GateError.TheVariants.{Again, Busy, Hook, Invalid, IsDir, NoEntry, NoSpace, Order, ReadOnly, TooMany}
 use Rattle.access_model.specs.declared.replies.Reply.{Reply}
-use Rattle.gate_world.specs.{Holdings.{Holdings, holdings_of, held_after}, Operations.{some_mount}, traces.Traces.{IsHonestAnswer}}
+use Rattle.gate_world.specs.{Holdings.{Holdings, holdings_of, held_after}, Operations.{some_mount}, traces.{Found.{found_complete, found_sealed, found_shared}, Traces.{IsHonestAnswer}}}
 use Rattle.gate_world.specs.declared.{config.Config.{Config}, operations.Op.{Op}}
-use Rattle.gate_world.specs.declared.operations.Op.TheVariants.{WantWrite, DropWrite, Freeze, Thaw, Create, Grow, Snapshot}
+use Rattle.gate_world.specs.declared.operations.Op.TheVariants.{WantWrite, DropWrite, Callback, Freeze, Thaw, Create, Grow, Snapshot}
 use Rattle.gate_world.specs.declared.views.Traced.{Traced}
-use Rattle.gate_runs.specs.Refusals.{EndsCreate, EndsFreeze, EndsGrow, EndsThaw, HasWriteAccess, MayEnd, MetBy, StandsFor, WasRefused}
-use Rattle.gate_runs.specs.Rounds.{Does, IsRefused}
-use Rattle.vfs_gates.specs.{Frozen.{holders_of}, Grown.{StaySeen}, Held.{Rests, own_actions, takes_nothing}}
-use Rattle.vfs_gates.specs.{Runs.{Called, Performs, Replies, told_as}, TaskStates.{SeatedTask, refusal_at}}
+use Rattle.cpu_words.specs.Hooks.{HookAnswer}
+use Rattle.freeze_levels.specs.declared.hooks.HookCall.{HookCall, TheVariants.{Sync, FreezeFs, UnfreezeFs}}
+use Rattle.gate_steps.specs.call_events.{Asked.{AskedByRefused, AskedByRefusedFreeze, agreed, failed}, Asking.{Ask, PerformsAsking, WereAsked, asks_of}}
+use Rattle.gate_steps.proofs.call_events.{FreezeAsks.{refused_freeze}, ThawAsks.{refused_thaw}}
+use Rattle.gate_runs.specs.Refusals.{CreateRefused, EndsCreate, EndsGrow, HasWriteAccess, WriterRefused}
+use Rattle.gate_runs.specs.Rounds.{CallsBack, Does, IsRefused, Repeats}
+use Rattle.vfs_gates.specs.{Frozen.{MayFreeze, NeverFreezes, holders_of, stage_of}, Grown.{StaySeen}, Held.{Rests, own_actions, takes_nothing}}
+use Rattle.vfs_gates.specs.{Runs.{Called, Performs, Replies, told_as, unit_of}, Seating.{DealtNumbers}, TaskStates.{SeatedTask, refusal_at}, declared.Gates.{Gates}}
 use Rattle.vfs_gates.proofs.{Grown.{call_stays_seen}, Holding.{adds, as_before_twice, keeps, refused_call_keeps, rests_on, unchanged}}
 use Rattle.vfs_gates.proofs.Returning.{done_idle, return_restores, was_done}
 use Rattle.gate_runs.proofs.Keeping.{either_way}
@@ -37,24 +41,6 @@ whole read op first last refusal (Err cause) told k =
 pub was_whole : {A : Type 0} (read : Reply → A) (op : Op) (first last : SeatedTask) (refusal : GateError) → refusal_at op first ≡ None →
     Replies read op first last (Err refusal) → Called op first last (Err refusal)
 was_whole read op first last refusal began did = let done = did.done began in whole read op first last refusal done.0 done.1 done.2
-
--- by a task of some gates that stood so
-pub was_refused : {A : Type 0} (read : Reply → A) (config : Config) (op : Op) (first last : SeatedTask) (refusal : GateError) →
-    first.config ≡ config → StandsFor op first → refusal_at op first ≡ None → Replies read op first last (Err refusal) →
-    WasRefused config op refusal
-was_refused read config op first last refusal of stands began did = record {
-  first = first;
-  last = last;
-  of = of;
-  stands = stands;
-  began = began;
-  refused = was_whole read op first last refusal began did;
-}
-
--- one of a run's calls was, where its refusal may end the run
-pub met : (config : Config) (tasks : ℕ) (op : Op) (refusal : GateError) → MayEnd tasks op refusal → WasRefused config op refusal →
-    MetBy config tasks refusal
-met config tasks op refusal may was = record { op = op; its = may; was = was }
 
 -- write access that a task at rest takes
 pub want_begins : (cpu : ℕ) (s : SeatedTask) → Rests s → 0 < s.config.mounts → cpu < s.config.processors → refusal_at (WantWrite 0 cpu) s ≡ None
@@ -138,18 +124,7 @@ module _ (s : SeatedTask) (held : HasWriteAccess s) (mount : 0 < s.config.mounts
   pub grow_begins : (file : ℕ) → file < s.config.nodes → refusal_at (Grow file 1) s ≡ None
   grow_begins file node = rw (held.since.idle, lt-ltb file s.config.nodes node, inside_level, has_access) refl
 
--- how a creation is refused
-create_ends : (c : Config) (trace : List Traced) (refusal : GateError) → IsHonestAnswer c (Create 0 File) (Err refusal) trace → EndsCreate refusal
-create_ends c trace NoEntry honest = tt
-create_ends c trace NotDir honest = tt
-create_ends c trace NoSpace honest = tt
-create_ends c trace Again honest = tt
-create_ends c trace refusal honest = absurd honest
-
-pub create_refused : (first last : SeatedTask) (refusal : GateError) → Called (Create 0 File) first last (Err refusal) → EndsCreate refusal
-create_refused first last refusal k = create_ends first.config k.trace refusal k.honest
-
--- and a growth, where it isn't tried again
+-- how a growth is refused, where it isn't tried again
 grow_ends : (file : ℕ) (c : Config) (trace : List Traced) (refusal : GateError) → ¬ (refusal ≡ Again) →
     IsHonestAnswer c (Grow file 1) (Err refusal) trace → EndsGrow refusal
 grow_ends file c trace NoEntry other honest = tt
@@ -188,25 +163,62 @@ module _ (s : SeatedTask) (rests : Rests s) where
     rests.1.1 3 (omega arith) (omega arith),
   ) refl
 
--- how these are refused
-freeze_ends : (c : Config) (trace : List Traced) (refusal : GateError) → IsHonestAnswer c (Freeze User) (Err refusal) trace → EndsFreeze refusal
-freeze_ends c trace Busy honest = tt
-freeze_ends c trace (Hook code) honest = tt
-freeze_ends c trace refusal honest = absurd honest
+-- Hooks that all answer Ok.
+module _ {H : Type 0} (answers : HookCall → DealtNumbers → H → HookAnswer → H → Type 0)
+    (agree : (call : HookCall) (at : DealtNumbers) (old new : H) (answer : HookAnswer) → answers call at old answer new → answer ≡ Ok tt) where
+  -- none of them has failed
+  none_failed : (call : HookCall) (code : ℕ) (at : DealtNumbers) (earlier : List Ask) (before after : H) →
+      WereAsked answers (failed call code at ∷ earlier) before after → ⊥
+  none_failed call code at earlier before after asked =
+      let no : ◌≡◌ {A = HookAnswer} (Err code) (Ok tt) = agree call at asked.0 after (Err code) asked.2 in let f : ⊥ = cc in f
 
-pub freeze_refused : (first last : SeatedTask) (refusal : GateError) → Called (Freeze User) first last (Err refusal) → EndsFreeze refusal
-freeze_refused first last refusal k = freeze_ends first.config k.trace refusal k.honest
+  -- so a freeze is refused as busy alone
+  freeze_ends : (c : Config) (trace : List Traced) (added : List Action) (asks : List Ask) (before after : H) (refusal : GateError) →
+      IsHonestAnswer c (Freeze User) (Err refusal) trace → AskedByRefusedFreeze refusal added asks → WereAsked answers asks before after →
+      refusal ≡ Busy
+  freeze_ends c trace added asks before after Busy honest told asked = refl
+  freeze_ends c trace added asks before after (Hook code) honest told asked = elim told [
+    | inl last ↦ absurd (none_failed FreezeFs code last.1.0 (agreed Sync last.1.1 ∷ []) before after (subst (λ l. WereAsked answers l before after) last.1.2 asked))
+    | inr first ↦ absurd (none_failed Sync code first.1.0 [] before after (subst (λ l. WereAsked answers l before after) first.1.1 asked))
+  ]
+  freeze_ends c trace added asks before after refusal honest told asked = absurd honest
 
-thaw_ends : (c : Config) (trace : List Traced) (refusal : GateError) → IsHonestAnswer c (Thaw User) (Err refusal) trace →
-    EndsThaw refusal ⊎ (refusal ≡ Invalid)
-thaw_ends c trace Invalid honest = inr refl
-thaw_ends c trace (Hook code) honest = inl tt
-thaw_ends c trace refusal honest = absurd honest
+  freeze_told : (first last : SeatedTask) (before after : H) (refusal : GateError) (answer : Result Reply GateError) →
+      ◌≡◌ {A = Result (Unit {0}) GateError} (Err refusal) (told_as unit_of answer) → (called : Called (Freeze User) first last answer) →
+      WereAsked answers (asks_of first.config (Freeze User) first.items called.trace) before after → Called (Freeze User) first last (Err Busy)
+  freeze_told first last before after refusal (Ok reply) told called asked = absurd (let f : ⊥ = cc in f)
+  freeze_told first last before after refusal (Err cause) told called asked =
+      subst (λ e. Called (Freeze User) first last (Err e))
+      (freeze_ends first.config called.trace _ _ before after cause called.honest (refused_freeze User first last cause called) asked) called
 
-pub thaw_refused : (first last : SeatedTask) (refusal : GateError) → Called (Thaw User) first last (Err refusal) →
-    EndsThaw refusal ⊎ (refusal ≡ Invalid)
-thaw_refused first last refusal k = thaw_ends first.config k.trace refusal k.honest
+  pub freeze_refused : (first last : SeatedTask) (before after : H) (refusal : GateError) → refusal_at (Freeze User) first ≡ None →
+      PerformsAsking answers (Freeze User) first last (Err refusal) before after → Called (Freeze User) first last (Err Busy)
+  freeze_refused first last before after refusal began did =
+      let done = did.replies.done began in freeze_told first last before after refusal done.0 done.1 done.2 (did.asked began)
 
+  -- and a thaw as invalid alone
+  thaw_ends : (c : Config) (trace : List Traced) (asks : List Ask) (before after : H) (refusal : GateError) →
+      IsHonestAnswer c (Thaw User) (Err refusal) trace → AskedByRefused UnfreezeFs refusal asks → WereAsked answers asks before after →
+      refusal ≡ Invalid
+  thaw_ends c trace asks before after Invalid honest told asked = refl
+  thaw_ends c trace asks before after (Hook code) honest told asked =
+      absurd (none_failed UnfreezeFs code told.0 [] before after (subst (λ l. WereAsked answers l before after) told.1 asked))
+  thaw_ends c trace asks before after refusal honest told asked = absurd honest
+
+  thaw_told : (first last : SeatedTask) (before after : H) (refusal : GateError) (answer : Result Reply GateError) →
+      ◌≡◌ {A = Result (Unit {0}) GateError} (Err refusal) (told_as unit_of answer) → (called : Called (Thaw User) first last answer) →
+      WereAsked answers (asks_of first.config (Thaw User) first.items called.trace) before after → Called (Thaw User) first last (Err Invalid)
+  thaw_told first last before after refusal (Ok reply) told called asked = absurd (let f : ⊥ = cc in f)
+  thaw_told first last before after refusal (Err cause) told called asked =
+      subst (λ e. Called (Thaw User) first last (Err e))
+      (thaw_ends first.config called.trace _ before after cause called.honest (refused_thaw User first last cause called) asked) called
+
+  pub thaw_refused : (first last : SeatedTask) (before after : H) (refusal : GateError) → refusal_at (Thaw User) first ≡ None →
+      PerformsAsking answers (Thaw User) first last (Err refusal) before after → Called (Thaw User) first last (Err Invalid)
+  thaw_refused first last before after refusal began did =
+      let done = did.replies.done began in thaw_told first last before after refusal done.0 done.1 done.2 (did.asked began)
+
+-- how a snapshot is refused
 snapshot_ends : (c : Config) (trace : List Traced) (refusal : GateError) → IsHonestAnswer c (Snapshot true) (Err refusal) trace → refusal ≡ Invalid
 snapshot_ends c trace Invalid honest = refl
 snapshot_ends c trace Again honest = absurd (let f : ⊥ = cc honest.0 in f)
@@ -226,43 +238,74 @@ pub snapshot_list : {A : Type 0} (read : Reply → A) (first last : SeatedTask) 
 snapshot_list read first last outcome did = either_way read (Snapshot true) first last outcome did (λ (s : SeatedTask). own_actions s ≡ own_actions first)
     refl (λ answer called. adds (Snapshot true) first last answer called)
 
+-- By a list that has no freeze and no thaw the task may freeze.
+never_as : (actions : List Action) → NeverFreezes actions → (stage_of actions ≡ 0) × (holders_of actions ≡ nobody)
+never_as [] never = (refl, refl)
+never_as (Stage n ∷ earlier) never = absurd never.0
+never_as (Hold h ∷ earlier) never = absurd never.0
+never_as (Leave h ∷ earlier) never = absurd never.0
+never_as (a ∷ earlier) never = never_as earlier never.1
+
+pub never_may : (actions : List Action) → NeverFreezes actions → MayFreeze User actions
+never_may actions never = let its = never_as actions never in (inl its.0, ap (λ h. held_by h User) its.1)
+
+-- And after a freeze and a thaw it may again.
+abbrev IsSettled : List Action → Type 0
+IsSettled actions = (stage_of actions ≡ 0) ⊎ (stage_of actions ≡ 4)
+
+settled_frozen : (complete sealed : Bool) (closed earlier : List Action) → IsSettled earlier →
+    IsSettled ((Hold User ∷ (if complete then [] else Stage 4 ∷ (if sealed then [] else closed))) ++ earlier)
+settled_frozen true sealed closed earlier settled = settled
+settled_frozen false sealed closed earlier settled = inr refl
+
+may_thawed : (shared sealed : Bool) (earlier : List Action) → IsSettled earlier →
+    MayFreeze User ((if shared then Leave User ∷ [] else if sealed then Stage 0 ∷ (Leave User ∷ []) else
+    Reopen 1 ∷ (Reopen 2 ∷ (Reopen 3 ∷ (Stage 0 ∷ (Leave User ∷ []))))) ++ earlier)
+may_thawed true sealed earlier settled = (settled, refl)
+may_thawed false true earlier settled = (inl refl, refl)
+may_thawed false false earlier settled = (inl refl, refl)
+
+pub may_again : (first frozen copied thawed : SeatedTask) → MayFreeze User (own_actions first) → Does (Freeze User) first frozen →
+    own_actions copied ≡ own_actions frozen → Does (Thaw User) copied thawed → MayFreeze User (own_actions thawed)
+may_again first frozen copied thawed may freezes same thaws =
+    let froze = was_done (Freeze User) first frozen freezes in
+    let thawn = was_done (Thaw User) copied thawed thaws in
+    let settled : IsSettled (own_actions copied) = subst IsSettled (sym (same ∙ adds (Freeze User) first frozen (Ok froze.reply) froze.called))
+    (settled_frozen (found_complete froze.called.trace) (found_sealed froze.called.trace) _ (own_actions first) may.0) in
+    subst (MayFreeze User) (sym (adds (Thaw User) copied thawed (Ok thawn.reply) thawn.called))
+    (may_thawed (found_shared User thawn.called.trace) (found_sealed thawn.called.trace) (own_actions copied) settled)
+
+-- callbacks leave the list
+calls_back_list : (level : ℕ) (first last : SeatedTask × ℕ × ℕ) → CallsBack level first last → own_actions last.0 ≡ own_actions first.0
+calls_back_list level first last ran = either_way _ (Callback level) first.0 last.0 _ ran.1 (λ (s : SeatedTask). own_actions s ≡ own_actions first.0)
+    refl (λ answer called. adds (Callback level) first.0 last.0 answer called)
+
+pub callbacks_list : (n : ℕ) (first last : SeatedTask × ℕ × ℕ) → Repeats (λ k. CallsBack (k + 1)) n first last →
+    own_actions last.0 ≡ own_actions first.0
+callbacks_list zero first last did = ap (λ (x : SeatedTask × ℕ × ℕ). own_actions x.0) did
+callbacks_list (suc n) first last did = calls_back_list (n + 1) did.0 last did.2 ∙ callbacks_list n first did.0 did.1
+
 -- what a task has seen it has seen still after a call that was done
 pub done_stays_seen : (op : Op) (first last : SeatedTask) → Does op first last → StaySeen first.seen last.seen
 done_stays_seen op first last did =
     let was = was_done op first last did in call_stays_seen op first last (Ok was.reply) was.called
 
--- No call ends a run as Order, TooMany or Invalid.
-abbrev NeverEnds : GateError → Type 0
-NeverEnds refusal = (tasks : ℕ) (op : Op) → MayEnd tasks op refusal → ⊥
+-- No file is refused as Order, TooMany or Invalid.
+abbrev pub IsInOrder : GateError → Type 0
+IsInOrder refusal = (refusal ≢ Order) × (refusal ≢ TooMany) × (refusal ≢ Invalid)
 
-not_order : NeverEnds Order
-not_order tasks (WantWrite m p) its = let is : Order ≡ ReadOnly = its.2 in let f : ⊥ = cc in f
-not_order tasks (Create d kind) its = its.2
-not_order tasks (Grow file blocks) its = its.3
-not_order tasks (Freeze holder) its = its.1
-not_order tasks (Thaw holder) its = its.1
-not_order tasks op its = its
+create_in_order : (refusal : GateError) → EndsCreate refusal → IsInOrder refusal
+create_in_order NoSpace ends = ((λ is. let f : ⊥ = cc in f), (λ is. let f : ⊥ = cc in f), (λ is. let f : ⊥ = cc in f))
+create_in_order Again ends = ((λ is. let f : ⊥ = cc in f), (λ is. let f : ⊥ = cc in f), (λ is. let f : ⊥ = cc in f))
+create_in_order refusal ends = absurd ends
 
-not_too_many : NeverEnds TooMany
-not_too_many tasks (WantWrite m p) its = let is : TooMany ≡ ReadOnly = its.2 in let f : ⊥ = cc in f
-not_too_many tasks (Create d kind) its = its.2
-not_too_many tasks (Grow file blocks) its = its.3
-not_too_many tasks (Freeze holder) its = its.1
-not_too_many tasks (Thaw holder) its = its.1
-not_too_many tasks op its = its
+grow_in_order : (refusal : GateError) → EndsGrow refusal → IsInOrder refusal
+grow_in_order NoEntry ends = ((λ is. let f : ⊥ = cc in f), (λ is. let f : ⊥ = cc in f), (λ is. let f : ⊥ = cc in f))
+grow_in_order IsDir ends = ((λ is. let f : ⊥ = cc in f), (λ is. let f : ⊥ = cc in f), (λ is. let f : ⊥ = cc in f))
+grow_in_order NoSpace ends = ((λ is. let f : ⊥ = cc in f), (λ is. let f : ⊥ = cc in f), (λ is. let f : ⊥ = cc in f))
+grow_in_order refusal ends = absurd ends
 
-not_invalid : NeverEnds Invalid
-not_invalid tasks (WantWrite m p) its = let is : Invalid ≡ ReadOnly = its.2 in let f : ⊥ = cc in f
-not_invalid tasks (Create d kind) its = its.2
-not_invalid tasks (Grow file blocks) its = its.3
-not_invalid tasks (Freeze holder) its = its.1
-not_invalid tasks (Thaw holder) its = its.1
-not_invalid tasks op its = its
-
-pub met_in_order : (config : Config) (tasks : ℕ) (refusal : GateError) → MetBy config tasks refusal →
-    (refusal ≢ Order) × (refusal ≢ TooMany) × (refusal ≢ Invalid)
-met_in_order config tasks refusal by = (
-  (λ is. not_order tasks by.op (subst (MayEnd tasks by.op) is by.its)),
-  (λ is. not_too_many tasks by.op (subst (MayEnd tasks by.op) is by.its)),
-  (λ is. not_invalid tasks by.op (subst (MayEnd tasks by.op) is by.its)),
-)
+pub file_in_order : (gates : Gates) (tasks processors rounds : ℕ) (refusal : GateError) →
+    CreateRefused gates tasks refusal ⊎ WriterRefused gates tasks processors rounds refusal → IsInOrder refusal
+file_in_order gates tasks processors rounds refusal (inl created) = create_in_order refusal created.ends
+file_in_order gates tasks processors rounds refusal (inr writer) = grow_in_order refusal writer.grow.ends

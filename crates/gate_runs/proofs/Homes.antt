@@ -3,16 +3,16 @@ use Rattle.std.proofs.Common.{◌≡◌, ℕ, suc, ◌+◌, ◌-◌, refl, subst
 use Rattle.std.specs.Prelude.{◌⊎◌, Result, Ok, Err, IfErr, IfOk}
 use Rattle.access_model.specs.declared.errors.GateError.{GateError}
 use Rattle.run_plans.specs.declared.{counts.{Remounts.{Remounts}, Writes.{Writes}}, plans.Plan.{Plan}}
-use Rattle.gate_runs.specs.{Counts.{both}, Keeping.{ThawsNothing}, Observers.{was_held}}
-use Rattle.gate_runs.specs.{Refusals.{RunRefused}, declared.threads.Met.{Met, TheVariants.{Remounter, Writer}}}
-use Rattle.gate_runs.specs.Homes.{ComesHome, DoesRounds, IsReady, NeverThawed, TaskShare, TookBack, with_met}
+use Rattle.gate_runs.specs.{Counts.{both}, Keeping.{FreezesNothing}, Observers.{was_held}}
+use Rattle.gate_runs.specs.{Refusals.{WriterRefused}, declared.threads.Met.{Met, TheVariants.{Remounter, Writer}}}
+use Rattle.gate_runs.specs.Homes.{ComesHome, DoesRounds, IsReady, NeverFroze, TaskShare, TookBack, with_met}
 use Rattle.gate_runs.specs.Parts.{Among, Remounted, Wrote, AllWrote}
 use Rattle.gate_runs.proofs.Staying.{all_wrote_before, all_wrote_on, remounted_on, remounter_part, writer_part}
 use Rattle.vfs_gates.specs.{declared.Gates.{Gates}, Splitting.{HasBegun}, TaskStates.{SeatedTask}}
 
--- a task that thaws nothing comes back with its number
-pub comes_back : (gates : Gates) (plan : Plan) (number : ℕ) (first last : SeatedTask) → IsReady gates plan number first → ThawsNothing first last →
-    NeverThawed number last
+-- a task that freezes and thaws nothing comes back with its number
+pub comes_back : (gates : Gates) (plan : Plan) (number : ℕ) (first last : SeatedTask) → IsReady gates plan number first → FreezesNothing first last →
+    NeverFroze number last
 comes_back gates plan number first last ready thaws = record {
   there = thaws.numbers.there ready.begun.there;
   own = thaws.numbers.own ∙ ready.begun.own;
@@ -39,9 +39,9 @@ came_home held gates plan number last old new (Err e) home took = tt
 
 -- why it was refused
 pub home_refused : (held : ℕ → ℕ → Type 0) (gates : Gates) (plan : Plan) (number : ℕ) (last : SeatedTask) (met : Result Met GateError) →
-    ComesHome held gates plan number last met → IfErr met (RunRefused gates.words.config plan.tasks)
+    ComesHome held gates plan number last met → IfErr met (WriterRefused gates plan.tasks plan.processors plan.rounds)
 home_refused held gates plan number last (Ok m) home = tt
-home_refused held gates plan number last (Err e) home = inr home.4
+home_refused held gates plan number last (Err e) home = home.4
 
 -- what was met by those that were joined, while so many are left: the first of all is the remounter
 pub record Joined (Ends : SeatedTask → Type 0) (held : ℕ → ℕ → Type 0) (processors rounds left count : ℕ) (remounts : Remounts) (writes : Writes) :

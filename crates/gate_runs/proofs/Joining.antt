@@ -1,16 +1,16 @@
--- What a task has that took back the numbers of others, and why it found nothing thawed.
+-- What a task has that took back the numbers of others, and why it found nothing frozen or thawed by them.
 use Rattle.std.proofs.Common.{◌≡◌, ℕ, zero, suc, ◌+◌, ◌<◌, ◌≤◌, false, List, [], ◌∷◌, ◌++◌, length, refl, sym, ◌∙◌, subst, inl, inr, arith}
 use Rattle.std.proofs.lemmas.Bool.Decides.{eqb_tells}
-use Rattle.access_model.specs.declared.actions.Holder.TheVariants.{User}
+use Rattle.access_model.specs.declared.actions.{Action.{Action, TheVariants.{Leave}}, Holder.TheVariants.{User}}
 use Rattle.gate_world.specs.declared.{config.Config.{Config}, views.View.{View}}
-use Rattle.vfs_gates.specs.{Frozen.{NeverThaws}, Grown.{StaySeen}, Ended.{EndedWith, HasAll}}
+use Rattle.vfs_gates.specs.{Frozen.{IsBesideFreezes, NeverFreezes, NeverThaws}, Grown.{StaySeen}, Ended.{EndedWith, HasAll}}
 use Rattle.vfs_gates.specs.{Seating.{DealtNumbers, HaveViews, one_if, times}, TaskStates.{SeatedTask, own_number, spare_of}}
 use Rattle.vfs_gates.proofs.{Grown.{both_stay_seen, same_stays_seen, stays_seen_on}, Rounds.{own_times, times-append}}
-use Rattle.vfs_gates.proofs.FrozenUntilThawed.{stands}
-use Rattle.gate_runs.specs.{Keeping.{HaveNotThawed}, Refusals.{FoundThawed}}
-use Rattle.gate_runs.specs.Homes.{HasBack, NeverThawed, TookBack}
+use Rattle.vfs_gates.proofs.{several_tasks.FreezesBeside.{not_busy}, several_tasks.FrozenUntilThawed.{stands}}
+use Rattle.gate_runs.specs.{Keeping.{HaveNotFrozen}, Refusals.{FoundOthers}}
+use Rattle.gate_runs.specs.Homes.{HasBack, NeverFroze, TookBack}
 
-have_not_both : (a b : DealtNumbers) → HaveNotThawed a → HaveNotThawed b → HaveNotThawed (a ++ b)
+have_not_both : (a b : DealtNumbers) → HaveNotFrozen a → HaveNotFrozen b → HaveNotFrozen (a ++ b)
 have_not_both [] b none more = more
 have_not_both (x ∷ a) b none more = (none.0, have_not_both a b none.1 more)
 
@@ -22,7 +22,7 @@ some_both : (a b : DealtNumbers) → 1 ≤ length a → 1 ≤ length (a ++ b)
 some_both [] b there = absurd (omega arith)
 some_both (x ∷ a) b there = omega arith
 
-spare_both : (a b : DealtNumbers) → 1 ≤ length a → HaveNotThawed (spare_of a) → HaveNotThawed b → HaveNotThawed (spare_of (a ++ b))
+spare_both : (a b : DealtNumbers) → 1 ≤ length a → HaveNotFrozen (spare_of a) → HaveNotFrozen b → HaveNotFrozen (spare_of (a ++ b))
 spare_both [] b there none more = absurd (omega arith)
 spare_both (x ∷ a) b there none more = have_not_both a b none more
 
@@ -37,7 +37,7 @@ has_none_back s from count none = record {
 }
 
 -- and one more
-pub has_back_more : (from next count : ℕ) (first old other new : SeatedTask) → next ≡ suc from → 1 ≤ length old.items → NeverThawed from other →
+pub has_back_more : (from next count : ℕ) (first old other new : SeatedTask) → next ≡ suc from → 1 ≤ length old.items → NeverFroze from other →
     TookBack old other new → HasBack next count first old → HasBack from count first new
 has_back_more from next count first old other new is there never took before =
     let joined : SeatedTask = record old { items = old.items ++ other.items; seen = old.seen ++ other.seen } in
@@ -61,9 +61,9 @@ all_numbers count old new has own there zero lt = own_times 0 new.items own ther
 all_numbers count old new has own there (suc k) lt = has.back (suc k) (omega arith) lt
 
 -- what a task found it has found still when it has seen more
-pub found_on : (s t : SeatedTask) → t.config ≡ s.config → own_number t.items ≡ own_number s.items → StaySeen s.seen t.seen → FoundThawed s →
-    FoundThawed t
-found_on s t config own seen found = record {
+pub found_on : (s t : SeatedTask) → t.config ≡ s.config → own_number t.items ≡ own_number s.items → StaySeen s.seen t.seen → FoundOthers s →
+    FoundOthers t
+found_on s t config own seen (inl found) = inl (record {
   op = found.op;
   first = found.first;
   last = found.last;
@@ -73,22 +73,31 @@ found_on s t config own seen found = record {
   holds = found.holds;
   refused = found.refused;
   seen = stays_seen_on found.last.seen s.seen t.seen found.seen seen;
-}
+})
+found_on s t config own seen (inr found) = inr (record {
+  first = found.first;
+  last = found.last;
+  config = found.config ∙ sym config;
+  own = found.own ∙ sym own;
+  may = found.may;
+  refused = found.refused;
+  seen = stays_seen_on found.last.seen s.seen t.seen found.seen seen;
+})
 
--- each other number hasn't thawed in the end
-spare_never : (views : ℕ → View) (items : DealtNumbers) → HaveViews views items → HaveNotThawed items → (t : ℕ) → 1 ≤ times t items →
-    NeverThaws User (views t).actions
+-- each other number has neither frozen nor thawed in the end
+spare_never : (views : ℕ → View) (items : DealtNumbers) → HaveViews views items → HaveNotFrozen items → (t : ℕ) → 1 ≤ times t items →
+    NeverFreezes (views t).actions
 spare_never views [] have none t some = absurd (omega (arith, some))
 spare_never views (x ∷ xs) have none t some =
     elim (eqb_tells x.number t) [
-      | inl is ↦ subst (λ n. NeverThaws User (views n).actions) is.1 (subst (λ (v : View). NeverThaws User v.actions) (sym (have 0 x refl)) none.0)
+      | inl is ↦ subst (λ n. NeverFreezes (views n).actions) is.1 (subst (λ (v : View). NeverFreezes v.actions) (sym (have 0 x refl)) none.0)
       | inr other ↦
           let more : 1 ≤ one_if false + times t xs = subst (λ b. 1 ≤ one_if b + times t xs) other.0 some in
           spare_never views xs (λ k y at. have (suc k) y at) none.1 t (omega (arith, more))
     ]
 
-others_never : (views : ℕ → View) (items : DealtNumbers) → HaveViews views items → HaveNotThawed (spare_of items) → (t : ℕ) → 1 ≤ times t items →
-    (t ≡ own_number items → ⊥) → NeverThaws User (views t).actions
+others_never : (views : ℕ → View) (items : DealtNumbers) → HaveViews views items → HaveNotFrozen (spare_of items) → (t : ℕ) → 1 ≤ times t items →
+    (t ≡ own_number items → ⊥) → NeverFreezes (views t).actions
 others_never views [] have none t some other = absurd (omega (arith, some))
 others_never views (x ∷ xs) have none t some other =
     elim (eqb_tells x.number t) [
@@ -98,12 +107,24 @@ others_never views (x ∷ xs) have none t some other =
           spare_never views xs (λ k y at. have (suc k) y at) none t (omega (arith, more))
     ]
 
--- so closed gates tell that a task with all numbers has found nothing thawed, if none of the others thawed
-pub found_nothing : (c : Config) (ws : List ℕ) (s : SeatedTask) → s.config ≡ c → HasAll s → HaveNotThawed (spare_of s.items) →
-    EndedWith c ws s.items s.seen → FoundThawed s → ⊥
-found_nothing c ws s of all none e found =
+-- who has neither frozen nor thawed hasn't thawed
+never_thaws : (actions : List Action) → NeverFreezes actions → NeverThaws User actions
+never_thaws [] never = tt
+never_thaws (Leave h ∷ earlier) never = absurd never.0
+never_thaws (a ∷ earlier) never = ((λ is. subst IsBesideFreezes is never.0), never_thaws earlier never.1)
+
+-- so closed gates tell that a task with all numbers has found nothing frozen or thawed, if none of the others did
+pub found_nothing : (c : Config) (ws : List ℕ) (s : SeatedTask) → s.config ≡ c → HasAll s → HaveNotFrozen (spare_of s.items) →
+    EndedWith c ws s.items s.seen → FoundOthers s → ⊥
+found_nothing c ws s of all none e (inl found) =
     let same : c ≡ found.first.config = sym (found.config ∙ of) in
     let ends : EndedWith found.first.config ws s.items s.seen = subst (λ (d : Config). EndedWith d ws s.items s.seen) same e in
     stands User found.op found.first found.last found.refused found.needs ws s.items s.seen ends found.holds found.seen
+    (λ t lt other. never_thaws (ends.ended.world.views t).actions (others_never ends.ended.world.views s.items ends.mine none t
+    (all.2 t (subst (λ (d : Config). t < d.tasks) found.config lt)) (λ is. other (is ∙ sym found.own))))
+found_nothing c ws s of all none e (inr found) =
+    let same : c ≡ found.first.config = sym (found.config ∙ of) in
+    let ends : EndedWith found.first.config ws s.items s.seen = subst (λ (d : Config). EndedWith d ws s.items s.seen) same e in
+    not_busy User found.first found.last found.refused ws s.items s.seen ends found.may found.seen
     (λ t lt other. others_never ends.ended.world.views s.items ends.mine none t
     (all.2 t (subst (λ (d : Config). t < d.tasks) found.config lt)) (λ is. other (is ∙ sym found.own)))

@@ -1,16 +1,16 @@
--- What calls of its own leave a task: its numbers, and that it thaws nothing unless a call is a thaw.
+-- What calls of its own leave a task: its numbers, and that it has frozen and thawed nothing unless a call is a freeze or a thaw.
 use Rattle.std.proofs.Common.{◌≡◌, ℕ, zero, suc, ◌+◌, ◌≤◌, true, false, List, [], ◌∷◌, ◌++◌, length, refl, ap, sym, subst, ◌∙◌, arith, inl, inr}
 use Rattle.std.proofs.lemmas.Bool.{cases_Bool}
 use Rattle.std.specs.Prelude.{Option, Some, None, Result, Ok, Err}
-use Rattle.access_model.specs.declared.{actions.{Action.{Action}, Holder.TheVariants.{User}}, errors.GateError.{GateError}}
-use Rattle.access_model.specs.declared.{errors.GateError.TheVariants.{ReadOnly}, replies.Reply.{Reply}}
-use Rattle.gate_world.specs.declared.{config.Config.{Config}, operations.Op.{Op, TheVariants.{ChangeMount, DropWrite, Grow, WantWrite}}}
+use Rattle.access_model.specs.declared.{actions.{Action.{Action}, Kind.TheVariants.{File}}, errors.GateError.{GateError}}
+use Rattle.access_model.specs.declared.{errors.GateError.TheVariants.{ReadOnly}, replies.Reply.{Reply, TheVariants.{Node}}}
+use Rattle.gate_world.specs.declared.{config.Config.{Config}, operations.Op.{Op, TheVariants.{ChangeMount, Create, DropWrite, Grow, WantWrite}}}
 use Rattle.gate_world.specs.{declared.views.Traced.{Traced}, traces.{Found.{found_read_only}, Traces.{actions_of}}}
-use Rattle.vfs_gates.specs.{Frozen.{NeverThaws}, Held.{own_actions}, Runs.{Called, Replies, ran_items}, Seating.{DealtNumbers}}
+use Rattle.vfs_gates.specs.{Frozen.{NeverFreezes}, Held.{own_actions}, Runs.{Called, Replies, ran_items}, Seating.{DealtNumbers}}
 use Rattle.vfs_gates.specs.{Splitting.{HaveDoneNothing}, TaskStates.{SeatedTask, own_number, own_view, refusal_at, spare_of}}
 use Rattle.vfs_gates.proofs.Holding.{adds}
 use Rattle.run_plans.specs.declared.counts.{Copies.{Copies}, Remounts.{Remounts}, Writes.{Writes}}
-use Rattle.gate_runs.specs.{Counts.{with_waits}, Keeping.{HaveNotThawed, KeepsNumbers, ThawsNothing}}
+use Rattle.gate_runs.specs.{Counts.{with_waits}, Keeping.{HaveNotFrozen, KeepsNumbers, FreezesNothing}}
 use Rattle.gate_runs.specs.Rounds.{Repeats, CallsBack, CreatesFile, CreatesFiles, IsRefused, Retries, Takes, Waits, RemountRound, WriterRound, BackupRound}
 
 pub stays_so : (s : SeatedTask) → KeepsNumbers s s
@@ -63,68 +63,72 @@ pub stays : {A : Type 0} (read : Reply → A) (op : Op) (first last : SeatedTask
     KeepsNumbers first last
 stays read op first last outcome did = either_way read op first last outcome did (KeepsNumbers first) (stays_so first) (called_stays op first last)
 
--- an operation of a worker, which adds no thaw
+-- an operation of a worker, or of the backup before it freezes, which adds neither
 abbrev pub IsWorkers : Op → Type 0
 IsWorkers (WantWrite m p) = Unit {0}
 IsWorkers (DropWrite m p) = Unit {0}
 IsWorkers (ChangeMount m read_only wait) = Unit {0}
+IsWorkers (Create dir kind) = Unit {0}
 IsWorkers (Grow file blocks) = Unit {0}
 IsWorkers op = ⊥
 
-adds_none : (op : Op) (answer : Result Reply GateError) (trace : List Traced) → IsWorkers op → NeverThaws User (actions_of op answer trace)
-adds_none (WantWrite m p) (Ok reply) trace its = ((λ e. let f : ⊥ = cc in f), ((λ e. let f : ⊥ = cc in f), tt))
-adds_none (WantWrite m p) (Err refusal) trace its = ((λ e. let f : ⊥ = cc in f), ((λ e. let f : ⊥ = cc in f), tt))
-adds_none (DropWrite m p) (Ok reply) trace its = ((λ e. let f : ⊥ = cc in f), ((λ e. let f : ⊥ = cc in f), tt))
+adds_none : (op : Op) (answer : Result Reply GateError) (trace : List Traced) → IsWorkers op → NeverFreezes (actions_of op answer trace)
+adds_none (WantWrite m p) (Ok reply) trace its = (tt, (tt, tt))
+adds_none (WantWrite m p) (Err refusal) trace its = (tt, (tt, tt))
+adds_none (DropWrite m p) (Ok reply) trace its = (tt, (tt, tt))
 adds_none (DropWrite m p) (Err refusal) trace its = tt
 adds_none (ChangeMount m true wait) (Ok reply) trace its =
-    elim (cases_Bool (found_read_only m trace)) [ inl h ↦ rw h tt | inr h ↦ rw h ((λ e. let f : ⊥ = cc in f), tt) ]
+    elim (cases_Bool (found_read_only m trace)) [ inl h ↦ rw h tt | inr h ↦ rw h (tt, tt) ]
 adds_none (ChangeMount m false wait) (Ok reply) trace its =
-    elim (cases_Bool (found_read_only m trace)) [ inl h ↦ rw h ((λ e. let f : ⊥ = cc in f), tt) | inr h ↦ rw h tt ]
+    elim (cases_Bool (found_read_only m trace)) [ inl h ↦ rw h (tt, tt) | inr h ↦ rw h tt ]
 adds_none (ChangeMount m read_only wait) (Err refusal) trace its = tt
-adds_none (Grow file blocks) (Ok reply) trace its = ((λ e. let f : ⊥ = cc in f), tt)
+adds_none (Create dir kind) (Ok (Node n)) trace its = (tt, tt)
+adds_none (Create dir kind) (Ok reply) trace its = tt
+adds_none (Create dir kind) (Err refusal) trace its = tt
+adds_none (Grow file blocks) (Ok reply) trace its = (tt, tt)
 adds_none (Grow file blocks) (Err refusal) trace its = tt
 adds_none op answer trace its = absurd its
 
-never_both : (later earlier : List Action) → NeverThaws User later → NeverThaws User earlier → NeverThaws User (later ++ earlier)
+never_both : (later earlier : List Action) → NeverFreezes later → NeverFreezes earlier → NeverFreezes (later ++ earlier)
 never_both [] earlier none never = never
 never_both (a ∷ later) earlier none never = (none.0, never_both later earlier none.1 never)
 
--- so such a call leaves none of its task's numbers that has thawed
-pub have_not : (items : DealtNumbers) → NeverThaws User (own_view items).actions → HaveNotThawed (spare_of items) → HaveNotThawed items
+-- so such a call leaves none of its task's numbers that has frozen or thawed
+pub have_not : (items : DealtNumbers) → NeverFreezes (own_view items).actions → HaveNotFrozen (spare_of items) → HaveNotFrozen items
 have_not [] own rest = tt
 have_not (x ∷ xs) own rest = (own, rest)
 
-own_has_not : (items : DealtNumbers) → HaveNotThawed items → NeverThaws User (own_view items).actions × HaveNotThawed (spare_of items)
+pub own_has_not : (items : DealtNumbers) → HaveNotFrozen items → NeverFreezes (own_view items).actions × HaveNotFrozen (spare_of items)
 own_has_not [] none = (tt, tt)
 own_has_not (x ∷ xs) none = none
 
 called_quiet : (op : Op) → IsWorkers op → (first last : SeatedTask) (answer : Result Reply GateError) → Called op first last answer →
-    HaveNotThawed first.items → HaveNotThawed last.items
+    HaveNotFrozen first.items → HaveNotFrozen last.items
 called_quiet op its first last answer called none =
     let were = own_has_not first.items none in
     have_not last.items
-    (subst (NeverThaws User) (sym (adds op first last answer called))
+    (subst NeverFreezes (sym (adds op first last answer called))
     (never_both (actions_of op answer called.trace) (own_actions first) (adds_none op answer called.trace its) were.0))
-    (subst HaveNotThawed (sym (called_stays op first last answer called).spare) were.1)
+    (subst HaveNotFrozen (sym (called_stays op first last answer called).spare) were.1)
 
-pub thaws_nothing : {A : Type 0} (read : Reply → A) (op : Op) → IsWorkers op → (first last : SeatedTask) (outcome : Result A GateError) →
-    Replies read op first last outcome → ThawsNothing first last
-thaws_nothing read op its first last outcome did = record {
+pub freezes_nothing : {A : Type 0} (read : Reply → A) (op : Op) → IsWorkers op → (first last : SeatedTask) (outcome : Result A GateError) →
+    Replies read op first last outcome → FreezesNothing first last
+freezes_nothing read op its first last outcome did = record {
   numbers = stays read op first last outcome did;
-  none = λ none. either_way read op first last outcome did (λ (s : SeatedTask). HaveNotThawed s.items) none
+  none = λ none. either_way read op first last outcome did (λ (s : SeatedTask). HaveNotFrozen s.items) none
       (λ answer called. called_quiet op its first last answer called none);
 }
 
-pub thaws_none_so : (s : SeatedTask) → ThawsNothing s s
-thaws_none_so s = record { numbers = stays_so s; none = λ none. none }
+pub freezes_none_so : (s : SeatedTask) → FreezesNothing s s
+freezes_none_so s = record { numbers = stays_so s; none = λ none. none }
 
-pub thaws_none_on : {first mid last : SeatedTask} → ThawsNothing first mid → ThawsNothing mid last → ThawsNothing first last
-thaws_none_on one two = record { numbers = stays_on one.numbers two.numbers; none = λ none. two.none (one.none none) }
+pub freezes_none_on : {first mid last : SeatedTask} → FreezesNothing first mid → FreezesNothing mid last → FreezesNothing first last
+freezes_none_on one two = record { numbers = stays_on one.numbers two.numbers; none = λ none. two.none (one.none none) }
 
--- numbers that have done nothing haven't thawed
-pub idle_have_not : (items : DealtNumbers) → HaveDoneNothing items → HaveNotThawed items
+-- numbers that have done nothing haven't
+pub idle_have_not : (items : DealtNumbers) → HaveDoneNothing items → HaveNotFrozen items
 idle_have_not [] nothing = tt
-idle_have_not (x ∷ xs) nothing = (subst (NeverThaws User) (sym nothing.0) tt, idle_have_not xs nothing.1)
+idle_have_not (x ∷ xs) nothing = (subst NeverFreezes (sym nothing.0) tt, idle_have_not xs nothing.1)
 
 -- so many rounds, where each leaves a task so
 module _ (Leaves : SeatedTask → SeatedTask → Type 0) (same : (s : SeatedTask) → Leaves s s)
@@ -142,11 +146,11 @@ rounds_stay : {S : Type 0} (task : S → SeatedTask) (Round : ℕ → S → S �
 rounds_stay task Round each k first last did =
     rounds_so KeepsNumbers stays_so (λ a b c one two. stays_on one two) task Round each k first last did
 
-rounds_thaw_none : {S : Type 0} (task : S → SeatedTask) (Round : ℕ → S → S → Type 0) →
-    ((k : ℕ) (x y : S) → Round k x y → ThawsNothing (task x) (task y)) → (k : ℕ) (first last : S) → Repeats Round k first last →
-    ThawsNothing (task first) (task last)
-rounds_thaw_none task Round each k first last did =
-    rounds_so ThawsNothing thaws_none_so (λ a b c one two. thaws_none_on one two) task Round each k first last did
+rounds_freeze_none : {S : Type 0} (task : S → SeatedTask) (Round : ℕ → S → S → Type 0) →
+    ((k : ℕ) (x y : S) → Round k x y → FreezesNothing (task x) (task y)) → (k : ℕ) (first last : S) → Repeats Round k first last →
+    FreezesNothing (task first) (task last)
+rounds_freeze_none task Round each k first last did =
+    rounds_so FreezesNothing freezes_none_so (λ a b c one two. freezes_none_on one two) task Round each k first last did
 
 -- the backup's
 pub creates_stay : (writers : ℕ) (first last : SeatedTask) → CreatesFiles writers first last → KeepsNumbers first last
@@ -163,34 +167,41 @@ backs_stay link freezes first last did = rounds_stay (λ x. x.0) (BackupRound li
     (rounds_stay (λ (x : SeatedTask × ℕ × ℕ). x.0) (λ k. CallsBack (k + 1)) (λ k x y ran. stays _ _ x.0 y.0 _ ran.1) 3
     (was.thawed, 0, with_waits (with_waits (with_waits x.2.waits was.frozen) was.copied) was.thawed) (y.0, was.ran, was.waits) was.calls_back)))) freezes first last did
 
--- the remounter's and the writers', which thaw nothing
-pub refusals_thaw_none : (op : Op) → IsWorkers op → (refusal : GateError) (tries : ℕ) (first last : SeatedTask) →
-    Repeats (λ k. IsRefused op refusal) tries first last → ThawsNothing first last
-refusals_thaw_none op its refusal tries first last did =
-    rounds_thaw_none (λ (x : SeatedTask). x) (λ k. IsRefused op refusal) (λ k x y was. thaws_nothing _ op its x y _ was) tries first last did
+pub creates_freeze_none : (writers : ℕ) (first last : SeatedTask) → CreatesFiles writers first last → FreezesNothing first last
+creates_freeze_none writers first last did =
+    freezes_none_on (freezes_nothing _ (WantWrite 0 0) tt first did.held _ did.took) (freezes_none_on
+    (rounds_freeze_none (λ (x : SeatedTask). x) (λ k. CreatesFile) (λ k x y was. freezes_nothing _ (Create 0 File) tt x y _ was.1) writers did.held
+    did.made did.creates)
+    (freezes_nothing _ (DropWrite 0 0) tt did.made last _ did.gave))
 
-retries_thaw_none : (op : Op) → IsWorkers op → (refusal : GateError) (first last : SeatedTask) → Retries op refusal first last →
-    ThawsNothing first last
-retries_thaw_none op its refusal first last did =
-    thaws_none_on (refusals_thaw_none op its refusal did.0 first did.1 did.2) (thaws_nothing _ op its did.1 last _ did.3)
+-- the remounter's and the writers', which freeze and thaw nothing
+pub refusals_freeze_none : (op : Op) → IsWorkers op → (refusal : GateError) (tries : ℕ) (first last : SeatedTask) →
+    Repeats (λ k. IsRefused op refusal) tries first last → FreezesNothing first last
+refusals_freeze_none op its refusal tries first last did =
+    rounds_freeze_none (λ (x : SeatedTask). x) (λ k. IsRefused op refusal) (λ k x y was. freezes_nothing _ op its x y _ was) tries first last did
 
-pub takes_thaw_none : (cpu : ℕ) (first last : SeatedTask × ℕ) → Takes cpu first last → ThawsNothing first.0 last.0
-takes_thaw_none cpu first last did =
-    thaws_none_on (rounds_thaw_none (λ (x : SeatedTask × ℕ). x.0) (λ k. Waits (IsRefused (WantWrite 0 cpu) ReadOnly))
-    (λ k x y was. thaws_nothing _ (WantWrite 0 cpu) tt x.0 y.0 _ was.0) did.0 first did.1 did.2)
-    (thaws_nothing _ (WantWrite 0 cpu) tt did.1.0 last.0 _ did.3.0)
+retries_freeze_none : (op : Op) → IsWorkers op → (refusal : GateError) (first last : SeatedTask) → Retries op refusal first last →
+    FreezesNothing first last
+retries_freeze_none op its refusal first last did =
+    freezes_none_on (refusals_freeze_none op its refusal did.0 first did.1 did.2) (freezes_nothing _ op its did.1 last _ did.3)
 
-pub remounts_thaw_none : (rounds : ℕ) (first last : SeatedTask × Remounts) → Repeats RemountRound rounds first last → ThawsNothing first.0 last.0
-remounts_thaw_none rounds first last did = rounds_thaw_none (λ x. x.0) RemountRound (λ k x y was. thaws_none_on
+pub takes_freeze_none : (cpu : ℕ) (first last : SeatedTask × ℕ) → Takes cpu first last → FreezesNothing first.0 last.0
+takes_freeze_none cpu first last did =
+    freezes_none_on (rounds_freeze_none (λ (x : SeatedTask × ℕ). x.0) (λ k. Waits (IsRefused (WantWrite 0 cpu) ReadOnly))
+    (λ k x y was. freezes_nothing _ (WantWrite 0 cpu) tt x.0 y.0 _ was.0) did.0 first did.1 did.2)
+    (freezes_nothing _ (WantWrite 0 cpu) tt did.1.0 last.0 _ did.3.0)
+
+pub remounts_freeze_none : (rounds : ℕ) (first last : SeatedTask × Remounts) → Repeats RemountRound rounds first last → FreezesNothing first.0 last.0
+remounts_freeze_none rounds first last did = rounds_freeze_none (λ x. x.0) RemountRound (λ k x y was. freezes_none_on
     (elim was.closed [
-      | inl done ↦ thaws_nothing _ (ChangeMount 0 true true) tt x.0 was.mid _ done.0
-      | inr busy ↦ thaws_nothing _ (ChangeMount 0 true true) tt x.0 was.mid _ busy.0
+      | inl done ↦ freezes_nothing _ (ChangeMount 0 true true) tt x.0 was.mid _ done.0
+      | inr busy ↦ freezes_nothing _ (ChangeMount 0 true true) tt x.0 was.mid _ busy.0
     ])
-    (thaws_nothing _ (ChangeMount 0 false true) tt was.mid y.0 _ was.opened)) rounds first last did
+    (freezes_nothing _ (ChangeMount 0 false true) tt was.mid y.0 _ was.opened)) rounds first last did
 
-pub writes_thaw_none : {N : Type 0} (link : SeatedTask → ℕ → N → N → Type 0) (processors writer rounds : ℕ) (first last : SeatedTask × N × Writes) →
-    Repeats (WriterRound link processors writer) rounds first last → ThawsNothing first.0 last.0
-writes_thaw_none link processors writer rounds first last did = rounds_thaw_none (λ x. x.0) (WriterRound link processors writer)
-    (λ k x y was. thaws_none_on (takes_thaw_none _ (x.0, x.2.waits) (was.held, was.waits) was.took)
-    (thaws_none_on (retries_thaw_none (Grow (writer + 1) 1) tt _ was.held was.grown was.grew) (thaws_nothing _ (DropWrite 0 _) tt was.grown y.0 _ was.gave)))
+pub writes_freeze_none : {N : Type 0} (link : SeatedTask → ℕ → N → N → Type 0) (processors writer rounds : ℕ) (first last : SeatedTask × N × Writes) →
+    Repeats (WriterRound link processors writer) rounds first last → FreezesNothing first.0 last.0
+writes_freeze_none link processors writer rounds first last did = rounds_freeze_none (λ x. x.0) (WriterRound link processors writer)
+    (λ k x y was. freezes_none_on (takes_freeze_none _ (x.0, x.2.waits) (was.held, was.waits) was.took)
+    (freezes_none_on (retries_freeze_none (Grow (writer + 1) 1) tt _ was.held was.grown was.grew) (freezes_nothing _ (DropWrite 0 _) tt was.grown y.0 _ was.gave)))
     rounds first last did

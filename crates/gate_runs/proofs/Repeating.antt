@@ -1,10 +1,12 @@
 -- Rounds that go on.
-use Rattle.std.proofs.Common.{◌≡◌, ℕ, suc, ◌+◌, ◌-◌, ◌^◌, ◌≤◌, min, inl, inr, arith, subst}
+use Rattle.std.proofs.Common.{◌≡◌, ℕ, zero, suc, ◌+◌, ◌-◌, ◌^◌, ◌≤◌, min, inl, inr, ap, arith, subst}
 use Rattle.std.specs.Prelude.{Result, Ok, Err, OnOk}
 use Rattle.access_model.specs.declared.errors.GateError.{GateError, TheVariants.{ReadOnly}}
 use Rattle.gate_world.specs.declared.operations.Op.{Op, TheVariants.{WantWrite, DropWrite}}
 use Rattle.vfs_gates.specs.{TaskStates.{SeatedTask}, Runs.{Performs}}
-use Rattle.gate_runs.specs.{Counts.{counted}, Rounds.{Closes, CreatesFile, CreatesFiles, Does, IsRefused, Repeats, Retries, Takes, Waits}}
+use Rattle.run_plans.specs.declared.counts.Writes.{Writes}
+use Rattle.gate_runs.specs.{Counts.{counted}, Refusals.{any_call}}
+use Rattle.gate_runs.specs.Rounds.{Closes, CreatesFile, CreatesFiles, Does, IsRefused, Repeats, Retries, Takes, Waits, WriterRound}
 
 -- one round more
 pub one_more : {S : Type 0} (Round : ℕ → S → S → Type 0) (k : ℕ) (first mid last : S) → Repeats Round k first mid → Round k mid last →
@@ -35,6 +37,30 @@ pub taken : (cpu : ℕ) (first mid last : SeatedTask × ℕ) (tries tried : ℕ)
     Repeats (λ k. Waits (IsRefused (WantWrite 0 cpu) ReadOnly)) tries first mid → Waits (Does (WantWrite 0 cpu)) mid last → tried ≡ counted tries →
     (did : Takes cpu first last) × (tried ≡ counted did.0)
 taken cpu first mid last tries tried so_far did counts = ((tries, mid, so_far, did), counts)
+
+-- a writer's rounds, of which nothing is said of its watch
+round_of_any : {N : Type 0} (link : SeatedTask → ℕ → N → N → Type 0) (processors writer round : ℕ) (first last : SeatedTask × N × Writes) →
+    WriterRound link processors writer round first last → WriterRound any_call processors writer round (first.0, tt, first.2) (last.0, tt, last.2)
+round_of_any link processors writer round first last was = record {
+  held = was.held;
+  grown = was.grown;
+  waits = was.waits;
+  took = was.took;
+  grew = was.grew;
+  met = tt;
+  gave = was.gave;
+  counts = was.counts;
+}
+
+pub rounds_of_any : {N : Type 0} (link : SeatedTask → ℕ → N → N → Type 0) (processors writer rounds : ℕ) (first last : SeatedTask × N × Writes) →
+    Repeats (WriterRound link processors writer) rounds first last →
+    Repeats (WriterRound any_call processors writer) rounds (first.0, tt, first.2) (last.0, tt, last.2)
+rounds_of_any {N = N} link processors writer zero first last did = ap (λ (x : SeatedTask × N × Writes). (x.0, tt, x.2)) did
+rounds_of_any link processors writer (suc rounds) first last did = (
+  (did.0.0, tt, did.0.2),
+  rounds_of_any link processors writer rounds first did.0 did.1,
+  round_of_any link processors writer rounds did.0 last did.2,
+)
 
 -- one more
 stands_still : (most n : ℕ) → min (min n most + 1) most ≡ min (n + 1) most

@@ -7,7 +7,7 @@ use Rattle.run_plans.specs.declared.counts.{Details.{Details}, Remounts.{Remount
 use Rattle.gate_runs.specs.{Counts.{both, no_remounts, no_writes, remounts_of}, Keeping.{KeepsNumbers}, Observers.{was_held}}
 use Rattle.gate_runs.specs.Rounds.{Repeats, RemountRound, WriterRound}
 use Rattle.gate_runs.specs.{Homes.{TookBack}, Parts.{EachFrom, Among, EndsAs, Remounted, Wrote, AllWrote, AllDid}}
-use Rattle.gate_runs.proofs.Keeping.{remounts_thaw_none, writes_thaw_none}
+use Rattle.gate_runs.proofs.Keeping.{remounts_freeze_none, writes_freeze_none}
 
 -- who stands among these does so among more
 pub among_more : (s : SeatedTask) (items more : DealtNumbers) → Among items s → Among (items ++ more) s
@@ -139,7 +139,7 @@ comes_among old other new took there =
 pub remounter_part : (rounds : ℕ) (met : Remounts) (first last old new : SeatedTask) → HasBegun 1 first →
     Repeats RemountRound rounds (first, no_remounts) (last, met) → TookBack old last new → Remounted (Among new.items) rounds met
 remounter_part rounds met first last old new begun did took =
-    let stayed = (remounts_thaw_none rounds (first, no_remounts) (last, met) did).numbers in record {
+    let stayed = (remounts_freeze_none rounds (first, no_remounts) (last, met) did).numbers in record {
       first = first;
       last = last;
       begun = begun;
@@ -154,7 +154,7 @@ pub writer_part : {N : Type 0} (link : SeatedTask → ℕ → N → N → Type 0
     Repeats (WriterRound link processors writer) rounds (first, before, no_writes) (last, after, writes) → TookBack old last new →
     Wrote (Among new.items) link processors rounds writer before after writes
 writer_part link processors rounds writer before after writes first last old new begun did took =
-    let stayed = (writes_thaw_none link processors writer rounds (first, before, no_writes) (last, after, writes) did).numbers in record {
+    let stayed = (writes_freeze_none link processors writer rounds (first, before, no_writes) (last, after, writes) did).numbers in record {
       first = first;
       last = last;
       begun = begun;

@@ -2,7 +2,7 @@
 use Rattle.std.specs.Prelude.{◌≡◌, ℕ, ◌+◌, ◌<◌, ◌≤◌, ◌++◌, Result, IfErr, IfOk, length}
 use Rattle.access_model.specs.declared.errors.GateError.{GateError}
 use Rattle.run_plans.specs.{Plans.{run_config}, declared.{plans.Plan.{Plan}, counts.{Remounts.{Remounts}, Writes.{Writes}}}}
-use Rattle.gate_runs.specs.{Counts.{both, no_remounts, no_writes}, Keeping.{HaveNotThawed}, Observers.{was_held}, Refusals.{MetBy}}
+use Rattle.gate_runs.specs.{Counts.{both, no_remounts, no_writes}, Keeping.{HaveNotFrozen}, Observers.{was_held}, Refusals.{WriterRefused}}
 use Rattle.gate_runs.specs.Rounds.{RemountRound, Repeats, WriterRound}
 use Rattle.gate_runs.specs.{declared.threads.Met.{Met, TheVariants.{Remounter, Writer}}, Parts.{Remounted, Wrote}}
 use Rattle.vfs_gates.specs.{Held.{Rests}, declared.Gates.{Gates}, Seating.{times}, Splitting.{HasBegun}}
@@ -23,20 +23,20 @@ pub record IsReady (gates : Gates) (plan : Plan) (number : ℕ) (s : SeatedTask)
   pub last : number < plan.tasks
   pub begun : HasBegun number s
   pub rests : Rests s
-  pub none : HaveNotThawed s.items
+  pub none : HaveNotFrozen s.items
 
--- a task with this number, none of whose numbers has thawed
-pub record NeverThawed (number : ℕ) (s : SeatedTask) : Type 0 where
+-- a task with this number, none of whose numbers has frozen or thawed
+pub record NeverFroze (number : ℕ) (s : SeatedTask) : Type 0 where
   pub there : 1 ≤ length s.items
   pub own : own_number s.items ≡ number
-  pub none : HaveNotThawed s.items
+  pub none : HaveNotFrozen s.items
 
--- It comes back to these gates, at rest, with its number, and has thawed nothing. It has done all its rounds since it began, unless a call of it was
--- refused so.
+-- It comes back to these gates, at rest, with its number, and has frozen and thawed nothing. It has done all its rounds since it began, unless the growth
+-- of its file was refused so.
 abbrev pub ComesHome : (ℕ → ℕ → Type 0) → Gates → Plan → ℕ → SeatedTask → Result Met GateError → Type 0
-ComesHome held gates plan number last met = IsFrom last gates × Rests last × NeverThawed number last
+ComesHome held gates plan number last met = IsFrom last gates × Rests last × NeverFroze number last
     × IfOk met (λ m. (first : SeatedTask) × HasBegun number first × DoesRounds held plan.processors plan.rounds number first last m)
-    × IfErr met (MetBy gates.words.config plan.tasks)
+    × IfErr met (WriterRefused gates plan.tasks plan.processors plan.rounds)
 
 -- what it has done of a run, and met, and how it stands at the end
 abbrev pub TaskShare : (SeatedTask → Type 0) → (ℕ → ℕ → Type 0) → ℕ → ℕ → ℕ → Met → Type 0
@@ -49,12 +49,12 @@ abbrev pub TookBack : SeatedTask → SeatedTask → SeatedTask → Type 0
 TookBack old other new = new ≡ record old { items = old.items ++ other.items; seen = old.seen ++ other.seen }
 
 -- A task that took back the numbers of others, and has seen what they had: the numbers from this one on, below so many. None of those that it took
--- back has thawed.
+-- back has frozen or thawed.
 pub record HasBack (from count : ℕ) (old new : SeatedTask) : Type 0 where
   pub own : own_number new.items ≡ own_number old.items
   pub there : 1 ≤ length old.items → 1 ≤ length new.items
   pub back : (n : ℕ) → from ≤ n → n < count → 1 ≤ times n new.items
-  pub none : HaveNotThawed (spare_of old.items) → HaveNotThawed (spare_of new.items)
+  pub none : HaveNotFrozen (spare_of old.items) → HaveNotFrozen (spare_of new.items)
   pub seen : StaySeen old.seen new.seen
 
 -- what some have met, with one more: what the remounter met, or a writer, of whom it comes before the others

@@ -1,7 +1,6 @@
--- What calls leave of a task's numbers, and of whether they have thawed.
+-- What calls leave of a task's numbers, and of whether they have frozen.
 use Rattle.std.specs.Prelude.{◌≡◌, ◌≤◌, [], ◌∷◌, length}
-use Rattle.access_model.specs.declared.actions.Holder.TheVariants.{User}
-use Rattle.vfs_gates.specs.{Frozen.{NeverThaws}, Seating.{DealtNumbers}, TaskStates.{SeatedTask, IsIdle, own_number, spare_of}}
+use Rattle.vfs_gates.specs.{Frozen.{NeverFreezes}, Seating.{DealtNumbers}, TaskStates.{SeatedTask, IsIdle, own_number, spare_of}}
 
 -- calls of its own leave a task its number, and the others that it has to give
 pub record KeepsNumbers (first last : SeatedTask) : Type 0 where
@@ -11,12 +10,12 @@ pub record KeepsNumbers (first last : SeatedTask) : Type 0 where
   pub idle : IsIdle first → IsIdle last
   pub there : 1 ≤ length first.items → 1 ≤ length last.items
 
--- none of these numbers has thawed for user space
-abbrev pub HaveNotThawed : DealtNumbers → Type 0
-HaveNotThawed [] = Unit {0}
-HaveNotThawed (x ∷ xs) = NeverThaws User x.view.actions × HaveNotThawed xs
+-- none of these numbers has frozen or thawed
+abbrev pub HaveNotFrozen : DealtNumbers → Type 0
+HaveNotFrozen [] = Unit {0}
+HaveNotFrozen (x ∷ xs) = NeverFreezes x.view.actions × HaveNotFrozen xs
 
--- such calls, and none of them thaws for user space
-pub record ThawsNothing (first last : SeatedTask) : Type 0 where
+-- such calls, and none of them freezes or thaws
+pub record FreezesNothing (first last : SeatedTask) : Type 0 where
   pub numbers : KeepsNumbers first last
-  pub none : HaveNotThawed first.items → HaveNotThawed last.items
+  pub none : HaveNotFrozen first.items → HaveNotFrozen last.items

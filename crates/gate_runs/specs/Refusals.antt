@@ -1,12 +1,13 @@
 -- Which refusals of a call end a run, why it was refused so, and why a run is refused whose numbers are within their limits.
-use Rattle.std.specs.Prelude.{◌≡◌, ℕ, ◌+◌, ◌<◌, ◌≤◌, ◌⊎◌, None, Err, true}
+use Rattle.std.specs.Prelude.{◌≡◌, ℕ, ◌+◌, ◌<◌, ◌⊎◌, None, Err, true}
 use Rattle.access_model.specs.{Holders.{held_by}, declared.actions.{Holder.TheVariants.{User}, Kind.TheVariants.{File}}}
 use Rattle.access_model.specs.declared.errors.GateError.{GateError}
-use Rattle.access_model.specs.declared.errors.GateError.TheVariants.{Again, Busy, Hook, Invalid, IsDir, NoEntry, NoMemory, NoSpace, NotDir, ReadOnly}
-use Rattle.gate_world.specs.declared.{config.Config.{Config}, operations.Op.{Op, TheVariants.{WantWrite, Freeze, Thaw, Create, Grow}}}
-use Rattle.vfs_gates.specs.{Frozen.{NeedsFreeze, holders_of}, Grown.{StaySeen}, Held.{Rests, IsAsBefore, own_actions}, Runs.{Called}}
-use Rattle.vfs_gates.specs.TaskStates.{SeatedTask, own_number, refusal_at}
-use Rattle.gate_runs.specs.Rounds.{Does}
+use Rattle.access_model.specs.declared.errors.GateError.TheVariants.{Again, Busy, Invalid, IsDir, NoEntry, NoMemory, NoSpace}
+use Rattle.gate_world.specs.declared.operations.Op.{Op, TheVariants.{WantWrite, Freeze, Create, Grow}}
+use Rattle.run_plans.specs.{Plans.{processor_of, run_config}, declared.counts.Writes.{Writes}}
+use Rattle.vfs_gates.specs.{Frozen.{MayFreeze, NeedsFreeze, holders_of}, Grown.{StaySeen}, Held.{Rests, IsAsBefore, own_actions}, Runs.{Called}}
+use Rattle.vfs_gates.specs.{Splitting.{Gives, HasBegun}, TaskStates.{IsFrom, SeatedTask, own_number, refusal_at}, declared.Gates.{Gates}}
+use Rattle.gate_runs.specs.{Counts.{no_writes}, Rounds.{CreatesFile, Does, IsRefused, Repeats, Takes, WriterRound}}
 
 -- A task that was granted write access when it rested, and holds since then just what the grant left it.
 pub record HasWriteAccess (s : SeatedTask) : Type 0 where
@@ -17,19 +18,36 @@ pub record HasWriteAccess (s : SeatedTask) : Type 0 where
   pub took : Does (WantWrite 0 cpu) before granted
   pub since : IsAsBefore granted s
 
--- how a run's task stands when it makes a call: inside its write access where it changes the tree, and else at rest
-abbrev pub StandsFor : Op → SeatedTask → Type 0
-StandsFor (Create dir kind) s = HasWriteAccess s
-StandsFor (Grow file blocks) s = HasWriteAccess s
-StandsFor op s = Rests s
+-- A task of these gates, with this number and inside its write access, might begin this operation, and the whole operation was refused so: its cause is
+-- in its trace.
+pub record WasRefused (gates : Gates) (number : ℕ) (op : Op) (refusal : GateError) : Type 0 where
+  pub first : SeatedTask
+  pub last : SeatedTask
+  pub from : IsFrom first gates
+  pub own : own_number first.items ≡ number
+  pub inside : HasWriteAccess first
+  pub began : refusal_at op first ≡ None
+  pub refused : Called op first last (Err refusal)
 
--- the refusals that end the creation of a file
+-- the refusals that end the creation of a file: the root is always a directory
 abbrev pub EndsCreate : GateError → Type 0
-EndsCreate NoEntry = Unit {0}
-EndsCreate NotDir = Unit {0}
 EndsCreate NoSpace = Unit {0}
 EndsCreate Again = Unit {0}
 EndsCreate refusal = ⊥
+
+-- The backup's creation of a file was refused so. As the first task of these gates, before any other had done anything, it had taken write access and
+-- created fewer files than there are writers; and then this creation was refused.
+pub record CreateRefused (gates : Gates) (tasks : ℕ) (refusal : GateError) : Type 0 where
+  pub ends : EndsCreate refusal
+  pub begins : SeatedTask
+  pub held : SeatedTask
+  pub begun : HasBegun 0 begins
+  pub gives : Gives begins 1 tasks
+  pub took : Does (WantWrite 0 0) begins held
+  pub was : WasRefused gates 0 (Create 0 File) refusal
+  pub files : ℕ
+  pub fewer : files + 2 < tasks
+  pub creates : Repeats (λ k. CreatesFile) files held was.first
 
 -- the refusals that end the growth of a file: after Again it is tried again
 abbrev pub EndsGrow : GateError → Type 0
@@ -38,42 +56,33 @@ EndsGrow IsDir = Unit {0}
 EndsGrow NoSpace = Unit {0}
 EndsGrow refusal = ⊥
 
--- the refusals that end a freeze
-abbrev pub EndsFreeze : GateError → Type 0
-EndsFreeze Busy = Unit {0}
-EndsFreeze (Hook code) = Unit {0}
-EndsFreeze refusal = ⊥
+-- a task's growth of this file was refused so, after it was refused as Again so often, and nothing else was called since the task stood so
+pub record GrowthRefused (gates : Gates) (file : ℕ) (start : SeatedTask) (refusal : GateError) : Type 0 where
+  pub ends : EndsGrow refusal
+  pub was : WasRefused gates (own_number start.items) (Grow file 1) refusal
+  pub tries : ℕ
+  pub tried : Repeats (λ k. IsRefused (Grow file 1) Again) tries start was.first
 
--- the refusal that ends a thaw
-abbrev pub EndsThaw : GateError → Type 0
-EndsThaw (Hook code) = Unit {0}
-EndsThaw refusal = ⊥
+-- a call of a watch of which nothing is said
+abbrev pub any_call : SeatedTask → ℕ → Unit {0} → Unit {0} → Type 0
+any_call task round before after = Unit {0}
 
--- The calls of a run whose refusal ends it, and with which refusals: the backup's taking of write access for the files that it creates, and each
--- creation; the growth of a writer's file; and the backup's freeze and thaw. No other call of a run ends it, and none as Order, TooMany or Invalid.
-abbrev pub MayEnd : ℕ → Op → GateError → Type 0
-MayEnd tasks (WantWrite mount cpu) refusal = (mount ≡ 0) × (cpu ≡ 0) × (refusal ≡ ReadOnly)
-MayEnd tasks (Create dir kind) refusal = (dir ≡ 0) × (kind ≡ File) × EndsCreate refusal
-MayEnd tasks (Grow file blocks) refusal = (1 ≤ file) × (file + 1 < tasks) × (blocks ≡ 1) × EndsGrow refusal
-MayEnd tasks (Freeze holder) refusal = (holder ≡ User) × EndsFreeze refusal
-MayEnd tasks (Thaw holder) refusal = (holder ≡ User) × EndsThaw refusal
-MayEnd tasks op refusal = ⊥
-
--- A task of gates with this configuration, which stood as a run's task does, might begin this operation, and the whole operation was refused so: its
--- cause is in its trace.
-pub record WasRefused (config : Config) (op : Op) (refusal : GateError) : Type 0 where
-  pub first : SeatedTask
-  pub last : SeatedTask
-  pub of : first.config ≡ config
-  pub stands : StandsFor op first
-  pub began : refusal_at op first ≡ None
-  pub refused : Called op first last (Err refusal)
-
--- one of a run's calls was
-pub record MetBy (config : Config) (tasks : ℕ) (refusal : GateError) : Type 0 where
-  pub op : Op
-  pub its : MayEnd tasks op refusal
-  pub was : WasRefused config op refusal
+-- A writer was refused so. From its beginning on it had done fewer rounds than it was asked for, and nothing else; then it took write access, as each
+-- round begins, and the growth of its file was refused.
+pub record WriterRefused (gates : Gates) (tasks processors rounds : ℕ) (refusal : GateError) : Type 0 where
+  pub writer : ℕ
+  pub there : writer + 2 < tasks
+  pub begins : SeatedTask
+  pub begun : HasBegun (writer + 2) begins
+  pub round : ℕ
+  pub fewer : round < rounds
+  pub before : SeatedTask
+  pub writes : Writes
+  pub did : Repeats (WriterRound any_call processors writer) round (begins, tt, no_writes) (before, tt, writes)
+  pub held : SeatedTask
+  pub waits : ℕ
+  pub took : Takes (processor_of processors writer round) (before, writes.waits) (held, waits)
+  pub grow : GrowthRefused gates (writer + 1) held refusal
 
 -- A call of this task's number found thawed what its own list had frozen: a snapshot, or a thaw, was refused as Invalid.
 pub record FoundThawed (s : SeatedTask) : Type 0 where
@@ -87,6 +96,26 @@ pub record FoundThawed (s : SeatedTask) : Type 0 where
   pub refused : Called op first last (Err Invalid)
   pub seen : StaySeen last.seen s.seen
 
--- memory or a thread was refused; or a call of a task was refused so
-abbrev pub RunRefused : Config → ℕ → GateError → Type 0
-RunRefused config tasks refusal = (refusal ≡ NoMemory) ⊎ MetBy config tasks refusal
+-- A call of this task's number found a freeze of others: its freeze was refused as Busy, though by its own list none was under way, and none was
+-- held for user space.
+pub record FoundFrozen (s : SeatedTask) : Type 0 where
+  pub first : SeatedTask
+  pub last : SeatedTask
+  pub config : first.config ≡ s.config
+  pub own : own_number first.items ≡ own_number s.items
+  pub may : MayFreeze User (own_actions first)
+  pub refused : Called (Freeze User) first last (Err Busy)
+  pub seen : StaySeen last.seen s.seen
+
+-- a call of this task's number found that others had thawed, or frozen
+abbrev pub FoundOthers : SeatedTask → Type 0
+FoundOthers s = FoundThawed s ⊎ FoundFrozen s
+
+-- why a run ends before all its threads are started: memory or a thread was refused, or the creation of a file
+abbrev pub NotStarted : Gates → ℕ → GateError → Type 0
+NotStarted gates tasks refusal = (refusal ≡ NoMemory) ⊎ CreateRefused gates tasks refusal
+
+-- Memory or a thread was refused; or, at gates of this run's configuration, the creation or the growth of a file. No other call ends a run.
+abbrev pub RunRefused : ℕ → ℕ → ℕ → GateError → Type 0
+RunRefused tasks processors rounds refusal = (refusal ≡ NoMemory) ⊎ ((gates : Gates) × (gates.words.config ≡ run_config tasks processors rounds) ×
+    (CreateRefused gates tasks refusal ⊎ WriterRefused gates tasks processors rounds refusal))

@@ -7,7 +7,7 @@ ghost use Rattle.vfs_gates.specs.TaskStates.{IsFrom};
 ghost use Rattle.run_plans.specs.declared.counts.Details.{Details as DetailsType};
 ghost use Rattle.run_plans.specs.Meetings.{unseen};
 ghost use Rattle.gate_runs.specs.Told.{TellsRun};
-ghost use Rattle.run_plans.specs.Plans.{MayRun, run_config};
+ghost use Rattle.run_plans.specs.Plans.{MayRun};
 ghost use Rattle.gate_runs.specs.Refusals.{RunRefused};
 
 use crate::threads::in_threads;
@@ -61,7 +61,7 @@ pub fn run_plan<R: Threads + Wait + Sync, W: RunObserver + Sync>(
     watch: &W,
 ) -> Result<(Totals, Details, Closed), GateError>
     ensures tells { IfOk result (λ r. TellsRun (W.held watch.now) (W.seen watch.now) plan.tasks plan.processors plan.rounds plan.freezes r.0 r.1 r.2) }
-    ensures refused { IfErr result (RunRefused (run_config plan.tasks plan.processors plan.rounds) plan.tasks) }
+    ensures refused { IfErr result (RunRefused plan.tasks plan.processors plan.rounds) }
     ensures in_order { IfErr result (λ refusal. (refusal ≢ Order) × (refusal ≢ TooMany) × (refusal ≢ Invalid)) }
 {
     let (gates, task) = Gates::new(alloc, plan.config())?;
@@ -87,19 +87,19 @@ pub fn run_plan<R: Threads + Wait + Sync, W: RunObserver + Sync>(
 ///
 /// # Errors
 ///
-/// Invalid if a number is out of its limits. NoMemory if a growth was refused or a thread couldn't be started. Any other refusal is that
-/// of the first call that ends the run (`RunRefused`):
+/// Invalid if a number is out of its limits, and only then. NoMemory if memory or a thread was refused. Any other refusal is that of a file
+/// (`RunRefused`):
 ///
-/// - the backup's first write access: ReadOnly;
-/// - the creation of a file: NoEntry, NotDir, NoSpace or Again;
-/// - the growth of a file: NoEntry, IsDir or NoSpace;
-/// - a freeze: Busy, or what a hook answered;
-/// - a thaw: what a hook answered.
+/// - its creation, at the beginning: NoSpace or Again;
+/// - its growth, by a writer: NoEntry, IsDir or NoSpace.
 ///
-/// The writers' write access, the changes of the mount, the snapshots and the callbacks end no run. None is refused as Order or as
-/// TooMany, because each task makes a call only when it may. None is refused as Invalid within the limits, because only the backup
-/// freezes and thaws, so what it has frozen stands. All threads that were started have ended when it returns; unless memory, a file or a
-/// thread was refused before the backup began, all tasks are joined and the gates closed.
+/// No other call ends a run. The backup's first write access isn't ReadOnly, because no task has done anything yet; a writer asks again. No file is
+/// refused as NoEntry or NotDir when it is created, because the root is always a directory. Nothing is Busy or Invalid within the limits, because only
+/// the backup freezes and thaws, so what it has frozen stands. No hook fails, because a run's hooks answer Ok. No call is refused as Order or as
+/// TooMany, because each task makes it only when it may.
+///
+/// All threads that were started have ended when it returns. Unless memory, a thread or a file was refused before the backup's first freeze, all
+/// tasks are joined and the gates closed.
 pub fn run_with<R: Threads + Wait + Sync, M: Meeting + Sync>(
     rt: &R,
     alloc: Global,
@@ -111,7 +111,7 @@ pub fn run_with<R: Threads + Wait + Sync, M: Meeting + Sync>(
 ) -> Result<(Totals, Closed), GateError>
     ensures within { OnOk result (MayRun tasks processors rounds freezes) }
     ensures invalid { ¬ MayRun tasks processors rounds freezes → result ≡ Err Invalid }
-    ensures refused { MayRun tasks processors rounds freezes → IfErr result (RunRefused (run_config tasks processors rounds) tasks) }
+    ensures refused { MayRun tasks processors rounds freezes → IfErr result (RunRefused tasks processors rounds) }
     ensures in_order { IfErr result (λ refusal. (refusal ≢ Order) × (refusal ≢ TooMany)) }
     ensures frozen { MayRun tasks processors rounds freezes → IfErr result (λ refusal. refusal ≢ Invalid) }
     ensures tells { IfOk result (λ r. (details : DetailsType) × TellsRun (M.held meeting.now) unseen tasks processors rounds freezes r.0 details r.1) }

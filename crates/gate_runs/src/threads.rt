@@ -6,11 +6,11 @@ ghost use Rattle.gate_runs.specs.Ends.{AllJoined};
 ghost use Rattle.gate_runs.specs.declared.threads.Met.{Met as MetType};
 ghost use Rattle.run_plans.specs.declared.counts.Remounts.{Remounts as RemountsType};
 ghost use Rattle.run_plans.specs.declared.counts.Writes.{Writes as WritesType};
-ghost use Rattle.gate_runs.specs.Homes.{ComesHome, HasBack, IsReady, NeverThawed, TaskShare, TookBack, with_met};
+ghost use Rattle.gate_runs.specs.Homes.{ComesHome, HasBack, IsReady, NeverFroze, TaskShare, TookBack, with_met};
 ghost use Rattle.gate_runs.specs.Parts.{AllWrote, Among, EachFrom, Remounted};
 ghost use Rattle.gate_runs.specs.Counts.{remounts_of};
 ghost use Rattle.gate_runs.specs.Observers.{was_held};
-ghost use Rattle.gate_runs.specs.Refusals.{RunRefused};
+ghost use Rattle.gate_runs.specs.Refusals.{NotStarted, WriterRefused};
 ghost use Rattle.vfs_gates.specs.Splitting.{Gives, HasBegun};
 ghost use Rattle.vfs_gates.specs.TaskStates.{IsFrom, SeatedTask, own_view};
 ghost use Rattle.run_plans.specs.Plans.{run_config};
@@ -214,10 +214,11 @@ fn join_worker<R: Threads, W: RunObserver>(
     ensures from { IsFrom task.new gates.now }
     ensures rests { Rests task.new × (1 ≤ length task.new.items) }
     ensures others { (s : SeatedTask) → Among task.old.items s → Among task.new.items s }
-    ensures took { (other : SeatedTask) × NeverThawed worker.entry.promise.number other × TookBack task.old other task.new }
+    ensures took { (other : SeatedTask) × NeverFroze worker.entry.promise.number other × TookBack task.old other task.new }
     ensures part { IfOk result (TaskShare (Among task.new.items) (W.held worker.entry.promise.watch.now)
         worker.entry.promise.plan.processors worker.entry.promise.plan.rounds worker.entry.promise.number) }
-    ensures refused { IfErr result (RunRefused gates.now.words.config worker.entry.promise.plan.tasks) }
+    ensures refused { IfErr result (WriterRefused gates.now worker.entry.promise.plan.tasks worker.entry.promise.plan.processors
+        worker.entry.promise.plan.rounds) }
 {
     let Worked { task: other, met } = worker.join(rt);
     let Ok(()) = task.join(gates, other) else {
@@ -264,7 +265,7 @@ fn join_workers<R: Threads, W: RunObserver>(
     ensures remounted { IfOk result (λ met. Remounted (Among task.new.items) _plan.rounds met.0) }
     ensures wrote { IfOk result (λ met. AllWrote (Among task.new.items) (was_held (W.held _watch.now)) _plan.processors _plan.rounds
         0 (vec_len workers.old - 1) tt tt met.1) }
-    ensures refused { IfErr result (RunRefused gates.now.words.config _plan.tasks) }
+    ensures refused { IfErr result (WriterRefused gates.now _plan.tasks _plan.processors _plan.rounds) }
 {
     let mut met = Ok((Remounts::none(), Writes::none()));
     while let Some(worker) = workers.pop() {
@@ -307,7 +308,7 @@ fn run_threads<'s, E, R: Threads + Wait + Sync, W: RunObserver + Sync>(
     requires gives { Gives task.old 1 plan.tasks }
     requires none { workers.old.items ≡ [] }
     ensures joined { IfOk result (AllJoined (W.held watch.now) (W.seen watch.now) gates.now plan task.new) }
-    ensures refused { IfErr result (RunRefused gates.now.words.config plan.tasks) }
+    ensures refused { IfErr result (NotStarted gates.now plan.tasks) }
 {
     let rt = starter.rt;
     create_files(rt, gates, plan, task)?;
@@ -332,7 +333,7 @@ pub fn in_threads<R: Threads + Wait + Sync, W: RunObserver + Sync>(
     requires begins { HasBegun 0 task }
     requires gives { Gives task 1 plan.tasks }
     ensures joined { IfOk result (λ r. AllJoined (W.held watch.now) (W.seen watch.now) gates.now plan r.0 r.1) }
-    ensures refused { IfErr result (RunRefused gates.now.words.config plan.tasks) }
+    ensures refused { IfErr result (NotStarted gates.now plan.tasks) }
 {
     thread::scope(
         thread::scope_env(),
@@ -343,7 +344,7 @@ pub fn in_threads<R: Threads + Wait + Sync, W: RunObserver + Sync>(
             requires begins { HasBegun 0 task }
             requires gives { Gives task 1 plan.tasks }
             ensures joined { IfOk result (λ r. AllJoined (W.held watch.entry.now) (W.seen watch.entry.now) gates.entry.now plan r.0 r.1) }
-            ensures refused { IfErr result (RunRefused gates.entry.now.words.config plan.tasks) }
+            ensures refused { IfErr result (NotStarted gates.entry.now plan.tasks) }
         {
             let mut task = task;
             let mut workers = Vec::new(alloc);

@@ -1,25 +1,27 @@
 //! What each task of a run does.
 
-ghost use Rattle.std.specs.Prelude.{◌≡◌, ◌+◌, ◌-◌, ◌<◌, ◌≤◌, ◌⊎◌, Err, IfErr, IfOk, OnOk, Some, length, true};
+ghost use Rattle.std.specs.Prelude.{◌≡◌, ◌+◌, ◌-◌, ◌<◌, ◌≤◌, Err, IfErr, IfOk, OnOk, Some, length, true};
+ghost use Rattle.access_model.specs.declared.actions.Holder.TheVariants.{User};
 ghost use Rattle.access_model.specs.declared.errors.GateError.TheVariants.{Again, Invalid, ReadOnly};
 ghost use Rattle.gated_tree.specs.Trees.{LoadedClean, LoadedSound};
 ghost use Rattle.gate_runs.specs.Counts.{blocks_of, counted, no_copies, no_remounts, no_writes, with_waits};
-ghost use Rattle.gate_runs.specs.Keeping.{KeepsNumbers, ThawsNothing};
-ghost use Rattle.gate_runs.specs.Refusals.{EndsGrow, FoundThawed, HasWriteAccess, MetBy, WasRefused};
+ghost use Rattle.gate_runs.specs.Keeping.{FreezesNothing, KeepsNumbers};
+ghost use Rattle.gate_runs.specs.Refusals.{CreateRefused, FoundOthers, GrowthRefused, HasWriteAccess, WriterRefused};
 ghost use Rattle.gate_runs.specs.Rounds.{BackupRound, CallsBack, Closes, CreatesFiles, Does, RemountRound, Repeats, Retries, Takes, WriterRound};
 ghost use Rattle.gate_world.specs.declared.operations.Op.TheVariants.{Grow, Snapshot as SnapshotOp};
 ghost use Rattle.gate_world.specs.declared.views.Snapshot.{Snapshot};
 ghost use Rattle.run_plans.specs.Plans.{run_config};
+ghost use Rattle.vfs_gates.specs.Frozen.{MayFreeze};
 ghost use Rattle.vfs_gates.specs.Held.{Rests, own_actions};
 ghost use Rattle.vfs_gates.specs.Runs.{Called};
+ghost use Rattle.vfs_gates.specs.Splitting.{Gives, HasBegun};
 ghost use Rattle.vfs_gates.specs.TaskStates.{IsFrom, own_view};
 
 use crate::observers::NotedObserver;
 use access_model::{GateError, Holder, Kind};
-use crossbeam_utils::Backoff;
 use run_plans::{Copies, MOUNT, Plan, Remounts, Writes};
 use std::sync::Wait;
-use vfs_gates::{Gates, Task};
+use vfs_gates::{Backoff, Gates, Task};
 
 /// The root of the tree.
 const ROOT: u8 = 0;
@@ -28,8 +30,8 @@ const ROOT: u8 = 0;
 ///
 /// # Errors
 ///
-/// That of the first call that is refused (`MetBy`): ReadOnly for the write access; NoEntry, NotDir, NoSpace or Again for a file. If a file is
-/// refused, the task keeps the write access.
+/// NoSpace or Again of the first file that is refused (`CreateRefused`); the task keeps the write access then. The write access isn't refused: no
+/// task has done anything yet, so the mount is writable. Nor is a file refused as NoEntry or NotDir: the root is always a directory.
 pub fn create_files<R: Wait>(
     rt: &R,
     gates: &Gates,
@@ -37,11 +39,13 @@ pub fn create_files<R: Wait>(
     task: &mut Task,
 ) -> Result<(), GateError>
     requires from { IsFrom task.old gates.now }
-    requires rests { Rests task.old }
+    requires planned { gates.now.words.config ≡ run_config plan.tasks plan.processors plan.rounds }
+    requires begins { HasBegun 0 task.old }
+    requires gives { Gives task.old 1 plan.tasks }
     ensures from { IsFrom task.new gates.now }
     ensures rests { OnOk result (Rests task.new) }
     ensures created { OnOk result (CreatesFiles (plan.tasks - 2) task.old task.new) }
-    ensures refused { IfErr result (MetBy gates.now.words.config plan.tasks) }
+    ensures refused { IfErr result (CreateRefused gates.now plan.tasks) }
 {
     task.want_write(rt, gates, MOUNT, 0)?;
     for _writer in 0..plan.writers() {
@@ -74,7 +78,7 @@ fn want_write<R: Wait>(
     ensures took { IfOk result (λ met. (took : Takes cpu (task.old, so_far) (task.new, met.1)) × (met.0 ≡ counted took.0)) }
     ensures granted { IfErr result (λ refusal. ⊥) }
 {
-    let backoff = Backoff::new();
+    let mut backoff = Backoff::new();
     let mut denied = 0u64;
     let mut waits = so_far;
     for _ in rt.forever() {
@@ -85,7 +89,7 @@ fn want_write<R: Wait>(
             Err(GateError::ReadOnly) => denied = denied.saturating_add(1),
             Err(refusal) => return Err(refusal),
         }
-        backoff.snooze();
+        backoff.snooze(rt);
     }
     unreachable!()
 }
@@ -97,9 +101,9 @@ fn grow<R: Wait>(rt: &R, gates: &Gates, task: &mut Task, file: u8) -> Result<u64
     requires file { file < gates.now.words.config.nodes }
     ensures from { IsFrom task.new gates.now }
     ensures inside { HasWriteAccess task.new }
-    ensures thaws { ThawsNothing task.old task.new }
+    ensures freezes { FreezesNothing task.old task.new }
     ensures grew { IfOk result (λ raced. (grew : Retries (Grow file 1) Again task.old task.new) × (raced ≡ counted grew.0)) }
-    ensures refused { IfErr result (λ refusal. EndsGrow refusal × WasRefused gates.now.words.config (Grow file 1) refusal) }
+    ensures refused { IfErr result (GrowthRefused gates.now file task.old) }
 {
     let mut raced = 0u64;
     for _ in rt.forever() {
@@ -117,7 +121,7 @@ fn grow<R: Wait>(rt: &R, gates: &Gates, task: &mut Task, file: u8) -> Result<u64
 ///
 /// # Errors
 ///
-/// NoEntry, IsDir or NoSpace of the growth that ends it (`MetBy`). The watch was called in that round too, and the access was given back.
+/// NoEntry, IsDir or NoSpace of the growth that ends it (`WriterRefused`). The watch was called in that round too, and the access was given back.
 pub fn write<R: Wait, W: NotedObserver>(
     rt: &R,
     gates: &Gates,
@@ -130,13 +134,14 @@ pub fn write<R: Wait, W: NotedObserver>(
     requires from { IsFrom task.old gates.now }
     requires planned { gates.now.words.config ≡ run_config plan.tasks plan.processors plan.rounds }
     requires writer { writer + 2 < plan.tasks }
+    requires begins { HasBegun (writer + 2) task.old }
     requires rests { Rests task.old }
     ensures from { IsFrom task.new gates.now }
     ensures rests { Rests task.new }
-    ensures thaws { ThawsNothing task.old task.new }
+    ensures freezes { FreezesNothing task.old task.new }
     ensures rounds { IfOk result (λ writes. Repeats (WriterRound (W.meets watch.now) plan.processors writer) plan.rounds
         (task.old, notes.old, no_writes) (task.new, notes.new, writes)) }
-    ensures refused { IfErr result (MetBy gates.now.words.config plan.tasks) }
+    ensures refused { IfErr result (WriterRefused gates.now plan.tasks plan.processors plan.rounds) }
 {
     let mut writes = Writes::none();
     for round in 0..plan.rounds() {
@@ -253,7 +258,7 @@ fn call_back<R: Wait>(
 ///
 /// # Errors
 ///
-/// Busy or a hook's refusal of a freeze, or a hook's refusal of a thaw (`MetBy`). Invalid if another task thawed what it has frozen (`FoundThawed`).
+/// Busy if another task has frozen, and Invalid if another thawed what it has frozen (`FoundOthers`).
 /// If a snapshot is refused, the watch was called and the thaw was done before this returns.
 pub fn back_up<R: Wait, W: NotedObserver>(
     rt: &R,
@@ -265,13 +270,14 @@ pub fn back_up<R: Wait, W: NotedObserver>(
 ) -> Result<Copies, GateError>
     requires from { IsFrom task.old gates.now }
     requires rests { Rests task.old }
+    requires may { MayFreeze User (own_actions task.old) }
     ensures from { IsFrom task.new gates.now }
     ensures rests { Rests task.new }
     ensures stays { KeepsNumbers task.old task.new }
     ensures all { IfOk result (λ copies. (copies.frozen ≡ plan.freezes) × (copies.snapshots ≡ plan.freezes)) }
     ensures rounds { IfOk result (λ copies. Repeats (BackupRound (W.sees watch.now)) plan.freezes
         (task.old, notes.old, no_copies) (task.new, notes.new, copies)) }
-    ensures refused { IfErr result (λ refusal. MetBy gates.now.words.config plan.tasks refusal ⊎ FoundThawed task.new) }
+    ensures refused { IfErr result (λ refusal. FoundOthers task.new) }
 {
     let mut copies = Copies::none();
     for freeze in 0..plan.freezes() {

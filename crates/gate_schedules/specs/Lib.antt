@@ -1,4 +1,6 @@
 pub mod TaskStates
 pub mod Answers
+pub mod Frozen
+pub mod Leads
 pub mod operations
 pub mod trees

@@ -5,10 +5,12 @@ ghost use Rattle.gate_world.specs.declared.config.Config.{Config};
 ghost use Rattle.gate_world.specs.Configs.{IsWithin};
 ghost use Rattle.gate_world.specs.declared.entries.Entry.{Entry};
 ghost use Rattle.gate_world.specs.Rules.{IsGood};
-ghost use Rattle.gate_world.specs.Headline.{world_after, MovesTheModel, IsOneRun, NobodyIsInside, SumsHold, LevelsLead, IdleSumsHold, NothingIsLeft, FreezeIsUnderWay, HoldersAreTold, FrozenTreeIsWhole, FrozenTreeStays, SnapshotsStand, OperationsAreKept};
+ghost use Rattle.gate_world.specs.Headline.{world_after, MovesTheModel, IsOneRun, NobodyIsInside, SumsHold, IdleSumsHold, NothingIsLeft, FreezeIsUnderWay, HoldersAreTold, FrozenTreeIsWhole, FrozenTreeStays, SnapshotsStand, OperationsAreKept};
 ghost use Rattle.gate_world.specs.refusals.Causes.{RefusalsHaveCauses};
 ghost use Rattle.gate_world.specs.LevelRuns.{LevelsAreRuns};
 ghost use Rattle.gate_world.specs.refusals.Waits.{EachWaitHasCulprit};
+ghost use Rattle.gate_schedules.specs.Frozen.{FrozenIsClosed};
+ghost use Rattle.gate_schedules.specs.Leads.{SumsLead};
 ghost use Rattle.gate_schedules.specs.operations.Progress.{EverybodySettles, BlockedStaysBlocked, ReplyOrAllBlocked, RepliesOrIsFrozen};
 ghost use Rattle.gate_schedules.specs.operations.Ranks.{most_events_to_reply, most_events_to_settle};
 
@@ -21,11 +23,16 @@ ghost use Rattle.gate_schedules.specs.operations.Ranks.{most_events_to_reply, mo
 ///   task's last snapshot is of all nodes, sound and clean, and has a moment in it at which everything was frozen, with the tree that was
 ///   loaded, after just what the task had done at the snapshot's last load.
 /// - `inside`: nobody holds an access at a read-only mount, nor at a level that a freeze has passed.
+/// - `frozen`: at SB_FREEZE_COMPLETE all three levels are passed, so nobody is inside one; or the superblock is read-only, so nobody holds an access
+///   at a mount.
 /// - `sums`, `idle`: each mount's and each level's words sum to what is held and sought there, and, with no operation under way, to the
 ///   accesses held.
 /// - `leads`: while a freeze sums a level's words, from its swap of `block` to the level's pass, what it has read, with the present values of the
 ///   words to come, is at least the accesses that are held there, with who is on the fast path, and who seeks one and has added to a word
-///   to come.
+///   to come. While a change or a remount sums a mount's words, from its store of HOLD to its last load, HOLD is set, and what it has read,
+///   with the present values of the words to come, is at least the accesses that are held there, with who seeks one and has found HOLD clear
+///   and nothing read-only, and who seeks one, isn't past that and has added to a word to come. Either is far below 2^64: at most 65,600,
+///   with 64 for each word read, and who seeks one and has added to a word to come.
 /// - `rests`: nothing is left behind: with no operation under way, `umount` is free, no remount is under way, no mount has HOLD set, no
 ///   read-side section is under way, a level is closed only where the file system is frozen as a whole, no callback is taken, no
 ///   freeze is half done: the stage is SB_UNFROZEN or SB_FREEZE_COMPLETE, and the kernel or user space holds a freeze exactly at the latter; and
@@ -76,9 +83,10 @@ pub fn every_schedule()
     ensures moves { (c : Config) → IsWithin c → (entries : List Entry) (next : Entry) → MovesTheModel c entries next }
     ensures run { (c : Config) → IsWithin c → (entries : List Entry) → IsOneRun c entries }
     ensures inside { (c : Config) → IsWithin c → (entries : List Entry) → NobodyIsInside c (world_after c entries) }
+    ensures frozen { (c : Config) → IsWithin c → (entries : List Entry) → FrozenIsClosed c (world_after c entries) }
     ensures sums { (c : Config) → IsWithin c → (entries : List Entry) → SumsHold c (world_after c entries) }
     ensures idle { (c : Config) → IsWithin c → (entries : List Entry) → IdleSumsHold c (world_after c entries) }
-    ensures leads { (c : Config) → IsWithin c → (entries : List Entry) → LevelsLead c (world_after c entries) }
+    ensures leads { (c : Config) → IsWithin c → (entries : List Entry) → SumsLead c (world_after c entries) }
     ensures rests { (c : Config) → IsWithin c → (entries : List Entry) → NothingIsLeft c (world_after c entries) }
     ensures freezes { (c : Config) → IsWithin c → (entries : List Entry) → FreezeIsUnderWay c (world_after c entries) }
     ensures holders { (c : Config) → IsWithin c → (entries : List Entry) → HoldersAreTold c (world_after c entries) }

@@ -186,7 +186,7 @@ renewed_events : (w : World) (n t : ℕ) → ((renewed_at w n).views t).events �
 renewed_events w n t = each_updated (λ y (u : View). u.events ≡ (w.views y).events) w.views n (renewed (w.views n)) t refl (λ ne. refl)
 
 -- of fewer numbers all is seen, too
-fewer_seen : (now : List Entry) (all some_of : DealtNumbers) (seen : List (List Entry)) → ((m : ℕ) → 1 ≤ times m some_of → 1 ≤ times m all) →
+pub fewer_seen : (now : List Entry) (all some_of : DealtNumbers) (seen : List (List Entry)) → ((m : ℕ) → 1 ≤ times m some_of → 1 ≤ times m all) →
     HaveSeen now all seen → HaveSeen now some_of seen
 fewer_seen now all some_of seen fewer have = record { goes_on = have.goes_on; rested = λ m here. have.rested m (fewer m here) }
 
@@ -265,7 +265,7 @@ module _ (tasks : ℕ) (views : ℕ → View) (seats : List DealtNumbers) (dealt
       }
 
 -- what stands in the second of two lists stands behind the first
-at_behind : {A : Type 0} (l m : List A) (k : ℕ) (y : A) → get_elem? m k ≡ some y → (j : ℕ) × (get_elem? (l ++ m) j ≡ some y)
+pub at_behind : {A : Type 0} (l m : List A) (k : ℕ) (y : A) → get_elem? m k ≡ some y → (j : ℕ) × (get_elem? (l ++ m) j ≡ some y)
 at_behind [] m k y e = (k, e)
 at_behind (x ∷ xs) m k y e = let r = at_behind xs m k y e in (suc r.0, r.1)
 

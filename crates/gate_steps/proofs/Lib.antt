@@ -5,5 +5,6 @@ pub mod Reaching
 pub mod Stores
 pub mod TableSimulation
 pub mod Giving
+pub mod Looking
 pub mod Opening
 pub mod Closing

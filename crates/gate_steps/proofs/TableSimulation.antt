@@ -9,7 +9,7 @@ use Rattle.access_model.specs.{Histories.{Done, end_of, IsLegal, IsMerge}, State
 use Rattle.cpu_words.specs.{Hooks.HookAnswer, Names.{IsWord, place, words_in_all}, Touches.{left, found_by}, Words.{Words, read, put}}
 use Rattle.cpu_words.specs.declared.{events.Touch.{Touch}, names.WordName.WordName}
 use Rattle.gate_world.specs.{Beginnings.{first_phase, view_refusal}, Configs.{IsWithin, model_limits, extents_kept}, traces.TraceStates.ReadIsValid, Fits.Fits}
-use Rattle.gate_world.specs.{Moments.AllHaveMoments, Rules.{IsGood, Moves, StepKeeps, Fitting}, Shown.shown, traces.Snapshots.{completes}}
+use Rattle.gate_world.specs.{Moments.AllHaveMoments, Rules.{IsGood, Moves, StepKeeps, Fitting}, Shown.shown}
 use Rattle.gate_world.specs.{Views.{begun_view, view_after_with_others, held_of}, Work.{next_of, after_of}, Worlds.{World, words_after, value_at}}
 use Rattle.gate_world.specs.{Worlds.{found_at, after_step, after_step_with_others, phase_action, with_action}, declared.{config.Config.Config, operations.Op.Op}}
 use Rattle.gate_world.specs.declared.{views.{View.{View}}, work.Phase.{Phase}, entries.Entry.{Entry}}

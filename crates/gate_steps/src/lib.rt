@@ -3,12 +3,16 @@
 #![tactic(auto)]
 
 pub mod call_events;
+mod meeting;
 mod rule;
 mod seating;
 mod steps;
 mod tables;
 
-pub use rule::{Given, Gives, StepInputs, StepPlay, TableInvariant, TakesBack};
+pub use meeting::{meet, receipt};
+pub use rule::{
+    Divided, Divides, Given, Gives, LookPlay, StepInputs, StepPlay, TableInvariant, TakesBack,
+};
 pub use seating::{Knowledge, Numbered};
 pub use steps::{event, give, index_of, take_back, touch};
 pub use tables::{Closed, GateTable, close, open, opening_words, word_of};

@@ -94,3 +94,44 @@ impl Join<Knowledge> for TakesBack {
 
     ghost spent = { knows [] [] };
 }
+
+/// A load that is no task's step. It tells its seat the world of that moment, under the config of these inputs.
+pub struct LookPlay<J> {
+    of: PhantomData<J>,
+}
+
+impl<J: StepInputs> Play<(), Knowledge> for LookPlay<J> {
+    ghost use Rattle.gate_steps.specs.Meetings.{looked};
+
+    ghost then = { λ s me found after. looked J.config me after };
+}
+
+/// How the numbers of a seat are divided: those that it keeps, and those that a new seat gets. Each call picks them.
+pub trait Divided {
+    ghost use Rattle.gate_steps.specs.Seating.{DealtNumbers};
+
+    ghost mine: { DealtNumbers };
+
+    ghost others: { DealtNumbers };
+}
+
+impl Divided for Brand {
+    ghost use Rattle.std.specs.Prelude.{[]};
+
+    ghost mine = { [] };
+
+    ghost others = { [] };
+}
+
+/// A seat is cut in two: it keeps the first of its numbers, and a new seat has the others. Both have seen what it had.
+pub struct Divides<J> {
+    of: PhantomData<J>,
+}
+
+impl<J: Divided> Split<Knowledge> for Divides<J> {
+    ghost use Rattle.gate_steps.specs.Seating.{knows};
+
+    ghost left = { λ k. knows J.mine k.seen };
+
+    ghost right = { λ k. knows J.others k.seen };
+}

@@ -1,5 +1,5 @@
 -- What C is told of the words of closed gates.
-use Rattle.std.specs.Prelude.{◌≡◌, ℕ, ◌*◌, ◌%◌, ◌<◌, ◌==◌, nat_le, if◌then◌else◌, Option, Some, None, List, length, slice_index, slice_index_or}
+use Rattle.std.specs.Prelude.{◌≡◌, Bool, true, false, ℕ, ◌*◌, ◌%◌, ◌<◌, ◌==◌, nat_le, if◌then◌else◌, Option, Some, None, List, length, slice_index, slice_index_or}
 use Rattle.access_model.specs.declared.{actions.Gate.{Gate, TheVariants.{Mount, Level}}, errors.GateError.{GateError, TheVariants.{Busy, NoMemory, Order}}}
 use Rattle.cpu_words.specs.{Names.{IsWord, place, stride}, declared.names.WordName.{WordName}}
 use Rattle.finite_sums.specs.Sums.{total}
@@ -19,12 +19,12 @@ gate_asked r = if r.kind == 15 then Some (Mount r.first) else if r.kind == 16 th
 abbrev pub no_word : WordRecord
 no_word = record { kind = 0; first = 0; second = 0 }
 
--- why a task does not close its gates
-abbrev pub CloseIsRefused : SeatedTask → GateError → Type 0
-CloseIsRefused s Order = ¬ HasAll s
-CloseIsRefused s Busy = HasAll s
-CloseIsRefused s NoMemory = HasAll s
-CloseIsRefused s e = ⊥
+-- why a task does not close its gates, and how its handle is left: with the task as it was, or with none
+abbrev pub CloseIsRefused : SeatedTask → Bool → SeatedTask → GateError → Type 0
+CloseIsRefused old full new Order = ¬ HasAll old × (full ≡ true) × (new ≡ old)
+CloseIsRefused old full new Busy = HasAll old × (full ≡ true) × (new ≡ old)
+CloseIsRefused old full new NoMemory = HasAll old × (full ≡ false)
+CloseIsRefused old full new e = ⊥
 
 -- The value of the word that was asked for, or the wrapping sum of a gate's counts, which is 0; 0 where there is no such word or gate.
 pub record IsValue (e : ClosedState) (asked : WordRecord) (value : ℕ) : Type 0 where

@@ -30,27 +30,34 @@ holder_of true = Kernel
 holder_of false = User
 
 -- which hook is asked
-abbrev pub hook_at : ℕ → Option HookKind
-hook_at n = if n == 0 then None else if n == 1 then Some Sync else if n == 2 then Some FreezeFs else if n == 3 then Some UnfreezeFs else Some Reconfigure
+abbrev pub hook_number : Option HookKind → ℕ
+hook_number None = 0
+hook_number (Some Sync) = 1
+hook_number (Some FreezeFs) = 2
+hook_number (Some UnfreezeFs) = 3
+hook_number (Some Reconfigure) = 4
 
 -- what a hook answered
 abbrev pub hook_answer : ℕ → HookAnswer
 hook_answer n = if n == 0 then Ok tt else Err n
 
--- the reply of an operation that was not refused
+-- The reply of an operation that was not refused. Any other numbers are read as a node that no file system has: no operation replies so.
 abbrev pub reply_at : ℕ → ℕ → Reply
-reply_at kind value = if kind == 1 then Node value else if kind == 2 then Ran (value == 1) else if kind == 3 then Tree else UnitReply
+reply_at kind value =
+    if kind == 0 then UnitReply else if kind == 1 then Node value
+    else if kind == 2 then (if value == 0 then Ran false else if value == 1 then Ran true else Node (256 + value))
+    else if kind == 3 then Tree else Node (256 + kind)
 
 -- how it was done
 abbrev pub done_at : Result (Unit {0}) GateError → Reply → Result Reply GateError
 done_at (Ok _) reply = Ok reply
 done_at (Err refusal) reply = Err refusal
 
--- how an operation stands, as an outcome tells it
+-- How an operation stands, as an outcome tells it. Any other number is read as the failure of a hook with a code that none has.
 abbrev pub progress_at : Outcome → Progress
 progress_at o =
     if o.progress == 0 then Idle else if o.progress == 1 then Going else if o.progress == 2 then Waiting
-    else Done (done_at (answer_of o.answer) (reply_at o.reply o.value))
+    else if o.progress == 3 then Done (done_at (answer_of o.answer) (reply_at o.reply o.value)) else Done (Err (Hook (65536 + o.progress)))
 
 -- how an operation stands that was begun, or why it was refused
 abbrev pub begun_at : ℕ → Outcome → Result Progress GateError

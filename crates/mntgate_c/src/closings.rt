@@ -1,7 +1,7 @@
 //! Gates closed by a handle, and what their words hold then.
 
 ghost use Rattle.std.specs.Prelude.{◌≡◌, ◌<◌, ℕ, true, false, Err, IfErr, IfOk, OnOk, length, slice_index, slice_index_or};
-ghost use Rattle.access_model.specs.declared.errors.GateError.TheVariants.{Busy, Invalid, Order};
+ghost use Rattle.access_model.specs.declared.errors.GateError.TheVariants.{Invalid};
 ghost use Rattle.vfs_gates.specs.Ended.{EndedWith, HasAll};
 ghost use Rattle.mntgate_c.specs.Closings.{CloseIsRefused, ClosedWith, IsValue, name_asked, no_word};
 
@@ -69,14 +69,12 @@ impl TaskHandle {
     /// # Errors
     ///
     /// Order unless the task rests and has all other numbers, and Busy if another handle has the gates still: then the task is as it was.
-    /// NoMemory if another handle has the gates still, and there was no memory to keep the task.
+    /// NoMemory if another handle has the gates still, and there was no memory to keep the task: then the handle has none.
     fn take_closed(&mut self, alloc: Global) -> Result<Closed, GateError>
         requires { self.old.full ≡ true }
         ensures closed { IfOk result (λ c. (self.new.full ≡ false) × HasAll self.old.state × (c.config ≡ self.old.state.config)
             × EndedWith c.config c.words self.old.state.items self.old.state.seen) }
-        ensures why { IfErr result (CloseIsRefused self.old.state) }
-        ensures order { result ≡ Err Order → (self.new.full ≡ true) × (self.new.state ≡ self.old.state) }
-        ensures busy { result ≡ Err Busy → (self.new.full ≡ true) × (self.new.state ≡ self.old.state) }
+        ensures why { IfErr result (CloseIsRefused self.old.state self.new.full self.new.state) }
     {
         if !self.member().task.has_all() {
             return Err(GateError::Order);
@@ -99,7 +97,8 @@ impl TaskHandle {
     /// # Errors
     ///
     /// Invalid unless there is one value for each word, Order unless the task rests and has all other numbers, and Busy if another handle has
-    /// the gates still: then the task is as it was. NoMemory if another handle has the gates still, and there was no memory to keep the task.
+    /// the gates still: then the task is as it was. NoMemory if another handle has the gates still, and there was no memory to keep the task: then the handle
+    /// has none.
     pub fn close(
         &mut self,
         alloc: Global,
@@ -111,9 +110,7 @@ impl TaskHandle {
         ensures words { OnOk result (ClosedWith self.old.state asked.now values.new) }
         ensures length { length values.new ≡ length values.old }
         ensures many { ¬ (length asked.now ≡ length values.old) → (result ≡ Err Invalid) × (self.new.full ≡ true) × (self.new.state ≡ self.old.state) }
-        ensures why { length asked.now ≡ length values.old → IfErr result (CloseIsRefused self.old.state) }
-        ensures order { result ≡ Err Order → (self.new.full ≡ true) × (self.new.state ≡ self.old.state) }
-        ensures busy { result ≡ Err Busy → (self.new.full ≡ true) × (self.new.state ≡ self.old.state) }
+        ensures why { length asked.now ≡ length values.old → IfErr result (CloseIsRefused self.old.state self.new.full self.new.state) }
     {
         if asked.len() != values.len() {
             return Err(GateError::Invalid);

@@ -1,7 +1,7 @@
 //! Answers as numbers.
 
 ghost use Rattle.std.specs.Prelude.{◌≡◌, ◌<◌, OnErr};
-ghost use Rattle.mntgate_c.specs.Codes.{answer_of, answer_with, begun_at, holder_of, hook_at, hook_answer, progress_at};
+ghost use Rattle.mntgate_c.specs.Codes.{answer_of, answer_with, begun_at, holder_of, hook_answer, hook_number, progress_at};
 
 use vfs_gates::{GateError, Holder, HookKind, Progress, Reply};
 
@@ -41,7 +41,7 @@ pub fn holder(by_kernel: bool) -> Holder
 
 /// Returns which hook is asked: 1 sync, 2 freeze_fs, 3 unfreeze_fs, 4 reconfigure, and 0 for none.
 pub fn hook_code(asked: Option<HookKind>) -> u32
-    ensures { hook_at result ≡ asked }
+    ensures { result ≡ hook_number asked }
 {
     match asked {
         None => 0,

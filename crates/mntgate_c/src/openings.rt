@@ -6,7 +6,7 @@ ghost use Rattle.gate_world.specs.Configs.{IsWithin};
 ghost use Rattle.vfs_gates.specs.Ended.{HasOpeningWords};
 ghost use Rattle.vfs_gates.specs.Held.{Rests};
 ghost use Rattle.vfs_gates.specs.Parts.{SplitOf};
-ghost use Rattle.mntgate_c.specs.Openings.{SplitIsRefused, config_of};
+ghost use Rattle.mntgate_c.specs.Openings.{IsFirst, SplitIsRefused, config_of};
 
 use crate::handles::TaskHandle;
 use crate::members::Member;
@@ -55,6 +55,7 @@ impl TaskHandle {
         ensures full { OnOk result (self.new.full ≡ true) }
         ensures rests { OnOk result (Rests self.new.state) }
         ensures config { OnOk result (self.new.state.config ≡ config_of named) }
+        ensures numbers { OnOk result (IsFirst self.new.state (config_of named)) }
         ensures words { OnOk result (HasOpeningWords self.new.state.config self.new.state.items) }
         ensures refused { OnErr result (self.new.full ≡ false) }
         ensures invalid { ¬ IsWithin (config_of named) → result ≡ Err Invalid }
@@ -68,8 +69,8 @@ impl TaskHandle {
     ///
     /// # Errors
     ///
-    /// Then the other handle has no task still. Order, with this task as it was, unless it rests. TooMany if no number is left, NoMemory if
-    /// a growth was refused.
+    /// The other handle has no task then. Order unless this task rests, and TooMany if it has no number to give: it is as it was. NoMemory if a
+    /// growth was refused: this task has all its numbers still.
     pub fn split_into(&mut self, alloc: Global, other: &mut TaskHandle) -> Result<(), GateError>
         requires this { self.old.full ≡ true }
         requires that { other.old.full ≡ false }
@@ -79,8 +80,7 @@ impl TaskHandle {
         ensures made { OnOk result (SplitOf self.old.state self.new.state other.new.state) }
         ensures rests { OnOk result (Rests self.new.state × Rests other.new.state) }
         ensures refused { OnErr result (other.new.full ≡ false) }
-        ensures order { result ≡ Err Order → self.new.state ≡ self.old.state }
-        ensures why { IfErr result (SplitIsRefused self.old.state) }
+        ensures why { IfErr result (SplitIsRefused self.old.state self.new.state) }
     {
         if !self.member().task.rests() {
             return Err(GateError::Order);

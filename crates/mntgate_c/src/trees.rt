@@ -1,6 +1,7 @@
 //! A snapshot's tree, node by node, as records of numbers.
 
-ghost use Rattle.std.specs.Prelude.{◌≡◌, true, slice_index, OnOk, OnErr, Some, None};
+ghost use Rattle.std.specs.Prelude.{◌≡◌, true, slice_index, Err, OnOk, OnErr, Some, None};
+ghost use Rattle.access_model.specs.declared.errors.GateError.TheVariants.{NoEntry};
 ghost use Rattle.gate_world.specs.declared.views.Snapshot.{Snapshot as Taken};
 ghost use Rattle.gated_tree.specs.Trees.{node_at, words_of};
 ghost use Rattle.vfs_gates.specs.TaskStates.{own_view};
@@ -74,7 +75,7 @@ impl TaskHandle {
         ensures same { self.new.state ≡ self.old.state }
         ensures taken { OnOk result ((s : Taken) × ((own_view self.old.state.items).snapshot ≡ Some s)
             × (node_told to.new ≡ node_at s.loaded number) × (to.new.kids ≡ slice_index s.loaded.kids number)) }
-        ensures none { OnErr result ((own_view self.old.state.items).snapshot ≡ None) }
+        ensures none { OnErr result ((result ≡ Err NoEntry) × ((own_view self.old.state.items).snapshot ≡ None) × (to.new ≡ to.old)) }
     {
         match self.member().task.tree() {
             Some(tree) => {
@@ -95,7 +96,7 @@ impl TaskHandle {
         ensures full { self.new.full ≡ true }
         ensures same { self.new.state ≡ self.old.state }
         ensures taken { OnOk result ((s : Taken) × ((own_view self.old.state.items).snapshot ≡ Some s) × (used.new ≡ s.loaded.used)) }
-        ensures none { OnErr result ((own_view self.old.state.items).snapshot ≡ None) }
+        ensures none { OnErr result ((result ≡ Err NoEntry) × ((own_view self.old.state.items).snapshot ≡ None) × (used.new ≡ used.old)) }
     {
         match self.member().task.tree() {
             Some(tree) => {

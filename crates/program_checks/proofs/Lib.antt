@@ -1,1 +1,4 @@
+mod Marks
+mod Put
+mod SaidSoFar
 mod Written

@@ -1,12 +1,13 @@
 //! A file with what it prints in the place of what it says of it.
 
-use crate::playing::{Source, Stopped, expected_in};
+use crate::playing::{Source, Stopped};
+use crate::said::{put_said, said_in};
 use race_files::Lines;
 use race_files::setting_up::SetUpObserver;
-use schedule_text::{LINES, Output};
+use schedule_text::Output;
 use std::alloc::Global;
 
-/// Returns the lines of a file, where the lines `#> TEXT` behind each command say what it prints: they stand where the first of them stood, or else
+/// Returns the lines of a file, where the lines `#> TEXT` behind each command say all that it prints: they stand where the first of them stood, or else
 /// right behind the command. All other lines stay as they are.
 pub fn blessed(alloc: Global, source: Source<'_>) -> Result<Output, Stopped> {
     let mut blessing = Blessing {
@@ -34,31 +35,18 @@ impl SetUpObserver for Blessing<'_> {
         let place = place_in(self.said.rest(), count);
         for index in 0..count {
             if index == place {
-                self.put_printed(printed.bytes.as_slice());
+                put_said(printed.bytes.as_slice(), &mut self.lines);
             }
-            let line = self.said.next();
-            if let (Some(line), None) = (line, expected_in(line)) {
+            if let Some(line) = self.said.next()
+                && said_in(line).is_none()
+            {
                 self.lines.line(line);
             }
         }
         if count <= place {
-            self.put_printed(printed.bytes.as_slice());
+            put_said(printed.bytes.as_slice(), &mut self.lines);
         }
         printed.clear();
-    }
-}
-
-impl Blessing<'_> {
-    /// Puts what was printed, in lines that say so.
-    fn put_printed(&mut self, printed: &[u8]) {
-        let mut shown = Lines::new(printed);
-        for _ in 0..=LINES {
-            let Some(line) = shown.next() else {
-                break;
-            };
-            self.lines.text(b"#> ");
-            self.lines.line(line);
-        }
     }
 }
 
@@ -66,7 +54,7 @@ impl Blessing<'_> {
 fn place_in(rest: &[u8], count: u32) -> u32 {
     let mut lines = Lines::new(rest);
     for index in 0..count {
-        if expected_in(lines.next()).is_some() {
+        if lines.next().is_some_and(|line| said_in(line).is_some()) {
             return index;
         }
     }

@@ -8,14 +8,15 @@ use crate::playing::{STATES, Source, Stopped};
 use access_model::GateError;
 use diagnostics::tell_faulty;
 use exit_status::{
-    ProgramEnding, SourceName, read_bytes, refused, refused_of, unopened, why_told, why_told_of,
+    ProgramEnding, expect_file, read_bytes, refused, refused_of, replace_file, unopened, why_told,
+    why_told_of,
 };
 use schedule_lines::bytes::write_out;
 use schedule_text::Output;
 use std::alloc::Global;
+use std::fs;
 use std::io::{Read, Write};
 use std::rt::Files;
-use std::{fs, io};
 
 /// How many files were written, stayed as they were, and failed.
 #[derive(Drop)]
@@ -56,7 +57,8 @@ impl Counts {
 }
 
 /// Writes what the schedules and races of some files print into them, in the place of what they say of it. Writes how many were written, stayed as
-/// they were, and failed; a file that has a fault, or can't be read or written, is told on the writer of faults, and stays as it is.
+/// they were, and failed; a file that has a fault, or can't be read or written, is told on the writer of faults, and stays as it is. So does one that is no
+/// regular file, or has other names. Of a link the file is written to which it leads.
 pub fn run_blessings<R: Files + Alloc<A = Global>, I: Read, W: Write, E: Write>(
     rt: &R,
     alloc: Global,
@@ -86,6 +88,10 @@ fn bless<R: Files + Alloc<A = Global>, I: Read, E: Write>(
     reader: &mut I,
     errors: &mut E,
 ) -> Result<bool, ProgramEnding> {
+    // A pipe would be read, and can't be replaced.
+    fs::metadata(rt, file)
+        .and_then(|found| expect_file(&found))
+        .map_err(|error| unopened(Some(file), &error, errors))?;
     let bytes = read_bytes(rt, alloc, Some(file), reader, errors)?;
     let source = Source {
         file: Some(file),
@@ -94,7 +100,7 @@ fn bless<R: Files + Alloc<A = Global>, I: Read, E: Write>(
     let lines = blessed(alloc, source).map_err(|stopped| tell_stopped(
         alloc, source, stopped, errors,
     ))?;
-    write_new(rt, alloc, file, source.bytes, &lines, errors)
+    write_new(rt, file, source.bytes, &lines, errors)
 }
 
 /// Tells why a file can't be made to say what it prints.
@@ -115,9 +121,8 @@ fn tell_stopped<E: Write>(
 }
 
 /// Writes these lines into a file that has others, unless they are the same; whether it was written.
-fn write_new<R: Files, E: Write>(
+fn write_new<R: Files + Alloc<A = Global>, E: Write>(
     rt: &R,
-    alloc: Global,
     file: &str,
     others: &[u8],
     lines: &Output,
@@ -129,21 +134,10 @@ fn write_new<R: Files, E: Write>(
     if lines.bytes.as_slice() == others {
         return Ok(false);
     }
-    replace(rt, alloc, file, lines.bytes.as_slice()).map_err(|error| unopened(
+    replace_file(rt, file, lines.bytes.as_slice()).map_err(|error| unopened(
         Some(file),
         &error,
         errors,
     ))?;
     Ok(true)
-}
-
-/// Writes a file beside this one, and puts it in its place, so that none is lost if a write fails.
-fn replace<R: Files>(rt: &R, alloc: Global, file: &str, bytes: &[u8]) -> io::Result<()> {
-    let new = format!(in alloc; "{file}.blessed")?;
-    let written = fs::write(rt, new.as_str(), bytes);
-    let replaced = written.and_then(|_| fs::rename(rt, new.as_str(), file));
-    if replaced.is_err() {
-        let _ = fs::remove_file(rt, new.as_str());
-    }
-    replaced
 }

@@ -1,13 +1,18 @@
 //! What a schedule prints, compared with what it says of it.
 
+ghost use Rattle.std.specs.Prelude.{◌≡◌, ◌-◌, IsTrue, true, take};
+ghost use Rattle.race_files.specs.Left.{left_in};
+ghost use Rattle.program_checks.specs.Said.{said_by};
+
 use crate::claims::{Judged, VerdictForm, bad_claim, claims_some, tell_claims};
-use crate::playing::{STATES, Source, Stopped, expected_in};
+use crate::playing::{STATES, Source, Stopped};
+use crate::said::{Said, read_said, said_in};
 use diagnostics::{Text, diagnosis};
 use exit_status::SourceName;
 use exploration::{Stop, Unobserved};
 use race_files::setting_up::SetUpObserver;
 use race_files::{Lines, RaceFile, RaceSource, read_race};
-use schedule_text::{LINES, Output};
+use schedule_text::Output;
 use shown_events::Style;
 use std::alloc::{AllocError, Global};
 
@@ -20,14 +25,16 @@ pub struct Checked {
     pub told: String,
 }
 
-/// Replays a schedule over the core, and compares what each command prints with the lines `#> TEXT` between it and the next command, and
+/// Replays a schedule over the core, and compares all that each command prints with the lines `#> TEXT` between it and the next command, and
 /// all outcomes of a race, where it ends with one, with those behind the line `race`. What it claims of a race is judged. A race of which
 /// something is claimed need not say its outcomes.
 pub fn check(alloc: Global, source: Source<'_>) -> Result<Checked, AllocError> {
     let mut comparison = Comparison {
+        alloc,
         file: source.file,
         said: Lines::new(source.bytes),
         passed: true,
+        is_whole: true,
         told: Text::new(alloc),
     };
     match source.play(alloc, &mut comparison) {
@@ -35,11 +42,16 @@ pub fn check(alloc: Global, source: Source<'_>) -> Result<Checked, AllocError> {
         Err(stopped) => comparison.stop(alloc, source, stopped)?,
     }
     let Comparison {
+        alloc: _,
         file: _,
         said: _,
         passed,
+        is_whole,
         told,
     } = comparison;
+    if !is_whole {
+        return Err(AllocError);
+    }
     Ok(Checked {
         passed,
         told: told.ended()?,
@@ -49,31 +61,85 @@ pub fn check(alloc: Global, source: Source<'_>) -> Result<Checked, AllocError> {
 /// A check on its way.
 #[derive(Drop)]
 struct Comparison<'a> {
+    alloc: Global,
     file: Option<&'a str>,
     /// The lines from the last command on, which say what it prints.
     said: Lines<'a>,
     passed: bool,
+    /// Whether there was memory for all that lines say.
+    is_whole: bool,
     told: Text,
 }
 
+/// Lines of a file that follow one another: the number of the first, the bytes from it on, and how many they are.
+#[derive(Clone, Copy)]
+struct Place<'a> {
+    number: u32,
+    rest: &'a [u8],
+    count: u32,
+}
+
 impl SetUpObserver for Comparison<'_> {
-    /// Compares what the last command printed with the lines between it and the next one.
-    fn take(&mut self, lines: &Lines<'_>, printed: &mut Output) {
-        let command = self.said.number();
-        let mut shown = Lines::new(printed.bytes.as_slice());
-        for number in command..lines.number() {
-            if let Some(text) = expected_in(self.said.next()) {
-                self.compare(number, text, shown.next());
-            }
-        }
-        self.tell_others(command, &mut shown);
+    /// Compares all that the last command printed with what the lines between it and the next one say.
+    fn take(&mut self, lines: &Lines<'_>, printed: &mut Output)
+        ensures { IsTrue self.new.passed → IsTrue self.old.passed
+            × (printed.old.bytes.items ≡ said_by (take (lines.now.done - self.old.said.done) (left_in self.old.said).lines)) }
+    {
+        let (number, rest) = (self.said.number(), self.said.rest());
+        let count = lines.number().saturating_sub(number);
+        let said = read_said(self.alloc, &mut self.said, count);
+        let place = Place {
+            number,
+            rest,
+            count,
+        };
+        self.compare(place, &said, printed);
         printed.clear();
     }
 }
 
 impl Comparison<'_> {
-    /// Compares what is expected with the line that was printed.
-    fn compare(&mut self, number: u32, text: &[u8], line: Option<&[u8]>) {
+    /// Compares all that was printed with what is said at a place. It has passed only if these are the same bytes.
+    fn compare(&mut self, place: Place<'_>, said: &Output, printed: &Output)
+        ensures { IsTrue self.new.passed → IsTrue self.old.passed × (said.now.is_whole ≡ true) × (said.now.bytes.items ≡ printed.now.bytes.items) }
+    {
+        if said.is_whole && said.bytes.as_slice() == printed.bytes.as_slice() {
+            return;
+        }
+        // A part of it differs only since there was no memory for the rest, which the replay's fault tells.
+        if printed.is_whole {
+            self.tell_difference(place, said.bytes.as_slice(), printed.bytes.as_slice());
+        }
+        self.is_whole &= said.is_whole;
+        self.passed = false;
+    }
+
+    /// Tells how what was printed differs from what is said at a place, line by line, each by the number of the line that says it.
+    fn tell_difference(&mut self, place: Place<'_>, said: &[u8], printed: &[u8]) {
+        let mut wanted = said.split_inclusive(|byte| *byte == b'\n');
+        let mut shown = printed.split_inclusive(|byte| *byte == b'\n');
+        let mut lines = Lines::new(place.rest);
+        let mut goes_on = false;
+        for index in 0..place.count {
+            let number = place.number.saturating_add(index);
+            let begins = lines.next().is_some_and(|line| match said_in(line) {
+                Some(Said::Line(_)) => true,
+                Some(Said::More(_)) => !goes_on,
+                None => false,
+            });
+            if begins && let Some(text) = wanted.next() {
+                goes_on = true;
+                self.tell_unless_same(number, text, shown.next());
+            }
+        }
+        for line in shown {
+            self.begin(place.number);
+            self.quote("'", line, "' was printed, which no line says\n");
+        }
+    }
+
+    /// Tells what is said by a line of this number, unless that was printed.
+    fn tell_unless_same(&mut self, number: u32, text: &[u8], line: Option<&[u8]>) {
         if let Some(line) = line
             && line == text
         {
@@ -87,30 +153,19 @@ impl Comparison<'_> {
         }
     }
 
-    /// Tells what the last command printed beside what was expected.
-    fn tell_others(&mut self, command: u32, shown: &mut Lines<'_>) {
-        for _ in 0..=LINES {
-            let Some(line) = shown.next() else {
-                break;
-            };
-            self.begin(command);
-            self.quote("'", line, "' was printed, which no line says\n");
-        }
-    }
-
-    /// Begins to tell that it has not passed, by a line.
+    /// Begins to tell of the line of this number.
     fn begin(&mut self, number: u32) {
-        self.passed = false;
         self.told.put(SourceName(self.file));
         self.told.put(":");
         self.told.put(number);
         self.told.put(": error: ");
     }
 
-    /// Tells a text, and what stands before and after it.
-    fn quote(&mut self, before: &str, text: &[u8], after: &str) {
+    /// Tells a line without its newline, and what stands before and after it.
+    fn quote(&mut self, before: &str, line: &[u8], after: &str) {
         self.told.put(before);
-        self.told.bytes(text);
+        self.told
+            .bytes(line.strip_suffix(b"\n".as_slice()).unwrap_or(line));
         self.told.put(after);
     }
 
@@ -156,13 +211,8 @@ impl Comparison<'_> {
 
     /// Tells lines as they are.
     fn tell_lines(&mut self, bytes: &[u8]) {
-        let mut lines = Lines::new(bytes);
-        for _ in 0..=LINES {
-            let Some(line) = lines.next() else {
-                break;
-            };
-            self.told.bytes(line);
-            self.told.put("\n");
+        for line in bytes.split_inclusive(|byte| *byte == b'\n') {
+            self.quote("", line, "\n");
         }
     }
 

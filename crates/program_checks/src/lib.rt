@@ -8,6 +8,7 @@ mod checks;
 mod claims;
 mod comparisons;
 mod playing;
+mod said;
 
 pub use blessings::run_blessings;
 pub use checks::run_checks;

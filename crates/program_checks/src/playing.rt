@@ -1,6 +1,7 @@
 //! The lines of a file, done one by one.
 
 use crate::claims::claims_some;
+use crate::said::{Said, said_in};
 use access_model::GateError;
 use diagnostics::{Context, Faulty};
 use exploration::Stop;
@@ -123,7 +124,7 @@ fn first_said(bytes: &[u8]) -> Option<&[u8]> {
     let mut lines = Lines::new(bytes);
     for _ in 0..LINES {
         let line = lines.next()?;
-        if let Some(text) = expected_in(Some(line)) {
+        if let Some(Said::Line(text)) = said_in(line) {
             return Some(text);
         }
     }
@@ -132,19 +133,16 @@ fn first_said(bytes: &[u8]) -> Option<&[u8]> {
 
 /// Puts the line `outcomes:` in the place of the first line, which says how many states and outcomes there are.
 fn leave_counts_out(alloc: Global, printed: &mut Output) {
-    let mut lines = Lines::new(printed.bytes.as_slice());
+    let mut lines = printed
+        .bytes
+        .as_slice()
+        .split_inclusive(|byte| *byte == b'\n');
     let _ = lines.next();
     let mut outcomes = Output::new(alloc);
     outcomes.line(OUTCOMES);
-    outcomes.text(lines.rest());
+    for line in lines {
+        outcomes.text(line);
+    }
     outcomes.is_whole &= printed.is_whole;
     *printed = outcomes;
-}
-
-/// Returns what a line `#> TEXT` says that is printed.
-pub fn expected_in(line: Option<&[u8]>) -> Option<&[u8]> {
-    match line {
-        Some([b'#', b'>', text @ ..]) => Some(text.strip_prefix(b" ").unwrap_or(text)),
-        _ => None,
-    }
 }

@@ -7,7 +7,7 @@ ghost use Rattle.exit_status.specs.declared.ends.ProgramEnding.TheVariants.{Refu
 ghost use Rattle.program_replay.specs.Replays.{EndsReplayed, EndsReplayedFile, EndsReplayedNamed, IsRefusedUnread, done_in, done_of};
 
 use crate::gates_driver::GatesDriver;
-use crate::telling::{Telling, replay_told, show_told};
+use crate::telling::{Telling, replay_gates_told, replay_told, show_told};
 use command_line::{Replay, ReplayForm};
 use exit_status::{ProgramEnding, folder_told, unopened};
 use gate_core::Core;
@@ -116,7 +116,7 @@ fn replay_as<I: Read, W: Write, E: Write>(
 {
     let form = match asked.form {
         ReplayForm::Plain if asked.over_gates => {
-            return match replay_told::<GatesDriver, I, W, E>(telling, reader, writer, errors) {
+            return match replay_gates_told(telling, reader, writer, errors) {
                 Ok(()) => ProgramEnding::DoneOverGates,
                 Err(_) => ProgramEnding::Refused,
             };

@@ -4,6 +4,7 @@ ghost use Rattle.std.specs.Prelude.{◌≡◌, true, IfErr};
 ghost use Rattle.transcripts.specs.Limits.{IsLineNumber};
 ghost use Rattle.line_players.specs.Replayed.{Replayed};
 
+use crate::gates_driver::{GatesDriver, replay_gates};
 use diagnostics::{Context, Faulty, tell_faulty};
 use exit_status::fault_told;
 use gate_core::Driver;
@@ -46,6 +47,26 @@ pub fn replay_told<D: Driver, R: Read, W: Write, E: Write>(
         }
     }
     ended.result
+}
+
+/// A schedule over the gates that threads use, as `replay_told` does one over whatever gates. Unless a fault's line is told too, it is a plain
+/// `replay_gates`, which keeps no line.
+pub fn replay_gates_told<R: Read, W: Write, E: Write>(
+    telling: Telling<'_>,
+    reader: &mut R,
+    writer: &mut W,
+    errors: &mut E,
+) -> Result<(), ReplayFault>
+    ensures line { IfErr result (λ fault. IsLineNumber fault.line) }
+{
+    if telling.explains {
+        return replay_told::<GatesDriver, R, W, E>(telling, reader, writer, errors);
+    }
+    let ended = replay_gates(telling.alloc, reader, writer);
+    if let Err(fault) = ended {
+        let _ = fault_told(fault, telling.file, errors);
+    }
+    ended
 }
 
 /// A schedule that is shown, over whatever gates; a picture stands on a page of its own.

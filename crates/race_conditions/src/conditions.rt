@@ -38,8 +38,9 @@ pub enum Fact {
         call: u8,
         answer: CallAnswer,
     },
-    /// A task is at this call, or makes it next: the call has not answered.
-    Waits {
+    /// The call is the one that a task answers next: those before it have their answers, and it has none. The task waits in it, is at it,
+    /// or has yet to begin it.
+    Due {
         task: u8,
         call: u8,
     },

@@ -2,3 +2,5 @@ pub mod Left
 pub mod Reading
 pub mod Words
 pub mod SettingUp
+pub mod FirstFaults
+pub mod Idle

@@ -4,36 +4,31 @@ use Rattle.std.proofs.lemmas.{Bool.{cases_Bool, eqb-true}, Slice.Eq.{bytes_eq-De
 use Rattle.std.specs.{Prelude.{bytes_eq, codes, not, ok_or, if◌then◌else◌, ◌==◌, ◌+◌}, Result.{result_and}, List.{position_or_len}}
 use Rattle.schedule_lines.specs.{Numbers.{is_digits}, Words.{after_word, first_word, is_space, word_count}, declared.faults.Fault.{Fault}}
 use Rattle.schedule_lines.specs.declared.faults.Fault.TheVariants.{NoSuchTask, UnknownCommand, WrongNumberOfWords}
-use Rattle.transcripts.specs.{Limits.{is_config}, Transcript.{ReplayState, config_effect, line_effect, opening_play, tasks_of}}
-use Rattle.race_files.specs.{Calls.{is_race}, Left.{Left, behind}, SettingUp.{AreNoRaces, SetsUp, after_all, made_by}}
-use Rattle.schedule_text.specs.Parsing.{◌>>=◌, alone, arguments_of, command_line, config_line, expect, is_skipped, parsed, task_line, task_of}
+use Rattle.transcripts.specs.{Limits.{is_config}, Transcript.{ReplayState, config_effect, line_effect, opening_play, request_outcome}}
+use Rattle.race_files.specs.{Calls.{is_race}, Left.{Left, behind}, SettingUp.{AreDone, IsDone, SetsUp}}
+use Rattle.schedule_text.specs.Parsing.{◌>>=◌, alone, arguments_of, command_line, config_line, config_of, expect, is_skipped, parsed, task_line, task_of}
 use Rattle.schedule_text.specs.declared.commands.Line.{Line, TheVariants.{Skipped, Config as ConfigLine, Request as RequestLine}}
 use Rattle.schedule_text.specs.{declared.commands.Request.{Request, TheVariants.{Task}}, Verbs.{takes, verb_of}}
 use Rattle.gate_world.specs.declared.config.Config.{Config}
 
 -- lines after others
-none_more : (before : List (List ℕ)) (after : List (List ℕ)) → AreNoRaces before → AreNoRaces after → AreNoRaces (before ++ after)
-none_more [] after none more = more
-none_more (line ∷ lines) after none more = (none.0, none_more lines after none.1 more)
-
-after_more : (p : Option ReplayState) (before after : List (List ℕ)) → after_all p (before ++ after) ≡ after_all (after_all p before) after
-after_more p [] after = refl
-after_more p (line ∷ lines) after = after_more (made_by p (parsed line (tasks_of p))) lines after
+done_more : (from mid to : Option ReplayState) (before after : List (List ℕ)) → AreDone from before mid → AreDone mid after to →
+    AreDone from (before ++ after) to
+done_more from mid to [] after first more = subst (λ (p : Option ReplayState). AreDone p after to) (sym first) more
+done_more from mid to (text ∷ texts) after first more = (first.0, first.1, done_more first.0 mid to texts after first.2 more)
 
 -- no line yet
 pub none_yet : (p : Option ReplayState) (all : Left) → SetsUp p p all all
-none_yet p all = record { before = []; lines = refl; none = tt; made = refl }
+none_yet p all = record { before = []; lines = refl; done = refl }
 
 -- one more
-pub one_more : (from to : Option ReplayState) (all left now : Left) (line : List ℕ) → SetsUp from to all left →
-    left.lines ≡ line ∷ (behind left).lines → now ≡ behind left → is_race line ≡ Ok false →
-    SetsUp from (made_by to (parsed line (tasks_of to))) all now
-one_more from to all left now line so_far first rest no_race = record {
+pub one_more : (from to next : Option ReplayState) (all left now : Left) (line : List ℕ) → SetsUp from to all left →
+    left.lines ≡ line ∷ (behind left).lines → now ≡ behind left → IsDone to line next → SetsUp from next all now
+one_more from to next all left now line so_far first rest is = record {
   before = so_far.before ++ line ∷ [];
   lines = so_far.lines ∙ (ap (λ (l : List (List ℕ)). so_far.before ++ l) (first ∙ ap (λ (x : Left). line ∷ x.lines) (sym rest)) ∙
       sym (append_assoc so_far.before (line ∷ []) now.lines));
-  none = none_more so_far.before (line ∷ []) so_far.none (no_race, tt);
-  made = after_more from so_far.before (line ∷ []) ∙ ap (λ (p : Option ReplayState). made_by p (parsed line (tasks_of p))) so_far.made;
+  done = done_more from to next so_far.before (line ∷ []) so_far.done (next, is, refl);
 }
 
 -- and those that come behind
@@ -42,9 +37,7 @@ and_more from mid to all left now first second = record {
   before = first.before ++ second.before;
   lines = first.lines ∙ (ap (λ (l : List (List ℕ)). first.before ++ l) second.lines ∙
       sym (append_assoc first.before second.before now.lines));
-  none = none_more first.before second.before first.none second.none;
-  made = after_more from first.before second.before ∙
-      (ap (λ (p : Option ReplayState). after_all p second.before) first.made ∙ second.made);
+  done = done_more from mid to first.before second.before first.done second.done;
 }
 
 -- a line whose first word isn't `race`
@@ -101,76 +94,130 @@ before_config line l e = elim (cases_Bool (bytes_eq (first_word line) (codes "ra
       ]
 ]
 
--- before the configuration a line that isn't one makes no play
-pub no_config : (l : Line) → ((c : Config) → l ≡ ConfigLine c → ⊥) → (line_effect None l).play ≡ None
-no_config Skipped other = refl
-no_config (ConfigLine c) other = absurd (other c refl)
-no_config (RequestLine request) other = refl
+-- what is made of a line that is understood is one of these
+record Makes (Is : Line → Type 0) (made : Result Line Fault) : Type 0 where
+  is : IfOk made Is
 
--- what is made of a line is no configuration
-abbrev IsNoConfig : Result Line Fault → Type 0
-IsNoConfig (Ok Skipped) = Unit {0}
-IsNoConfig (Ok (ConfigLine c)) = ⊥
-IsNoConfig (Ok (RequestLine request)) = Unit {0}
-IsNoConfig (Err fault) = Unit {0}
+module _ (Is : Line → Type 0) where
+  no_fault : (fault : Fault) → Makes Is (Err fault)
+  no_fault fault = record { is = tt }
 
-record MakesNoConfig (r : Result Line Fault) : Type 0 where
-  none : IsNoConfig r
+  either_is : (b : Bool) (r s : Result Line Fault) → Makes Is r → Makes Is s → Makes Is (if b then r else s)
+  either_is true r s h k = h
+  either_is false r s h k = k
 
-no_fault : (fault : Fault) → MakesNoConfig (Err fault)
-no_fault fault = record { none = tt }
+  then_is : {A : Type 0} (r : Result A Fault) (f : A → Result Line Fault) → ((x : A) → Makes Is (f x)) → Makes Is (r >>= f)
+  then_is (Ok x) f h = h x
+  then_is (Err fault) f h = no_fault fault
 
-a_request : (request : Request) → MakesNoConfig (Ok (RequestLine request))
-a_request request = record { none = tt }
+abbrev IsNoRequest : Line → Type 0
+IsNoRequest Skipped = Unit {0}
+IsNoRequest (ConfigLine c) = Unit {0}
+IsNoRequest (RequestLine request) = ⊥
 
-either_no : (b : Bool) (r s : Result Line Fault) → MakesNoConfig r → MakesNoConfig s → MakesNoConfig (if b then r else s)
-either_no true r s h k = h
-either_no false r s h k = k
+a_config : (c : Config) → Makes IsNoRequest (Ok (ConfigLine c))
+a_config c = record { is = tt }
 
-then_no : {A : Type 0} (r : Result A Fault) (f : A → Result Line Fault) → ((x : A) → MakesNoConfig (f x)) → MakesNoConfig (r >>= f)
-then_no (Ok x) f h = h x
-then_no (Err fault) f h = no_fault fault
+config_no : (line : List ℕ) → Makes IsNoRequest (config_line line)
+unfolding config_line
+config_no line =
+    then_is IsNoRequest (expect (bytes_eq (first_word line) (codes "config")) Fault.ConfigExpected) _ (λ named.
+    then_is IsNoRequest (expect (word_count line == 6) WrongNumberOfWords) _ (λ whole.
+    then_is IsNoRequest (config_of (after_word line)) _ (λ config. a_config config)))
 
-alone_no : (words : ℕ) (request : Request) → MakesNoConfig (alone words request)
-alone_no words request = either_no (words == 1) _ _ (record { none = tt }) (no_fault _)
+-- before the configuration no line is a request
+before_no : (line : List ℕ) → Makes IsNoRequest (parsed line None)
+unfolding parsed
+before_no line = either_is IsNoRequest (is_skipped line) _ _ (record { is = tt }) (config_no line)
 
-task_no : (line : List ℕ) (tasks : ℕ) → MakesNoConfig (task_line line tasks)
+-- so one that is no configuration makes no play
+skipped_so : (l : Line) → IsNoRequest l → ((c : Config) → l ≡ ConfigLine c → ⊥) → ((line_effect None l).fault ≡ None) × ((line_effect None l).play ≡ None)
+skipped_so Skipped plain other = (refl, refl)
+skipped_so (ConfigLine c) plain other = absurd (other c refl)
+skipped_so (RequestLine request) plain other = absurd plain
+
+pub no_config : (line : List ℕ) (l : Line) → parsed line None ≡ Ok l → ((c : Config) → l ≡ ConfigLine c → ⊥) → IsDone None line None
+no_config line l understood other =
+    let so = skipped_so l (subst (λ (r : Result Line Fault). IfOk r IsNoRequest) understood (before_no line).is) other in record {
+      line = l;
+      no_race = before_config line l understood;
+      understood = understood;
+      faultless = so.0;
+      makes = so.1;
+    }
+
+-- the configuration opens one
+pub config_opens : (line : List ℕ) (c : Config) → parsed line None ≡ Ok (ConfigLine c) → is_config c ≡ true → IsDone None line (Some (opening_play c))
+config_opens line c understood lawful = record {
+  line = ConfigLine c;
+  no_race = before_config line (ConfigLine c) understood;
+  understood = understood;
+  faultless = ap (λ b. (config_effect c b).fault) lawful;
+  makes = ap (λ b. (config_effect c b).play) lawful;
+}
+
+abbrev IsNoConfig : Line → Type 0
+IsNoConfig Skipped = Unit {0}
+IsNoConfig (ConfigLine c) = ⊥
+IsNoConfig (RequestLine request) = Unit {0}
+
+a_request : (request : Request) → Makes IsNoConfig (Ok (RequestLine request))
+a_request request = record { is = tt }
+
+alone_no : (words : ℕ) (request : Request) → Makes IsNoConfig (alone words request)
+alone_no words request = either_is IsNoConfig (words == 1) _ _ (record { is = tt }) (no_fault IsNoConfig _)
+
+task_no : (line : List ℕ) (tasks : ℕ) → Makes IsNoConfig (task_line line tasks)
 unfolding task_line
 task_no line tasks =
-    then_no (ok_or (verb_of (first_word (after_word line))) UnknownCommand) _ (λ verb.
-    then_no (expect (takes verb (word_count line)) WrongNumberOfWords) _ (λ allowed.
-    then_no (ok_or (task_of (first_word line) tasks) NoSuchTask) _ (λ task.
-    then_no (arguments_of verb (after_word (after_word line)) (word_count line)) _ (λ command. a_request (Task task command)))))
+    then_is IsNoConfig (ok_or (verb_of (first_word (after_word line))) UnknownCommand) _ (λ verb.
+    then_is IsNoConfig (expect (takes verb (word_count line)) WrongNumberOfWords) _ (λ allowed.
+    then_is IsNoConfig (ok_or (task_of (first_word line) tasks) NoSuchTask) _ (λ task.
+    then_is IsNoConfig (arguments_of verb (after_word (after_word line)) (word_count line)) _ (λ command. a_request (Task task command)))))
 
 -- behind the configuration no line is one
-command_no : (line : List ℕ) (tasks : ℕ) → MakesNoConfig (command_line line tasks)
+command_no : (line : List ℕ) (tasks : ℕ) → Makes IsNoConfig (command_line line tasks)
 unfolding command_line
 command_no line tasks =
-    either_no (bytes_eq (first_word line) (codes "config")) _ _ (no_fault _)
-    (either_no (bytes_eq (first_word line) (codes "words")) _ _ (alone_no _ Request.Words)
-    (either_no (bytes_eq (first_word line) (codes "tree")) _ _ (alone_no _ Request.Tree)
-    (either_no (bytes_eq (first_word line) (codes "model")) _ _ (alone_no _ Request.Model)
-    (either_no (not (is_digits (first_word line))) _ _ (no_fault _)
-    (either_no (word_count line == 1) _ _ (no_fault _) (task_no line tasks))))))
+    either_is IsNoConfig (bytes_eq (first_word line) (codes "config")) _ _ (no_fault IsNoConfig _)
+    (either_is IsNoConfig (bytes_eq (first_word line) (codes "words")) _ _ (alone_no _ Request.Words)
+    (either_is IsNoConfig (bytes_eq (first_word line) (codes "tree")) _ _ (alone_no _ Request.Tree)
+    (either_is IsNoConfig (bytes_eq (first_word line) (codes "model")) _ _ (alone_no _ Request.Model)
+    (either_is IsNoConfig (not (is_digits (first_word line))) _ _ (no_fault IsNoConfig _)
+    (either_is IsNoConfig (word_count line == 1) _ _ (no_fault IsNoConfig _) (task_no line tasks))))))
 
-parsed_no : (line : List ℕ) (tasks : ℕ) → MakesNoConfig (parsed line (Some tasks))
+parsed_no : (line : List ℕ) (tasks : ℕ) → Makes IsNoConfig (parsed line (Some tasks))
 unfolding parsed
-parsed_no line tasks = either_no (is_skipped line) _ _ (record { none = tt }) (command_no line tasks)
+parsed_no line tasks = either_is IsNoConfig (is_skipped line) _ _ (record { is = tt }) (command_no line tasks)
 
-stays_so : (q : ReplayState) (l : Line) → IsNoConfig (Ok l) → ((r : Request) → l ≡ RequestLine r → ⊥) → (line_effect (Some q) l).play ≡ Some q
-stays_so q Skipped plain other = refl
+stays_so : (q : ReplayState) (l : Line) → IsNoConfig l → ((r : Request) → l ≡ RequestLine r → ⊥) →
+    ((line_effect (Some q) l).fault ≡ None) × ((line_effect (Some q) l).play ≡ Some q)
+stays_so q Skipped plain other = (refl, refl)
 stays_so q (ConfigLine c) plain other = absurd plain
 stays_so q (RequestLine request) plain other = absurd (other request refl)
 
 -- so one that asks for nothing leaves the play
-pub no_request : (q : ReplayState) (line : List ℕ) (l : Line) → parsed line (Some q.config.tasks) ≡ Ok l → ((r : Request) → l ≡ RequestLine r → ⊥) →
-    made_by (Some q) (parsed line (Some q.config.tasks)) ≡ Some q
-no_request q line l understood other =
-    ap (made_by (Some q)) understood ∙ stays_so q l (subst IsNoConfig understood (parsed_no line q.config.tasks).none) other
+pub no_request : (q : ReplayState) (line : List ℕ) (l : Line) → is_race line ≡ Ok false → parsed line (Some q.config.tasks) ≡ Ok l →
+    ((r : Request) → l ≡ RequestLine r → ⊥) → IsDone (Some q) line (Some q)
+no_request q line l no_race understood other =
+    let so = stays_so q l (subst (λ (r : Result Line Fault). IfOk r IsNoConfig) understood (parsed_no line q.config.tasks).is) other in record {
+      line = l;
+      no_race = no_race;
+      understood = understood;
+      faultless = so.0;
+      makes = so.1;
+    }
 
--- the configuration opens one
-pub config_opens : (c : Config) → is_config c ≡ true → (line_effect None (ConfigLine c)).play ≡ Some (opening_play c)
-config_opens c lawful = ap (λ b. (config_effect c b).play) lawful
+-- and one that asks for something does it
+pub request_done : (q : ReplayState) (line : List ℕ) (request : Request) → is_race line ≡ Ok false →
+    parsed line (Some q.config.tasks) ≡ Ok (RequestLine request) → IsDone (Some q) line (Some (request_outcome q request).play)
+request_done q line request no_race understood = record {
+  line = RequestLine request;
+  no_race = no_race;
+  understood = understood;
+  faultless = refl;
+  makes = refl;
+}
 
 -- what is known of an answer, of a session that is given in its place
 pub and_made : {U E S : Type 0} (r : Result U E) (session : S) (P : Type 0) (Q : S → Type 0) → (P → Q session) → OnOk r P →

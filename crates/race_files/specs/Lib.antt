@@ -4,3 +4,4 @@ pub mod Prefixes
 pub mod Calls
 pub mod SettingUp
 pub mod Races
+pub mod FirstFaults

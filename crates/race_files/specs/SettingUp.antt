@@ -1,28 +1,24 @@
 -- What the lines before a race set up.
-use Rattle.std.specs.Prelude.{◌≡◌, ℕ, false, Option, Result, Ok, Err, List, [], ◌∷◌, ◌++◌}
+use Rattle.std.specs.Prelude.{◌≡◌, ℕ, false, Option, None, Ok, List, [], ◌∷◌, ◌++◌}
 use Rattle.race_files.specs.{Calls.{is_race}, Left.{Left}}
-use Rattle.schedule_lines.specs.declared.faults.Fault.{Fault}
 use Rattle.schedule_text.specs.{Parsing.{parsed}, declared.commands.Line.{Line}}
 use Rattle.transcripts.specs.Transcript.{ReplayState, line_effect, tasks_of}
 
--- the play after a line, as its transcript has it; a line with a fault does nothing
-abbrev pub made_by : Option ReplayState → Result Line Fault → Option ReplayState
-made_by p (Ok line) = (line_effect p line).play
-made_by p (Err fault) = p
+-- A line that is no `race` is understood, and has no fault: it makes this of the play that there was, or of none, as its transcript has it.
+pub record IsDone (from : Option ReplayState) (text : List ℕ) (to : Option ReplayState) : Type 0 where
+  pub line : Line
+  pub no_race : is_race text ≡ Ok false
+  pub understood : parsed text (tasks_of from) ≡ Ok line
+  pub faultless : (line_effect from line).fault ≡ None
+  pub makes : (line_effect from line).play ≡ to
 
--- the play after these lines
-abbrev pub after_all : Option ReplayState → List (List ℕ) → Option ReplayState
-after_all p [] = p
-after_all p (line ∷ lines) = after_all (made_by p (parsed line (tasks_of p))) lines
+-- so is each of these lines, one after the other
+abbrev pub AreDone : Option ReplayState → List (List ℕ) → Option ReplayState → Type 0
+AreDone from [] to = from ≡ to
+AreDone from (text ∷ texts) to = (mid : Option ReplayState) × IsDone from text mid × AreDone mid texts to
 
--- none of these lines is `race`
-abbrev pub AreNoRaces : List (List ℕ) → Type 0
-AreNoRaces [] = Unit {0}
-AreNoRaces (line ∷ lines) = (is_race line ≡ Ok false) × AreNoRaces lines
-
--- Of all lines some come before those that are left. None of them is `race`, and they make this of the play that there was, or of none.
+-- Of all lines some come before those that are left, and these are done.
 pub record SetsUp (from to : Option ReplayState) (all left : Left) : Type 0 where
   pub before : List (List ℕ)
   pub lines : all.lines ≡ before ++ left.lines
-  pub none : AreNoRaces before
-  pub made : after_all from before ≡ to
+  pub done : AreDone from before to

@@ -1,9 +1,12 @@
 //! A whole file of a race.
 
-ghost use Rattle.std.specs.Prelude.{◌≡◌, IfOk, Ok};
+ghost use Rattle.std.specs.Prelude.{◌≡◌, ◌<◌, ◌⊎◌, ℕ, IfErr, IfOk, None, Ok, OnOk};
 ghost use Rattle.gate_core.specs.Drivers.{CoreShows};
+ghost use Rattle.gate_core.specs.Moves.{phase_in};
+ghost use Rattle.race_files.specs.FirstFaults.{FailsFromRace, IsFaultTold, IsFirstFault, IsMemory};
 ghost use Rattle.race_files.specs.Left.{behind, calls_left, left_in, lines_in};
-ghost use Rattle.race_files.specs.Races.{IsRaceIn};
+ghost use Rattle.race_files.specs.Races.{AllAreIdle, IsRaceIn, IsRecent};
+ghost use Rattle.race_files.specs.declared.faults.RaceFault.TheVariants.{UnderWay};
 ghost use Rattle.transcripts.specs.Sessions.{ShowsPlay};
 ghost use Rattle.transcripts.specs.Transcript.{ReplayState};
 
@@ -32,7 +35,11 @@ impl RaceFile {
         lines: &mut Lines<'_>,
     ) -> Result<RaceFile, RaceFault>
         ensures core { (p : ReplayState) → ShowsPlay CoreShows session.now p → IfOk result (λ file. CoreShows file.core p.config p.world) }
+        ensures idle { (p : ReplayState) → ShowsPlay CoreShows session.now p → OnOk result (AllAreIdle p) }
         ensures calls { IfOk result (λ file. calls_left file.core.config.tasks (behind (left_in lines.old)) ≡ Ok file.calls.race.calls.items) }
+        ensures recent { (p : ReplayState) → ShowsPlay CoreShows session.now p → IfOk result (λ file. IsRecent file.core) }
+        ensures fault { (p : ReplayState) → ShowsPlay CoreShows session.now p →
+            IfErr result (λ fault. FailsFromRace p (left_in lines.old) fault ⊎ IsMemory fault) }
     {
         expect_idle(session.gates())?;
         let core = session.gates().twin().map_err(no_memory)?;
@@ -43,7 +50,11 @@ impl RaceFile {
 }
 
 /// That no task is under way.
-fn expect_idle(core: &Core) -> Result<(), RaceFault> {
+fn expect_idle(core: &Core) -> Result<(), RaceFault>
+    ensures idle { OnOk result ((t : ℕ) → t < core.now.config.tasks → phase_in core.now t ≡ None) }
+    ensures busy { IfErr result (λ _. ((t : ℕ) → t < core.now.config.tasks → phase_in core.now t ≡ None) → ⊥) }
+    ensures fault { IfErr result (λ fault. fault ≡ UnderWay) }
+{
     for task in 0..core.config().tasks {
         if core.is_under_way(task) {
             return Err(RaceFault::UnderWay);
@@ -52,16 +63,27 @@ fn expect_idle(core: &Core) -> Result<(), RaceFault> {
     Ok(())
 }
 
-/// Reads a race, which begins on the core that the lines before the first line `race` make of the opening; its fault is the first.
+/// Reads a race, which begins on the core that the lines before the first line `race` make of the opening.
+///
+/// # Errors
+///
+/// The first fault of the text, with its line, or that memory was refused.
 pub fn read_race(alloc: Global, bytes: &[u8]) -> Result<RaceFile, ReplayFault>
-    ensures { IfOk result (λ file. IsRaceIn (lines_in 1048576 bytes.now) file.core file.calls.race.calls.items) }
+    ensures race { IfOk result (λ file. IsRaceIn (lines_in 1048576 bytes.now) file.core file.calls.race.calls.items) }
+    ensures recent { IfOk result (λ file. IsRecent file.core) }
+    ensures fault { IfErr result (IsFaultTold (lines_in 1048576 bytes.now)) }
 {
     let mut lines = Lines::new(bytes);
-    read_lines(alloc, &mut lines).map_err(|fault| lines.fault(fault))
+    match read_lines(alloc, &mut lines) {
+        Ok(file) => Ok(file),
+        Err(fault) => Err(lines.fault(fault)),
+    }
 }
 
 fn read_lines(alloc: Global, lines: &mut Lines<'_>) -> Result<RaceFile, RaceFault>
-    ensures { IfOk result (λ file. IsRaceIn (left_in lines.old) file.core file.calls.race.calls.items) }
+    ensures race { IfOk result (λ file. IsRaceIn (left_in lines.old) file.core file.calls.race.calls.items) }
+    ensures recent { IfOk result (λ file. IsRecent file.core) }
+    ensures fault { IfErr result (λ fault. IsFirstFault (left_in lines.old) fault ⊎ IsMemory fault) }
 {
     let session = set_up(alloc, lines)?;
     RaceFile::read(alloc, &session, lines)

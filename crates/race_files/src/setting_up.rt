@@ -1,7 +1,8 @@
 //! What comes before a race.
 
-ghost use Rattle.std.specs.Prelude.{IfOk, None, OnOk, Some};
+ghost use Rattle.std.specs.Prelude.{◌⊎◌, IfErr, IfOk, None, OnOk, Some};
 ghost use Rattle.gate_core.specs.Drivers.{CoreShows};
+ghost use Rattle.race_files.specs.FirstFaults.{FailsBeforeRace, IsMemory};
 ghost use Rattle.race_files.specs.Left.{AreLeftOf, BeginRace, left_in};
 ghost use Rattle.race_files.specs.SettingUp.{SetsUp};
 ghost use Rattle.transcripts.specs.Sessions.{ShowsPlay};
@@ -35,6 +36,7 @@ impl SetUpObserver for Unobserved {
 pub fn set_up(alloc: Global, lines: &mut Lines<'_>) -> Result<Session<Core>, RaceFault>
     ensures begin { IfOk result (λ _. BeginRace (left_in lines.old) (left_in lines.new)) }
     ensures made { IfOk result (λ session. (p : ReplayState) × SetsUp None (Some p) (left_in lines.old) (left_in lines.new) × ShowsPlay CoreShows session p) }
+    ensures fault { IfErr result (λ fault. FailsBeforeRace None (left_in lines.old) fault ⊎ IsMemory fault) }
 {
     do_setting(alloc, lines, &mut Output::new(alloc), &mut Unobserved)
 }
@@ -48,6 +50,7 @@ pub fn do_setting<W: SetUpObserver>(
 ) -> Result<Session<Core>, RaceFault>
     ensures begin { IfOk result (λ _. BeginRace (left_in lines.old) (left_in lines.new)) }
     ensures made { IfOk result (λ session. (p : ReplayState) × SetsUp None (Some p) (left_in lines.old) (left_in lines.new) × ShowsPlay CoreShows session p) }
+    ensures fault { IfErr result (λ fault. FailsBeforeRace None (left_in lines.old) fault ⊎ IsMemory fault) }
 {
     let mut session = open(alloc, lines)?;
     let done = do_lines(&mut session, lines, printed, watch);
@@ -58,6 +61,7 @@ pub fn do_setting<W: SetUpObserver>(
 fn open(alloc: Global, lines: &mut Lines<'_>) -> Result<Session<Core>, RaceFault>
     ensures left { IfOk result (λ _. AreLeftOf (left_in lines.old) (left_in lines.new)) }
     ensures made { IfOk result (λ session. (p : ReplayState) × SetsUp None (Some p) (left_in lines.old) (left_in lines.new) × ShowsPlay CoreShows session p) }
+    ensures fault { IfErr result (λ fault. FailsBeforeRace None (left_in lines.old) fault ⊎ IsMemory fault) }
 {
     while let Some(line) = lines.line()? {
         if let Line::Config(config) = parse(line, None)? {
@@ -80,6 +84,8 @@ fn do_lines<W: SetUpObserver>(
     ensures begin { IfOk result (λ _. BeginRace (left_in lines.old) (left_in lines.new)) }
     ensures made { (p : ReplayState) → ShowsPlay CoreShows session.old p → OnOk result (
         (q : ReplayState) × SetsUp (Some p) (Some q) (left_in lines.old) (left_in lines.new) × ShowsPlay CoreShows session.new q) }
+    ensures fault { (p : ReplayState) → ShowsPlay CoreShows session.old p →
+        IfErr result (λ fault. FailsBeforeRace (Some p) (left_in lines.old) fault ⊎ IsMemory fault) }
 {
     while let Some(line) = lines.line()? {
         if is_race(line)? {

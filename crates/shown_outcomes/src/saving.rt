@@ -7,7 +7,7 @@ ghost use Rattle.outcome_texts.specs.Methods.{next_by};
 
 use crate::executions::{execution_of, movers_of};
 use access_model::GateError;
-use exit_status::{ProgramEnding, refused_of, unopened};
+use exit_status::{ProgramEnding, refused_of, unopened, why_told_of, write_file};
 use outcome_texts::{Outcome, OutcomeListing, runs_for};
 use race_files::RaceSource;
 use schedule_text::Output;
@@ -17,8 +17,11 @@ use std::fs;
 use std::io::Write;
 use std::rt::Files;
 
+/// What is said of the file behind the last one.
+const OLDER: &str = "it was there before, has no outcome of this list, and stays";
+
 /// Writes a schedule of each outcome to a file in a folder: `1.schedule` and so on, in the order in which they are listed. Each has the set-up,
-/// a comment with the outcome, and an execution that ends in it.
+/// a comment with the outcome, and an execution that ends in it. What else is in the folder stays: a file of the next number is told.
 ///
 /// # Errors
 ///
@@ -46,7 +49,7 @@ pub fn save_outcomes<R: Files + Alloc<A = Global>, E: Write>(
         let file = movers_of(source, listing, &runs, outcome.end)
             .and_then(|movers| file_of(source, outcome, movers.as_slice(), style))
             .map_err(|_| refused_of(GateError::NoMemory, Some(folder), errors))?;
-        write_file(
+        save_file(
             rt,
             source.alloc,
             (folder, number),
@@ -55,11 +58,11 @@ pub fn save_outcomes<R: Files + Alloc<A = Global>, E: Write>(
         )?;
         number = number.saturating_add(1);
     }
-    Ok(())
+    tell_older(rt, source.alloc, (folder, number), errors)
 }
 
 /// Writes the file of this number in a folder.
-fn write_file<R: Files, E: Write>(
+fn save_file<R: Files + Alloc<A = Global>, E: Write>(
     rt: &R,
     alloc: Global,
     place: (&str, u64),
@@ -68,17 +71,44 @@ fn write_file<R: Files, E: Write>(
 ) -> Result<(), ProgramEnding>
     ensures { IfErr result (λ ending. ending ≡ Refused) }
 {
-    let (folder, number) = place;
-    let name = format!(in alloc; "{folder}/{number}.schedule").map_err(|_| refused_of(
-        GateError::NoMemory,
-        Some(folder),
-        errors,
-    ))?;
-    fs::write(rt, name.as_str(), bytes).map_err(|error| unopened(
+    let name = name_of(alloc, place, errors)?;
+    write_file(rt, name.as_str(), bytes).map_err(|error| unopened(
         Some(name.as_str()),
         &error,
         errors,
     ))
+}
+
+/// Returns the name of the file of this number in a folder.
+fn name_of<E: Write>(
+    alloc: Global,
+    place: (&str, u64),
+    errors: &mut E,
+) -> Result<String, ProgramEnding>
+    ensures { IfErr result (λ ending. ending ≡ Refused) }
+{
+    let (folder, number) = place;
+    format!(in alloc; "{folder}/{number}.schedule").map_err(|_| refused_of(
+        GateError::NoMemory,
+        Some(folder),
+        errors,
+    ))
+}
+
+/// Tells of the file of this number in a folder, if there is one, that it has no outcome of this list.
+fn tell_older<R: Files, E: Write>(
+    rt: &R,
+    alloc: Global,
+    place: (&str, u64),
+    errors: &mut E,
+) -> Result<(), ProgramEnding>
+    ensures { IfErr result (λ ending. ending ≡ Refused) }
+{
+    let name = name_of(alloc, place, errors)?;
+    if fs::symlink_metadata(rt, name.as_str()).is_ok() {
+        why_told_of(OLDER, Some(name.as_str()), errors);
+    }
+    Ok(())
 }
 
 /// Returns the lines of the file of an outcome, to which these moves lead.

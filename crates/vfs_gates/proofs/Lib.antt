@@ -14,11 +14,12 @@ pub mod Seeing
 pub mod Taking
 pub mod Timing
 pub mod Holding
-pub mod FrozenUntilThawed
 pub mod Returning
 pub mod Resting
 pub mod Reopening
 pub mod Rounds
 pub mod CallingBack
 pub mod AtOnce
+pub mod several_tasks
+pub mod call_laws
 pub use Rattle.gate_steps.proofs.call_events.Grown

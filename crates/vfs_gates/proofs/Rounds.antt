@@ -5,22 +5,25 @@ use Rattle.std.proofs.lemmas.Bool.{and_parts, eq-eqb, ltb-true}
 use Rattle.std.specs.Prelude.{Option, Some, None, Result, Ok, nat_lt}
 pub use Rattle.atomic_table.specs.Seated.{TableId}
 use Rattle.access_model.specs.declared.replies.{Reply.Reply}
-use Rattle.gate_world.specs.declared.operations.Op.TheVariants.{Want, DropMount}
+use Rattle.gate_world.specs.declared.operations.Op.TheVariants.{Want, DropMount, DropWrite, WantWrite}
 pub use Rattle.gate_steps.specs.Rules.{first_known}
 use Rattle.gate_steps.specs.{call_events.Runs.{ran_items, told_as, unit_of}, Seating.{DealtNumbers, HaveViews, kept_of, times}}
 pub use Rattle.gate_steps.proofs.call_events.Dealing.{times-append}
-use Rattle.gate_world.specs.declared.views.{Traced.Traced, View.View}
+use Rattle.gate_world.specs.{Views.held_of, declared.views.{Traced.Traced, View.View}}
 pub use Rattle.gate_world.specs.Configs.{IsWithin}
 pub use Rattle.gate_world.specs.declared.config.Config.{Config}
-use Rattle.vfs_gates.specs.{Held.{own_actions, IsGivenBack, takes_nothing}, Ended.{EndedWith}}
+use Rattle.vfs_gates.specs.{Held.{own_actions, IsAsBefore, IsGivenBack, takes_nothing}, Ended.{EndedWith}}
 use Rattle.gate_world.specs.declared.entries.Entry.{Entry}
 pub use Rattle.vfs_gates.specs.Rounds.{GateError, Mount, Op, ChangeMount, Performs, Rests, SeatedTask, IsFrom, ComesAfter, Did, Ended, Granted, refused, round}
 use Rattle.access_model.specs.declared.actions.Gate.{Gate}
 use Rattle.vfs_gates.specs.{Rounds.{granted_in}, Parts.{SplitOf}, TaskStates.{own_number, own_view, refusal_at, spare_of, Empty}}
 pub use Rattle.vfs_gates.specs.TaskStates.{task_state}
+use Rattle.gate_steps.specs.call_events.Grown.{StaySeen}
+use Rattle.gate_steps.proofs.call_events.Grown.{call_stays_seen, same_stays_seen}
+use Rattle.vfs_gates.specs.{Meetings.{SawList}, declared.gates.Gates.{Gates}}
 use Rattle.vfs_gates.proofs.{Holding.{keeps, rests_on}, Reopening.{Opens, opens}}
 use Rattle.vfs_gates.proofs.Resting.{first_ends, second_ends, change_begins, split_done_nothing}
-use Rattle.vfs_gates.proofs.{Returning.{may, was_done, dropped}, Timing.{comes_after}}
+use Rattle.vfs_gates.proofs.{Returning.{done_idle, may, was_done, dropped, written_back}, Timing.{comes_after}, several_tasks.Told.{own_list}}
 
 -- a call that takes nothing leaves a task at rest
 pub rests_after : {op : Op} {old left : SeatedTask} {outcome : Result (Unit {0}) GateError} → takes_nothing op ≡ true → Rests old →
@@ -94,6 +97,22 @@ pub spare_stays_on : {one two : Op} {old there left : SeatedTask} {answer outcom
     Performs one old there answer → Performs two there left outcome → spare_of left.items ≡ spare_of old.items
 spare_stays_on first second = spare_stays second ∙ spare_stays first
 
+-- nor another own number
+ran_own : (c : Config) (op : Op) (trace : List Traced) (l : DealtNumbers) → own_number (ran_items c op trace l) ≡ own_number l
+ran_own c op trace [] = refl
+ran_own c op trace (x ∷ xs) = refl
+
+own_at : (op : Op) (old left : SeatedTask) (outcome : Result (Unit {0}) GateError) → Performs op old left outcome →
+    (o : Option GateError) → refusal_at op old ≡ o → own_number left.items ≡ own_number old.items
+own_at op old left outcome call None at =
+    let called = (call.done at).2 in
+    ap (λ (s : SeatedTask). own_number s.items) called.after ∙ ran_own old.config op called.trace old.items
+own_at op old left outcome call (Some refusal) at = ap (λ (s : SeatedTask). own_number s.items) (call.refused refusal at).1
+
+pub own_stays : {op : Op} {old left : SeatedTask} {outcome : Result (Unit {0}) GateError} → Performs op old left outcome →
+    own_number left.items ≡ own_number old.items
+own_stays {op = op} {old = old} {left = left} {outcome = outcome} call = own_at op old left outcome call (refusal_at op old) refl
+
 -- Nor does it take or give a number.
 ran_times : (n : ℕ) (c : Config) (op : Op) (trace : List Traced) (l : DealtNumbers) → times n (ran_items c op trace l) ≡ times n l
 ran_times n c op trace [] = refl
@@ -146,13 +165,37 @@ granted_alone {opening = opening} {id = id} {old = old} {f = f} {g = g} {s = s} 
     ap (λ (v : View). granted_in gate v.actions) (ap own_view items ∙ sym (own_same first.items other.items there)) ∙
     (granted ∙ (ap (λ l. n + granted_in gate l) none ∙ add-zero n))
 
+-- Who has a number has numbers, and the first of two lists has the own one.
+pub some_items : (n : ℕ) (items : DealtNumbers) → 1 ≤ times n items → 1 ≤ length items
+some_items n [] some = absurd (omega (arith, some))
+some_items n (x ∷ xs) some = omega arith
+
+pub own_number_same : (l m : DealtNumbers) → 1 ≤ length l → own_number (l ++ m) ≡ own_number l
+own_number_same [] m there = absurd (omega arith)
+own_number_same (x ∷ xs) m there = refl
+
+-- A task's own number ends as the task knew it, and so does that of a task that was joined to it.
+own_ends : (views : ℕ → View) (items : DealtNumbers) → 1 ≤ length items → HaveViews views items → views (own_number items) ≡ own_view items
+own_ends views [] there have = absurd (omega arith)
+own_ends views (x ∷ xs) there have = have 0 x refl
+
+pub last_ends : {c : Config} {ws : List ℕ} {items : DealtNumbers} {seen : List (List Entry)} (e : EndedWith c ws items seen) → 1 ≤ length items →
+    e.ended.world.views (own_number items) ≡ own_view items
+last_ends {items = items} e there = own_ends e.ended.world.views items there e.mine
+
+pub handed_ends : {c : Config} {ws : List ℕ} {items : DealtNumbers} {seen : List (List Entry)} (t both : SeatedTask) (e : EndedWith c ws items seen) →
+    spare_of items ≡ spare_of (t.items ++ both.items) → 1 ≤ length t.items → 1 ≤ length both.items →
+    e.ended.world.views (own_number both.items) ≡ own_view both.items
+handed_ends {items = items} t both e same there some =
+    own_ends e.ended.world.views both.items some (have_spare e.ended.world.views items t.items both.items same there e.mine)
+
 -- The same of two tasks that were joined to a third, which was split off behind them, and called then itself.
 pub handed_did : {c : Config} {ws : List ℕ} {items : DealtNumbers} {seen : List (List Entry)} {one two : ℕ} {opening : Config} {id : TableId}
     {old f g s t : SeatedTask} (F S : SeatedTask → SeatedTask → Type 0) (first second both : SeatedTask) →
     old ≡ task_state id opening None None (first_known opening) → SplitOf old f s → SplitOf f g t → (e : EndedWith c ws items seen) →
     spare_of items ≡ spare_of (t.items ++ both.items) → both.items ≡ first.items ++ second.items → 1 ≤ length t.items →
     one ≡ own_number first.items → 1 ≤ length first.items → two ≡ own_number second.items → 1 ≤ length second.items → F g first → S s second →
-    (ended : Ended c ws) × Did (ended.world.views one) F × Did (ended.world.views two) S
+    Did (e.ended.world.views one) F × Did (e.ended.world.views two) S
 handed_did {items = items} {opening = opening} {id = id} {old = old} {f = f} {g = g} {s = s} {t = t} F S first second both is made more e same
     joined there own own_there two_own two_there did did_too =
     let nothing = split_done_nothing opening id old f s is made in
@@ -161,7 +204,6 @@ handed_did {items = items} {opening = opening} {id = id} {old = old} {f = f} {g 
     subst (HaveViews views) joined (have_spare views items t.items both.items same there e.mine) in
     let none : own_actions g ≡ [] =
     ap own_actions more.kept ∙ (ap (λ (v : View). v.actions) (kept_same more.number f.items) ∙ nothing.0) in (
-      e.ended,
       record {
         begins = g;
         ends = first;
@@ -177,3 +219,40 @@ handed_did {items = items} {opening = opening} {id = id} {old = old} {f = f} {g 
         last = ap views two_own ∙ second_ends views first.items second.items two_there mine;
       },
     )
+
+-- A task is of its gates after a call, and after a meeting.
+pub from_after : (g : Gates) {op : Op} {old left : SeatedTask} {outcome : Result (Unit {0}) GateError} → Performs op old left outcome →
+    IsFrom old g → IsFrom left g
+from_after g call from = (call.table ∙ from.0, call.config ∙ from.1)
+
+pub from_met : (g : Gates) (s t : SeatedTask) (seen : List (List Entry)) → t ≡ record s { seen = seen } → IsFrom s g → IsFrom t g
+from_met g s t seen is from = (ap (λ (x : SeatedTask). x.table) is ∙ from.0, ap (λ (x : SeatedTask). x.config) is ∙ from.1)
+
+-- A task at rest that was granted write access, met another, and gives it back, rests again.
+pub rests_written : {m p : ℕ} {old there mid left : SeatedTask} {outcome : Result (Unit {0}) GateError} (seen : List (List Entry)) → Rests old →
+    Performs (WantWrite m p) old there (Ok tt) → mid ≡ record there { seen = seen } → Performs (DropWrite m p) mid left outcome →
+    (outcome ≡ Ok tt) × Rests left
+rests_written {m = m} {p = p} {old = old} {there = there} {mid = mid} {left = left} {outcome = outcome} seen rests took met gives =
+    let same : IsAsBefore there mid = record {
+      table = ap (λ (s : SeatedTask). s.table) met;
+      config = ap (λ (s : SeatedTask). s.config) met;
+      own = ap (λ (s : SeatedTask). own_number s.items) met;
+      idle = ap (λ (s : SeatedTask). s.phase) met ∙ done_idle (WantWrite m p) old there took;
+      held = ap (λ (s : SeatedTask). held_of (own_view s.items)) met;
+    } in
+    let given = written_back m p old there mid left outcome took same gives in (given.0, rests_on old left rests given.1)
+
+-- What a task had seen it has seen after a call, and its own list after one that was done.
+seen_by : (op : Op) (old left : SeatedTask) (outcome : Result (Unit {0}) GateError) → Performs op old left outcome → (o : Option GateError) →
+    refusal_at op old ≡ o → StaySeen old.seen left.seen
+seen_by op old left outcome call None at = let done = call.done at in call_stays_seen op old left done.0 done.2
+seen_by op old left outcome call (Some refusal) at =
+    subst (StaySeen old.seen) (sym (ap (λ (s : SeatedTask). s.seen) (call.refused refusal at).1)) (same_stays_seen old.seen)
+
+pub seen_after : {op : Op} {old left : SeatedTask} {outcome : Result (Unit {0}) GateError} → Performs op old left outcome →
+    StaySeen old.seen left.seen
+seen_after {op = op} {old = old} {left = left} {outcome = outcome} call = seen_by op old left outcome call (refusal_at op old) refl
+
+pub own_seen : {op : Op} {old left : SeatedTask} → Performs op old left (Ok tt) →
+    SawList left.config (own_number left.items) (own_actions left) left.seen
+own_seen {op = op} {old = old} {left = left} call = let was = was_done op old left call in own_list op old left (Ok was.reply) was.called

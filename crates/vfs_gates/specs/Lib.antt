@@ -23,6 +23,9 @@ pub mod Pairs
 pub mod Settled
 pub mod Taken
 pub mod Handed
+pub mod FoundSo
+pub mod Blockers
+pub mod Meetings
 pub mod Rounds
 pub mod AtOnce
 pub use Rattle.gate_steps.specs.call_events.Runs

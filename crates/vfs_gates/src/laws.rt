@@ -22,6 +22,8 @@ ghost use Rattle.vfs_gates.specs.Seen.{HasTaken, IsOfAMoment};
 ghost use Rattle.gate_world.specs.declared.operations.Op.TheVariants.{ChangeMount, DropMount, Snapshot as SnapshotOp, Want};
 
 pub mod in_time;
+pub mod one_world;
+pub mod progress;
 
 /// After a whole call, the last snapshot of its task is of a moment of the one history that the call leaves. Does nothing: its contract
 /// is the law.

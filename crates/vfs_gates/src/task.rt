@@ -29,7 +29,8 @@ use std::marker::Model;
 /// when it runs. Each call goes on from what its task has seen (`laws::in_time`).
 ///
 /// A task that is dropped takes its numbers with it, so that `Gates::close` is refused as `Order` from then on, and what it has left in
-/// the words stays there for good. At rest that is nothing more, and the gates work on. No refusal tells others of it; they meet:
+/// the words stays there for good (`progress_laws::what_a_lost_task_leaves_stays`). At rest that is nothing more, and the gates work on. No refusal
+/// tells others of it; they meet what follows, and who waits for it waits for ever (`progress_laws::who_meets_it_never_replies`):
 ///
 /// - an access at a mount, or a want past its addition: each change of that mount to read-only, and each remount to read-only, is `Busy`;
 /// - an open file: once it is removed, each remount to read-only is `Busy`, and its node and its blocks aren't given back;

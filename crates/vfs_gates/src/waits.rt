@@ -9,8 +9,7 @@ use crate::calls::outcome;
 use crate::gates::Gates;
 use crate::task::Task;
 use access_model::{GateError, Holder, Reply};
-use call_ends::{Waiting, wait_for_reply};
-use crossbeam_utils::Backoff;
+use call_ends::{Backoff, Waiting, wait_for_reply};
 use fast_paths::FastPath;
 use gate_steps::call_events::{Progress, TimedHooks};
 use gate_world::Op;
@@ -39,9 +38,8 @@ impl Task {
     ghost use Rattle.gate_steps.specs.call_events.Asking.{PerformsAsking, RepliesAsking};
 
     /// Does the events of the operation that has begun and asks no hook until it replies, however long it has to wait. After an event that
-    /// found what the operation waits for it pauses, and the longer the more often one did: soon the processor is left to others each time,
-    /// since who is waited for may need it. A wait may take several events before it looks again, so none of these makes the pauses short
-    /// again.
+    /// found what the operation waits for it pauses, and the longer the more often one did (`Backoff`). A wait may take several events before
+    /// it looks again, so none of these makes the pauses short again.
     #[cold]
     #[inline(never)]
     pub(crate) fn finish_waiting<R: Wait>(
@@ -52,14 +50,14 @@ impl Task {
         requires { IsFrom self.old gates.now }
         ensures { (op : OpType) (start : SeatedTask) → OpUnderWay op start self.old → Called op start self.new result }
     {
-        let backoff = Backoff::new();
+        let mut backoff = Backoff::new();
         for _ in rt.forever() {
             let step = self.step(gates, Ok(()));
             if let Progress::Done(answer) = step.progress {
                 return answer;
             }
             if let Progress::Waiting = step.progress {
-                backoff.snooze();
+                backoff.snooze(rt);
             }
         }
         unreachable!()

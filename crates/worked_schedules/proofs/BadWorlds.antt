@@ -1,14 +1,16 @@
 -- Worlds and refusals that no schedule has, of which a clause says so: a wrong order of events, or a weaker rule, would have them.
-use Rattle.std.{proofs.Common.{ℕ, zero, suc, ◌+◌, ◌≤◌, true, refl, arith, sym, true≢false}, specs.Prelude.{Some, Ok, [], ◌∷◌}}
+use Rattle.std.{proofs.Common.{◌≡◌, ℕ, zero, suc, ◌+◌, ◌%◌, ◌≤◌, true, refl, arith, sym, true≢false}, specs.Prelude.{Some, Ok, [], ◌∷◌}}
 use Rattle.finite_sums.specs.Sums.{total}
 use Rattle.access_model.specs.declared.{actions.Holder.Holder, errors.GateError.GateError, replies.Reply.Reply}
 use Rattle.cpu_words.specs.{Sums.{lead}, gate_counts.{Gates.{admitted, unread}, Levels.{level_as_gate}}}
 use Rattle.gated_tree.specs.declared.{phases.TreePhase.TreePhase, snapshots.SnapshotStep.SnapshotStep}
-use Rattle.mount_counts.specs.declared.phases.{Change.Change, MountPhase.MountPhase}
+use Rattle.mount_counts.specs.Roles.{counted}
+use Rattle.mount_counts.specs.declared.phases.{Change.Change, ChangeStep.ChangeStep, MountPhase.MountPhase, WantStep.WantStep}
 use Rattle.percpu_rwsem.specs.declared.{readers.DownReadStep.DownReadStep, writers.DownWriteStep.DownWriteStep}
 use Rattle.freeze_levels.specs.declared.freezes.FreezeStep.{FreezeStep}
-use Rattle.gate_world.specs.{refusals.Causes.HasCause, Headline.{LevelsLead, SnapshotsStand}, Levels.at_level, Views.opening_view, Worlds.{World, opening}}
+use Rattle.gate_world.specs.{refusals.Causes.HasCause, Headline.{LevelsLead, SnapshotsStand}, Levels.at_level, Rules.at_mount, Views.opening_view, Worlds.{World, opening}}
 use Rattle.gate_world.specs.declared.{views.View.View, work.Phase.Phase}
+use Rattle.gate_schedules.specs.Leads.{MountsLead}
 use Rattle.worked_schedules.specs.Schedules.{small}
 
 -- a task of which nothing is known but what it is at
@@ -45,6 +47,35 @@ fast_leads = omega arith
 -- but less than what is admitted
 fast_never : LevelsLead small fast → ⊥
 fast_never h = omega (arith, (h 0 1 0 0 (omega arith) (omega arith) (omega arith) refl).1)
+
+-- one for each access that the first processor counts
+abbrev first_word : ℕ → ℕ
+first_word zero = 1
+first_word (suc p) = 0
+
+-- a change that has read the first of two words, which was 0, while a want that has added to it since has found HOLD clear
+abbrev late : World
+late = record {
+  words = record opening.words { flags = λ m. 2; count = λ m. first_word };
+  views = views_of
+      (at_phase (Phase.Mounts (MountPhase.Change record {
+        mount = 0;
+        read_only = true;
+        wait = true;
+        task = 0;
+        processors = 2;
+        step = ChangeStep.Sums record { words = 1; total = 0 };
+      })))
+      (at_phase (Phase.Mounts (MountPhase.Want record { mount = 0; cpu = 0; wait = true; step = WantStep.LoadsRemount })));
+}
+
+-- its words sum to what is held and sought
+late_sums : total 2 (late.words.count 0) % 18446744073709551616 ≡ total 3 (λ x. counted (at_mount 0 (late.views x)))
+late_sums = refl
+
+-- but its lead is less than what is admitted
+late_never : MountsLead small late → ⊥
+late_never h = omega (arith, (h 0 0 1 0 (omega arith) (omega arith) refl).1)
 
 -- a snapshot that has loaded its last word, and not given `umount` back, of a file system that is thawed
 abbrev thawed : World

@@ -1,20 +1,21 @@
 -- What holds of every schedule from the opening on.
-use Rattle.std.{proofs.Common.{◌≡◌, ℕ, refl, sym, subst, ◌∙◌, ap, ◌<◌}, specs.Prelude.{Option, Some, None, Err, List, [], ◌∷◌, ◌++◌, false, true}}
-use Rattle.access_model.proofs.{Closed.closed, Frozen.frozen_still}
-use Rattle.access_model.specs.{Histories.{Done, end_of, IsLegal}, Holders.held_by, Laws.{IsFrozenStill, NobodyHoldsClosed}, States.State}
+use Rattle.std.{proofs.Common.{◌≡◌, ℕ, refl, sym, subst, ◌∙◌, ap, ◌<◌, inl, inr, arith}, specs.Prelude.{Option, Some, None, Err, List, [], ◌∷◌, ◌++◌, false, true}}
+use Rattle.access_model.proofs.{Closed.closed, Frozen.{frozen_shut, frozen_still}}
+use Rattle.access_model.specs.{Histories.{Done, end_of, IsLegal}, Holders.held_by, Laws.{FrozenIsShut, IsFrozenStill, NobodyHoldsClosed}, States.State}
 use Rattle.access_model.specs.declared.{actions.{Action.Action}, errors.GateError.GateError, replies.Next.Next}
 use Rattle.cpu_words.specs.Hooks.{HookAnswer}
 use Rattle.gate_world.specs.{refusals.Causes.{since_begun, HasCause, RefusalsHaveCauses, trail_of}, Configs.{IsWithin, model_limits}}
 use Rattle.gate_world.specs.traces.TraceStates.{state_of_trace, IsTraced, FollowsOrder, AllTraced}
 use Rattle.gate_world.specs.Headline.{world_after, actions_so_far, MovesTheModel, IsOneRun, NobodyIsInside, SumsHold, IdleSumsHold, NothingIsLeft}
-use Rattle.gate_world.specs.Headline.{FreezeIsUnderWay, HoldersAreTold, FrozenTreeIsWhole, FrozenTreeStays, SnapshotsStand, ViewTells, OperationsAreKept, LevelsLead}
+use Rattle.gate_world.specs.Headline.{FreezeIsUnderWay, HoldersAreTold, FrozenTreeIsWhole, FrozenTreeStays, SnapshotsStand, ViewTells, OperationsAreKept}
 use Rattle.gate_world.specs.{Holdings.holdings_of, refusals.KeptCauses.CauseOf, Rules.IsGood, Shown.shown, traces.Traces.{Tells, actions_of}, Views.HoldsAsBefore}
 use Rattle.gate_world.specs.{refusals.Waits.{HasReason, EachWaitHasCulprit, HasCulpritAmong}, Work.after_of, Worlds.{World, opening, happens, run, history, found_at}}
 use Rattle.gate_world.specs.declared.entries.Entry.{Entry}
 use Rattle.gate_world.specs.declared.{config.Config.Config, operations.Op.Op, views.{Traced.Traced, View.View}, work.Phase.Phase}
+use Rattle.gate_schedules.specs.{Frozen.{FrozenIsClosed}, Leads.{SumsLead}}
 use Rattle.gate_schedules.proofs.{frames.ValidWords.events_may_be, operations.AllOperations.{phase_keeps, op_keeps}, schedules.Beginnings.may_begin}
 use Rattle.gate_schedules.proofs.schedules.{BetweenStores.{AllTold, entry_told, opening_told, holders_told}, Entries.{TrailHolds, trail_holds, begun_on}}
-use Rattle.gate_schedules.proofs.schedules.{Leads.levels_lead, Lists.run_lists, Rests.{at_rest, a_freeze_is_under_way}, Runs.history_on}
+use Rattle.gate_schedules.proofs.schedules.{Leads.sums_lead, Lists.run_lists, Rests.{at_rest, a_freeze_is_under_way}, Runs.history_on}
 use Rattle.gate_schedules.proofs.schedules.{Schedule.{opening_good, opening_shown, happens_keeps, run_keeps, gate_sums, idle_sums}, Snapshots.run_moments}
 use Rattle.gate_schedules.proofs.{schedules.SnapshotStability.snapshots_stand, traces.Traced.{opening_traced, entry_keeps}, trees.worlds.Frozen.frozen_whole}
 
@@ -37,6 +38,18 @@ module _ (c : Config) (lim : IsWithin c) where
   whole_nobody es = subst (λ (s : State). NobodyHoldsClosed (model_limits c) s) (whole_run es).end
       (closed (model_limits c) (actions_so_far c es) (whole_run es).legal)
 
+  pub whole_frozen : (es : List Entry) → FrozenIsClosed c (world_after c es)
+  whole_frozen es =
+      let nobody : NobodyIsInside c (world_after c es) = whole_nobody es in
+      let shut : FrozenIsShut (model_limits c) (shown c (world_after c es)) = subst (FrozenIsShut (model_limits c)) (whole_run es).end
+      (frozen_shut (model_limits c) (actions_so_far c es) (whole_run es).legal) in record {
+        shut = shut.shut;
+        empty = λ four. elim (shut.shut four) [
+          | inl all ↦ inl (λ t i lt one three. nobody.levels t i lt one (omega (arith, all, three)))
+          | inr ro ↦ inr (λ t m lt there. nobody.mounts t m lt there (inr ro))
+        ];
+      }
+
   whole_trail : (es : List Entry) → TrailHolds c (λ w good e. (happens_keeps c lim w good e).0) opening [] es
   whole_trail es = trail_holds c (λ w good e. (happens_keeps c lim w good e).0) es opening [] (opening_good c lim) (λ x lx. tt)
 
@@ -46,8 +59,8 @@ module _ (c : Config) (lim : IsWithin c) where
   pub whole_idle : (es : List Entry) → IdleSumsHold c (world_after c es)
   whole_idle es = idle_sums c lim (world_after c es) (whole_rule es)
 
-  pub whole_leads : (es : List Entry) → LevelsLead c (world_after c es)
-  whole_leads es = levels_lead c (world_after c es) (whole_rule es)
+  pub whole_leads : (es : List Entry) → SumsLead c (world_after c es)
+  whole_leads es = sums_lead c (world_after c es) (whole_rule es)
 
   pub whole_rests : (es : List Entry) → NothingIsLeft c (world_after c es)
   whole_rests es = at_rest c (world_after c es) (whole_rule es)

@@ -1,23 +1,24 @@
 -- The hooks that a freeze has asked, by its steps.
 use Rattle.std.proofs.Common.{arith, ◌≡◌, ℕ, zero, suc, true, false, List, [], ◌∷◌, refl, ap, subst, inl, inr}
-use Rattle.std.specs.Prelude.{◌==◌, if◌then◌else◌, Option, Some, None, Ok, Err}
+use Rattle.std.specs.Prelude.{◌==◌, ◌-◌, if◌then◌else◌, Option, Some, None, Ok, Err, Result}
 use Rattle.access_model.specs.declared.{actions.Action.{Action, TheVariants.{Clean}}, replies.Next.{Next, TheVariants.{Go, Wait, Done}}}
+use Rattle.access_model.specs.declared.errors.GateError.{GateError, TheVariants.{Busy, Hook}}
 use Rattle.access_model.specs.{declared.{replies.Reply.{Reply}, actions.Holder.{Holder}}, Replies.{map_next}, Holders.{held_by}}
 use Rattle.cpu_words.specs.{Hooks.{HookAnswer}}
 use Rattle.node_words.specs.{declared.marks.ClearMarks.{ClearMarks}, Nodes.{dirty_in, node_after}, Phases.{clears_at, clear_after}}
 use Rattle.percpu_rwsem.specs.declared.{writers.DownWrite.{DownWrite}}
-use Rattle.percpu_rwsem.specs.declared.writers.{DownWriteStep.{DownWriteStep}, UpWrite.{UpWrite}}
+use Rattle.percpu_rwsem.specs.declared.writers.{DownWriteStep.{DownWriteStep}, UpWrite.{UpWrite}, UpWriteStep.{UpWriteStep, TheVariants.{ClearsBlock, Exits}}}
 use Rattle.percpu_rwsem.specs.Writers.{down_write_after, up_write_after}
 use Rattle.freeze_levels.specs.declared.freezes.{Freeze.{Freeze}, FreezeStep.{FreezeStep}}
 use Rattle.freeze_levels.specs.declared.freezes.FreezeStep.TheVariants.{Locks, LoadsStage, LoadsHolders, Holds, LoadsSuperblock}
 use Rattle.freeze_levels.specs.declared.freezes.FreezeStep.TheVariants.{CompletesReadOnly, SetsWrite, Unlocks, Closes, LocksAgain}
 use Rattle.freeze_levels.specs.declared.freezes.FreezeStep.TheVariants.{SetsPageFault, Cleans, SetsFs, SetsComplete, Reopens, Releases}
 use Rattle.freeze_levels.specs.declared.hooks.HookCall.TheVariants.{Sync as SyncCall, FreezeFs as FreezeCall}
-use Rattle.freeze_levels.specs.Freezes.{freeze_after, at_freeze, after_closing, after_clearing, after_reopening}
+use Rattle.freeze_levels.specs.{Freezes.{freeze_after, at_freeze, after_closing, after_clearing, after_reopening}, Levels.{reopening}}
 use Rattle.freeze_levels.specs.Holders.{holders_in}
 use Rattle.gate_world.specs.declared.{operations.Op.TheVariants.{Freeze as FreezeOp}, work.Phase.{Phase, TheVariants.{Freezes}}}
 use Rattle.gate_world.specs.{traces.Traces.{actions_of}, Views.{actions_after}, Work.{after_of}}
-use Rattle.gate_steps.specs.{Seating.{DealtNumbers}, call_events.Asked.{agreed, OnceAsked, stored_third_stage, AskedByFreeze}}
+use Rattle.gate_steps.specs.{Seating.{DealtNumbers}, call_events.Asked.{agreed, failed, OnceAsked, stored_third_stage, AskedByFreeze, AskedByRefusedFreeze}}
 use Rattle.gate_steps.specs.call_events.{Asking.{Ask, asks_with, asks_of, call_at}, Runs.{Called}, SeatedTasks.{SeatedTask}}
 use Rattle.gate_steps.proofs.call_events.Asked.{either_way, asked_after}
 
@@ -40,9 +41,9 @@ abbrev AtStep : FreezeStep → List Action → List Ask → Type 0
 AtStep (Closes d) added asks = AtLevel d.level added asks
 AtStep SetsComplete added asks = SyncAsked added asks
 AtStep (Holds beside) added asks = AskedByFreeze added asks
-AtStep (Reopens u code) added asks = Unit {0}
+AtStep (Reopens u code) added asks = AskedByRefusedFreeze (Hook code) added asks
 AtStep (Releases (Ok reply)) added asks = AskedByFreeze added asks
-AtStep (Releases (Err refusal)) added asks = Unit {0}
+AtStep (Releases (Err refusal)) added asks = AskedByRefusedFreeze refusal added asks
 AtStep step added asks = NoneAsked added asks
 
 -- what comes next
@@ -50,7 +51,7 @@ abbrev AtNext : Next Freeze → List Action → List Ask → Type 0
 AtNext (Go x) added asks = AtStep x.step added asks
 AtNext (Wait x) added asks = AtStep x.step added asks
 AtNext (Done (Ok reply)) added asks = AskedByFreeze added asks
-AtNext (Done (Err refusal)) added asks = Unit {0}
+AtNext (Done (Err refusal)) added asks = AskedByRefusedFreeze refusal added asks
 
 -- the same of any operation
 abbrev AtPhase : Phase → List Action → List Ask → Type 0
@@ -61,7 +62,7 @@ abbrev At : Next Phase → List Action → List Ask → Type 0
 At (Go phase) added asks = AtPhase phase added asks
 At (Wait phase) added asks = AtPhase phase added asks
 At (Done (Ok reply)) added asks = AskedByFreeze added asks
-At (Done (Err refusal)) added asks = Unit {0}
+At (Done (Err refusal)) added asks = AskedByRefusedFreeze refusal added asks
 
 as_phases : (next : Next Freeze) (added : List Action) (asks : List Ask) → AtNext next added asks → At (map_next Freezes next) added asks
 as_phases next added asks is = grind arith
@@ -92,8 +93,17 @@ clearing_next x marks node added asks is = grind arith
 
 -- the levels are reopened
 reopening_next : (x : Freeze) (level code : ℕ) (next : Next UpWrite) (added : List Action) (asks : List Ask) →
-    AtNext (after_reopening x level code next) added asks
-reopening_next x level code next added asks = grind arith
+    AskedByRefusedFreeze (Hook code) added asks → AtNext (after_reopening x level code next) added asks
+reopening_next x level code (Go u) added asks is = is
+reopening_next x level code (Wait u) added asks is = is
+reopening_next x level code (Done answer) added asks is =
+    either_way (λ step. AtStep step added asks) ((level - 1) == 0) (Releases (Err (Hook code))) (Reopens (reopening (level - 1)) code) is is
+
+reopens_on : (u : UpWrite) (step : UpWriteStep) (found code : ℕ) (added : List Action) (asks : List Ask) →
+    AskedByRefusedFreeze (Hook code) added asks →
+    AskedByRefusedFreeze (Hook code) (actions_after (up_write_after u step found).1 added) asks
+reopens_on u ClearsBlock found code added asks is = is
+reopens_on u (Exits transition) found code added asks is = is
 
 -- one event more
 step_keeps : (x : Freeze) (step : FreezeStep) (found : ℕ) (hook : HookAnswer) (at : DealtNumbers) (added : List Action) (asks : List Ask) →
@@ -103,10 +113,11 @@ step_keeps x Locks found hook at added asks is =
     either_way (λ n. AtNext n added asks) (found == 0) (Go (at_freeze x LoadsStage)) (Wait (at_freeze x Locks)) is is
 step_keeps x LoadsStage found hook at added asks is =
     either_way (λ n. AtNext n added asks) (found == 0) (Go (at_freeze x LoadsSuperblock))
-    (if found == 4 then Go (at_freeze x LoadsHolders) else Go (at_freeze x (Releases (Err _)))) is
-    (either_way (λ n. AtNext n added asks) (found == 4) (Go (at_freeze x LoadsHolders)) (Go (at_freeze x (Releases (Err _)))) is tt)
+    (if found == 4 then Go (at_freeze x LoadsHolders) else Go (at_freeze x (Releases (Err Busy)))) is
+    (either_way (λ n. AtNext n added asks) (found == 4) (Go (at_freeze x LoadsHolders)) (Go (at_freeze x (Releases (Err Busy)))) is is.1)
 step_keeps x LoadsHolders found hook at added asks is =
-    either_way (λ step. AtStep step added asks) (held_by (holders_in found) x.holder) (Releases (Err _)) (Holds (holders_in found)) tt (inr is)
+    either_way (λ step. AtStep step added asks) (held_by (holders_in found) x.holder) (Releases (Err Busy)) (Holds (holders_in found)) is.1
+    (inr is)
 step_keeps x (Holds beside) found hook at added asks is = is
 step_keeps x LoadsSuperblock found hook at added asks is =
     either_way (λ n. AtNext n added asks) (found == 0) (Go (at_freeze x SetsWrite)) (Go (at_freeze x CompletesReadOnly)) is is
@@ -124,11 +135,12 @@ step_keeps x (Cleans marks) found hook at added asks is =
     clearing_next x marks (node_after marks.node marks.nodes) (actions_after (clear_after marks found).1 added) asks
     (either_way (λ a. NoneAsked (actions_after a added) asks) (dirty_in found == 1) (Some (Clean marks.node)) None is is)
 step_keeps x SetsFs found (Ok agrees) at added asks is = (refl, (at, ap (λ l. agreed SyncCall at ∷ l) is.1))
-step_keeps x SetsFs found (Err code) at added asks is = tt
+step_keeps x SetsFs found (Err code) at added asks is = inr (is.0, (at, ap (λ l. failed SyncCall code at ∷ l) is.1))
 step_keeps x SetsComplete found (Ok agrees) at added asks is = inl (is.0, (at, is.1.0, ap (λ l. agreed FreezeCall at ∷ l) is.1.1))
-step_keeps x SetsComplete found (Err code) at added asks is = tt
+step_keeps x SetsComplete found (Err code) at added asks is = inl (is.0, (at, is.1.0, ap (λ l. failed FreezeCall code at ∷ l) is.1.1))
 step_keeps x (Reopens u code) found hook at added asks is =
     reopening_next x u.level code (up_write_after u u.step found).0 (actions_after (up_write_after u u.step found).1 added) asks
+    (reopens_on u u.step found code added asks is)
 step_keeps x (Releases (Ok reply)) found hook at added asks is = is
 step_keeps x (Releases (Err refusal)) found hook at added asks is = is
 
@@ -139,11 +151,22 @@ keeps (Freezes x) found hook at added asks is =
     (asks_with (call_at (Freezes x)) at hook asks) (step_keeps x x.step found hook at added asks is)
 keeps p found hook at added asks is = absurd is
 
--- of a freeze that was granted
-pub granted_freeze : (holder : Holder) (old left : SeatedTask) (reply : Reply) (called : Called (FreezeOp holder) old left (Ok reply)) →
-    AskedByFreeze (actions_of (FreezeOp holder) (Ok reply) called.trace) (asks_of old.config (FreezeOp holder) old.items called.trace)
-granted_freeze holder old left reply called =
-    let op = FreezeOp holder in
-    let is = asked_after At (λ p added asks at. at) keeps old.config op old.items (refl, refl) called.trace in
-    let P : Next Phase × List Action → Type 0 = λ z. At z.0 z.1 (asks_of old.config op old.items called.trace) in
-    subst P (λ i. (called.ends i, called.added i)) is
+module _ (holder : Holder) (old left : SeatedTask) where
+  asked_at : (answer : Result Reply GateError) (called : Called (FreezeOp holder) old left answer) →
+      At (Done answer) (actions_of (FreezeOp holder) answer called.trace) (asks_of old.config (FreezeOp holder) old.items called.trace)
+  asked_at answer called =
+      let op = FreezeOp holder in
+      let is = asked_after At (λ p added asks at. at) keeps old.config op old.items (refl, refl) called.trace in
+      let P : Next Phase × List Action → Type 0 = λ z. At z.0 z.1 (asks_of old.config op old.items called.trace) in
+      subst P (λ i. (called.ends i, called.added i)) is
+
+  -- of a freeze that was granted
+  pub granted_freeze : (reply : Reply) (called : Called (FreezeOp holder) old left (Ok reply)) →
+      AskedByFreeze (actions_of (FreezeOp holder) (Ok reply) called.trace) (asks_of old.config (FreezeOp holder) old.items called.trace)
+  granted_freeze reply called = asked_at (Ok reply) called
+
+  -- and of one that was refused
+  pub refused_freeze : (refusal : GateError) (called : Called (FreezeOp holder) old left (Err refusal)) →
+      AskedByRefusedFreeze refusal (actions_of (FreezeOp holder) (Err refusal) called.trace)
+      (asks_of old.config (FreezeOp holder) old.items called.trace)
+  refused_freeze refusal called = asked_at (Err refusal) called

@@ -6,7 +6,7 @@ use Rattle.gate_steps.specs.{Seating.{knows}, declared.seating.Knowledge.{Knowle
 use Rattle.gate_steps.specs.Seating.{DealtNumbers, OwnNumberMayStep, items_after, HasWitness}
 use Rattle.gate_steps.specs.call_events.{Asking.{Ask, asks_with, call_at, OpUnderWayWith, OpAfterStepWith}, Runs.{OpUnderWay, OpAfterStep}, Stepped.Stepped, Waited.{OpUnderWayWaiting, OpAfterStepWaiting}, SeatedTasks.{SeatedTask, task_state}}
 use Rattle.gate_steps.specs.call_events.{GhostAgrees.GhostAgrees, Turns.{state_at, StateAgrees, step_was}}
-use Rattle.std.proofs.Common.{List, List, ◌≡◌, ℕ, ◌<◌, Bool, [], refl, sym, ap, ◌∙◌, subst, arith}
+use Rattle.std.proofs.Common.{List, List, ◌≡◌, ℕ, ◌<◌, Bool, refl, sym, ap, ◌∙◌, subst, arith}
 use Rattle.std.specs.Prelude.{Option, Some, None}
 use Rattle.access_model.specs.declared.{actions.Action.Action, replies.Next.{Next, TheVariants.{Go, Wait, Done}}}
 use Rattle.cpu_words.specs.{Hooks.HookAnswer, Names.{place, words_in_all}, Touches.event_of, declared.events.{Event.Event}}

@@ -1,6 +1,7 @@
--- What a call that was granted has asked of the file system.
-use Rattle.std.specs.Prelude.{◌≡◌, ◌⊎◌, ◌==◌, ◌||◌, Bool, true, false, Ok, List, [], ◌∷◌}
+-- What a call has asked of the file system that was granted, or refused.
+use Rattle.std.specs.Prelude.{◌≡◌, ◌⊎◌, ℕ, ◌==◌, ◌||◌, Bool, true, false, Ok, Err, List, [], ◌∷◌}
 use Rattle.access_model.specs.declared.actions.Action.{Action, TheVariants.{Stage as StageAction}}
+use Rattle.access_model.specs.declared.errors.GateError.{GateError, TheVariants.{Hook}}
 use Rattle.freeze_levels.specs.declared.hooks.HookCall.{HookCall, TheVariants.{Sync as SyncCall, FreezeFs as FreezeCall}}
 use Rattle.gate_steps.specs.{Seating.{DealtNumbers}, call_events.Asking.{Ask}}
 
@@ -34,3 +35,27 @@ stored_third_stage (action ∷ earlier) = is_third_stage action || stored_third_
 abbrev pub AskedByFreeze : List Action → List Ask → Type 0
 AskedByFreeze added asks =
     ((stored_third_stage added ≡ true) × BothAsked asks) ⊎ ((stored_third_stage added ≡ false) × (asks ≡ []))
+
+-- a hook that was asked at this moment, and has failed with this code
+abbrev pub failed : HookCall → ℕ → DealtNumbers → Ask
+failed call code at = record { call = call; at = at; answer = Err code }
+
+-- this hook was asked once, and has failed with this code
+abbrev pub OnceFailed : HookCall → ℕ → List Ask → Type 0
+OnceFailed call code asks = (at : DealtNumbers) × (asks ≡ failed call code at ∷ [])
+
+-- `sync` was asked once, and has agreed, and then `freeze_fs`, which has failed with this code
+abbrev pub FreezeFailed : ℕ → List Ask → Type 0
+FreezeFailed code asks = (last first : DealtNumbers) × (asks ≡ failed FreezeCall code last ∷ (agreed SyncCall first ∷ []))
+
+-- What a call has asked that was refused, of those that ask one hook: by a hook's code this one, which has failed with it; else none.
+abbrev pub AskedByRefused : HookCall → GateError → List Ask → Type 0
+AskedByRefused call (Hook code) asks = OnceFailed call code asks
+AskedByRefused call refusal asks = asks ≡ []
+
+-- What a freeze has asked that was refused: by a hook's code `freeze_fs` after `sync`, where it has stored stage 3, and else `sync` alone, and the
+-- last one has failed with it; else none.
+abbrev pub AskedByRefusedFreeze : GateError → List Action → List Ask → Type 0
+AskedByRefusedFreeze (Hook code) added asks =
+    ((stored_third_stage added ≡ true) × FreezeFailed code asks) ⊎ ((stored_third_stage added ≡ false) × OnceFailed SyncCall code asks)
+AskedByRefusedFreeze refusal added asks = asks ≡ []

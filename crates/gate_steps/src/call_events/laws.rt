@@ -1,12 +1,12 @@
 //! Laws of the hooks that whole calls ask. The functions here do nothing: their contracts are the laws.
 
-ghost use Rattle.std.specs.Prelude.{Bool, Ok, Result};
+ghost use Rattle.std.specs.Prelude.{Bool, Err, Ok, Result};
 ghost use Rattle.access_model.specs.declared.actions.Holder.{Holder};
 ghost use Rattle.access_model.specs.declared.replies.Reply.{Reply};
 ghost use Rattle.gate_world.specs.declared.operations.Op.TheVariants.{Freeze, RemountSb, Thaw};
 ghost use Rattle.freeze_levels.specs.declared.hooks.HookCall.TheVariants.{UnfreezeFs, Reconfigure};
 ghost use Rattle.gate_world.specs.traces.Traces.{actions_of};
-ghost use Rattle.gate_steps.specs.call_events.Asked.{AskedByFreeze, AtMostAsked};
+ghost use Rattle.gate_steps.specs.call_events.Asked.{AskedByFreeze, AskedByRefused, AskedByRefusedFreeze, AtMostAsked};
 ghost use Rattle.gate_steps.specs.call_events.Asking.{asks_of};
 ghost use Rattle.access_model.specs.declared.errors.GateError.{GateError};
 ghost use Rattle.gate_world.specs.declared.operations.Op.{Op};
@@ -33,6 +33,17 @@ pub fn a_granted_thaw_asks_at_most_once()
 pub fn a_granted_remount_asks_for_its_state()
     ensures { (read_only : Bool) (old left : SeatedTask) (reply : Reply) (called : Called (RemountSb read_only) old left (Ok reply)) →
         AtMostAsked (Reconfigure read_only) (asks_of old.config (RemountSb read_only) old.items called.trace) }
+{}
+
+/// A call that a hook refused has asked it last, and it has failed with just that code; and one that was refused otherwise has asked none. So a file
+/// system whose hooks all answer Ok refuses none. Does nothing: its contract is the law.
+pub fn a_refused_call_asked_the_hook_that_failed()
+    ensures freeze { (holder : Holder) (old left : SeatedTask) (refusal : GateError) (called : Called (Freeze holder) old left (Err refusal)) →
+        AskedByRefusedFreeze refusal (actions_of (Freeze holder) (Err refusal) called.trace) (asks_of old.config (Freeze holder) old.items called.trace) }
+    ensures thaw { (holder : Holder) (old left : SeatedTask) (refusal : GateError) (called : Called (Thaw holder) old left (Err refusal)) →
+        AskedByRefused UnfreezeFs refusal (asks_of old.config (Thaw holder) old.items called.trace) }
+    ensures remount { (read_only : Bool) (old left : SeatedTask) (refusal : GateError) (called : Called (RemountSb read_only) old left (Err refusal)) →
+        AskedByRefused (Reconfigure read_only) refusal (asks_of old.config (RemountSb read_only) old.items called.trace) }
 {}
 
 /// The schedule in which a call ends goes on from each that its task had seen before. Does nothing: its contract is the law.

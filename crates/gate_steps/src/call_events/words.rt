@@ -1,14 +1,15 @@
 //! The words that all threads share, and a seat at their table.
 
-ghost use Rattle.std.specs.Prelude.{◌≡◌, ◌<◌, [], IfOk};
+ghost use Rattle.std.specs.Prelude.{◌≡◌, ◌<◌, ◌++◌, [], IfOk};
 ghost use Rattle.std.specs.Slots.{slots_items, slots_len, IsFull};
 ghost use Rattle.cpu_words.specs.Names.{place, words_in_all};
 ghost use Rattle.cpu_words.specs.Touches.{event_of, found_by};
 ghost use Rattle.gate_world.specs.Configs.{IsWithin};
 ghost use Rattle.gate_world.specs.Work.{next_of};
 ghost use Rattle.gate_steps.specs.Rules.{first_known, table_length};
+ghost use Rattle.gate_steps.specs.Meetings.{StandsNow};
 ghost use Rattle.gate_steps.specs.Tables.{IsClosing};
-ghost use Rattle.gate_steps.specs.Seating.{OwnNumberMayStep, HasWitness, items_after, Spares, known_kept, known_given, known_both};
+ghost use Rattle.gate_steps.specs.Seating.{OwnNumberMayStep, HasWitness, items_after, Spares, knows, known_kept, known_given, known_both};
 
 use crate::{Closed, GateTable, Knowledge};
 use cpu_words::{Event, Touch, WordName};
@@ -116,6 +117,29 @@ impl GateWords {
         ensures joined { seat.new.me ≡ (known_both seat.old.me.0 other.me.0, seat.old.me.1) }
     {
         crate::take_back(&self.table.shared, seat, other);
+    }
+
+    /// Makes a seat with no number that has seen what this seat has.
+    pub fn receipt(&self, seat: &mut GhostSeat) -> GhostSeat
+        requires table { seat.old.table_id ≡ self.now.table.shared.table_id }
+        ensures table { (seat.new.table_id ≡ seat.old.table_id) × (result.table_id ≡ seat.old.table_id) }
+        ensures kept { seat.new.me ≡ seat.old.me }
+        ensures given { result.me ≡ (knows [] seat.old.me.0.seen, []) }
+    {
+        crate::receipt(&self.table.shared, seat)
+    }
+
+    /// Lets two seats meet: the numbers of both stand in one world, which both have seen from then on.
+    pub fn meet(&self, one: &mut GhostSeat, two: &mut GhostSeat)
+        requires table { (one.old.table_id ≡ self.now.table.shared.table_id) × (two.old.table_id ≡ self.now.table.shared.table_id) }
+        requires slots { (one.old.me.1 ≡ []) × (two.old.me.1 ≡ []) }
+        ensures table { (one.new.table_id ≡ one.old.table_id) × (two.new.table_id ≡ two.old.table_id) }
+        ensures slots { (one.new.me.1 ≡ []) × (two.new.me.1 ≡ []) }
+        ensures items { (one.new.me.0.items ≡ one.old.me.0.items) × (two.new.me.0.items ≡ two.old.me.0.items) }
+        ensures seen { two.new.me.0.seen ≡ one.new.me.0.seen }
+        ensures stand { StandsNow self.now.config (one.old.me.0.items ++ two.old.me.0.items) (one.old.me.0.seen ++ two.old.me.0.seen) one.new.me.0.seen }
+    {
+        crate::meet(&self.table.shared, one, two);
     }
 
     /// The words, which no thread shares any more.

@@ -22,6 +22,7 @@
 //! - `split: done` splits the second task off the first one, `join: done` joins it, and `lose: done` drops it. `split 63: done` loses all but the
 //!   last.
 //! - `fail sync 16`: the next time that it is asked this, the file system fails with this code.
+//! - `both 1: done`: the first and the second task at once, each in a thread, make the calls of their own lines so often. These lines stand in.
 //! - `rounds 500 20 1`: the first task splits one off for each number. At once, in threads, each makes the calls of its own lines so often.
 //!   These lines stand in. Then the first task joins all but task 1, which is the second one from then on. A case has one such line at most.
 //! - `close: done` closes the gates, and what follows is what words hold then. Or it is refused, and all come back as they were. Then more lines
@@ -32,7 +33,7 @@ ghost use Rattle.std.specs.Prelude.{◌≡◌, All, IfSome, IfErr};
 ghost use Rattle.vfs_gates.specs.TaskStates.{IsFrom};
 
 use super::fixtures::Fixture;
-use super::lines::{does, first_byte, is_printed, work};
+use super::lines::{does, first_byte, is_printed, rounds_of, work};
 use super::thread_runs::ThreadRun;
 use schedule_lines::numbers::number_of;
 use schedule_text::{Line, Output, parse};
@@ -115,7 +116,28 @@ fn go_beside<R: Wait + Threads + Sync>(
         &|_place: usize, task: &mut Task|
             requires { IsFrom task.now gates.now }
             ensures { IsFrom task.exit.now gates.entry.now }
-        { work(task, rt, gates, scene) },
+        { work(task, rt, gates, scene, rounds_of(scene, task.number())) },
+    );
+}
+
+/// The first and the second task do their parts so often, the second in a thread of its own.
+fn go_both<R: Wait + Threads + Sync>(
+    first: &mut Task,
+    second: &mut Task,
+    rt: &R,
+    gates: &Gates,
+    scene: &Fixture,
+    rounds: u32,
+)
+    requires first { IsFrom first.old gates.now }
+    requires second { IsFrom second.old gates.now }
+    ensures first { IsFrom first.new gates.now }
+    ensures second { IsFrom second.new gates.now }
+{
+    thread::join_mut(
+        rt,
+        &mut || work(second, rt, gates, scene, rounds),
+        &mut || work(first, rt, gates, scene, rounds),
     );
 }
 
@@ -206,6 +228,13 @@ fn does_for_all<R: Wait + Threads + Sync>(
             turn.fails = rest;
             was_asked
         }
+        "both" => match (second, number_of(rest.as_bytes())) {
+            (Some(second), Some(rounds)) => {
+                go_both(first, second, rt, gates, turn.scene, rounds);
+                ends == "done"
+            }
+            _ => false,
+        },
         "rounds" => {
             *second = go_at_once(first, rt, gates, turn.scene, rest);
             second.is_some()

@@ -3,9 +3,8 @@
 ghost use Rattle.vfs_gates.specs.TaskStates.{IsFrom};
 
 use super::thread_runs::ThreadRun;
-use crossbeam_utils::Backoff;
 use std::sync::Wait;
-use vfs_gates::{Event, FsHooks, GateError, Gates, Holder, Op, Progress, Task, WordName};
+use vfs_gates::{Backoff, Event, FsHooks, GateError, Gates, Holder, Op, Progress, Task, WordName};
 
 /// Remounts read-only, so often while it is busy.
 pub fn shut<R: Wait>(
@@ -18,10 +17,10 @@ pub fn shut<R: Wait>(
     requires { IsFrom task.old gates.now }
     ensures { IsFrom task.new gates.now }
 {
-    let backoff = Backoff::new();
+    let mut backoff = Backoff::new();
     for _try in 0..tries {
         match task.remount_sb(rt, gates, true, hooks) {
-            Err(GateError::Busy) => backoff.snooze(),
+            Err(GateError::Busy) => backoff.snooze(rt),
             answer => return answer,
         }
     }
@@ -40,7 +39,7 @@ pub fn shut_and_see<R: Wait>(
     ensures { IsFrom task.new gates.now }
 {
     task.begin(Op::RemountSb { read_only: true })?;
-    let backoff = Backoff::new();
+    let mut backoff = Backoff::new();
     let mut seen = None;
     for _ in rt.forever() {
         let hook = match task.wants_hook() {
@@ -61,7 +60,7 @@ pub fn shut_and_see<R: Wait>(
             Progress::Done(Err(GateError::Busy)) => return Ok(seen),
             Progress::Done(Ok(_)) => return Ok(None),
             Progress::Done(Err(refusal)) => return Err(refusal),
-            Progress::Waiting => backoff.snooze(),
+            Progress::Waiting => backoff.snooze(rt),
             Progress::Going | Progress::Idle => {}
         }
     }
@@ -108,10 +107,10 @@ pub fn take<R: Wait>(
     requires { IsFrom task.old gates.now }
     ensures { IsFrom task.new gates.now }
 {
-    let backoff = Backoff::new();
+    let mut backoff = Backoff::new();
     for _try in 0..tries {
         match back_up(rt, gates, task, hooks) {
-            Err(GateError::Invalid | GateError::Again) => backoff.snooze(),
+            Err(GateError::Invalid | GateError::Again) => backoff.snooze(rt),
             answer => return answer,
         }
     }

@@ -245,7 +245,7 @@ pub fn first_byte(line: &str) -> u8 {
 }
 
 /// How often the task of a number goes through its lines; none where the case doesn't say that.
-fn rounds_of(scene: &Fixture, number: u8) -> u32 {
+pub fn rounds_of(scene: &Fixture, number: u8) -> u32 {
     let (_, rest) = cut(scene.case, "\nrounds ");
     let (words, _) = cut(rest, "\n");
     let mut words = words.split(' ');
@@ -275,13 +275,13 @@ fn make_calls<R: Wait>(task: &mut Task, rt: &R, gates: &Gates, turn: &mut Thread
     }
 }
 
-/// Goes through its own lines so often as the case says, until something is wrong.
-pub fn work<R: Wait>(task: &mut Task, rt: &R, gates: &Gates, scene: &Fixture)
+/// Goes through its own lines so often, until something is wrong.
+pub fn work<R: Wait>(task: &mut Task, rt: &R, gates: &Gates, scene: &Fixture, rounds: u32)
     requires { IsFrom task.old gates.now }
     ensures { IsFrom task.new gates.now }
 {
     let mut turn = ThreadRun::new(scene);
-    for _round in 0..rounds_of(scene, task.number()) {
+    for _round in 0..rounds {
         if scene.wrong.get().is_none() {
             turn.begin_round();
             make_calls(task, rt, gates, &mut turn);

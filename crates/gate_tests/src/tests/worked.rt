@@ -4,15 +4,16 @@ use cpu_words::{Sum, Taken};
 use percpu_rwsem::SyncWord;
 use std::test::Fail;
 
-/// Each of two tasks enters level 1 in a thread of its own, and leaves it. A freeze then finds nobody inside. The gates can't be closed before the
-/// tasks are joined, as the last one isn't at first.
+/// Each of two tasks, which are all that there are, enters level 1 in a thread of its own, and leaves it. A freeze then finds nobody inside. The gates
+/// can't be closed before the tasks are joined.
 pub const READERS: &str = "\
-config 3 2 1 2 8: agrees
-rounds 1 1
+config 2 2 1 2 8: agrees
+split: done
+both 1: done
+    0 trystart 1 0: done Again*
+    0 end 1 0: done
     1 trystart 1 0: done Again*
     1 end 1 0: done
-    2 trystart 1 0: done Again*
-    2 end 1 0: done
 0 freeze: done
 0 trysnapshot: done
 close: Order

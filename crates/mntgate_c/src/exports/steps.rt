@@ -9,7 +9,7 @@ ghost use Rattle.gate_world.specs.declared.work.Phase.{Phase as PhaseType};
 ghost use Rattle.gate_steps.specs.call_events.Runs.{OpUnderWay, ProgressMatches};
 ghost use Rattle.gate_steps.specs.call_events.Stepped.{Stepped};
 ghost use Rattle.vfs_gates.specs.TaskStates.{SeatedTask, refusal_at, IsIdle};
-ghost use Rattle.mntgate_c.specs.Codes.{answer_of, hook_answer, hook_at, progress_at};
+ghost use Rattle.mntgate_c.specs.Codes.{answer_of, hook_answer, hook_number, progress_at};
 ghost use Rattle.mntgate_c.specs.Events.{step_at};
 ghost use Rattle.mntgate_c.specs.Operations.{op_at};
 ghost use Rattle.mntgate_c.specs.Runs.{Runs};
@@ -71,7 +71,7 @@ pub extern "C" fn mntgate_wants_hook(task: &mut TaskHandle) -> u32
     requires { task.old.full ≡ true }
     ensures full { task.new.full ≡ true }
     ensures same { task.new.state ≡ task.old.state }
-    ensures told { hook_at result ≡ asked_by task.old.state.phase }
+    ensures told { result ≡ hook_number (asked_by task.old.state.phase) }
 {
     hook_code(task.member().task.wants_hook())
 }

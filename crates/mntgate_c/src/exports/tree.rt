@@ -1,6 +1,7 @@
 //! Calls at the tree behind the gates, and what a snapshot took of it. None of them waits.
 
-ghost use Rattle.std.specs.Prelude.{◌≡◌, true, false, slice_index, OnOk, OnErr, Some, None};
+ghost use Rattle.std.specs.Prelude.{◌≡◌, true, false, slice_index, Err, OnOk, OnErr, Some, None};
+ghost use Rattle.access_model.specs.declared.errors.GateError.TheVariants.{NoEntry};
 ghost use Rattle.gate_world.specs.declared.operations.Op.TheVariants.{Create, Remove, Grow, MoveTo, Fault, Flush, Open, Close, Snapshot};
 ghost use Rattle.gate_world.specs.declared.views.Snapshot.{Snapshot as Taken};
 ghost use Rattle.gated_tree.specs.Trees.{node_at};
@@ -117,7 +118,7 @@ pub extern "C" fn mntgate_try_snapshot(task: &mut TaskHandle) -> u32
     code(task.try_snapshot(gates))
 }
 
-/// Writes a node of the last snapshot that the task has taken. ENOENT before its first.
+/// Writes a node of the last snapshot that the task has taken. ENOENT before its first, with nothing written.
 #[unsafe(no_mangle)]
 pub extern "C" fn mntgate_tree_node(task: &mut TaskHandle, number: u8, node: &mut NodeRecord) -> u32
     requires { task.old.full ≡ true }
@@ -125,19 +126,19 @@ pub extern "C" fn mntgate_tree_node(task: &mut TaskHandle, number: u8, node: &mu
     ensures same { task.new.state ≡ task.old.state }
     ensures taken { OnOk (answer_of result) ((s : Taken) × ((own_view task.old.state.items).snapshot ≡ Some s)
         × (node_told node.new ≡ node_at s.loaded number) × (node.new.kids ≡ slice_index s.loaded.kids number)) }
-    ensures none { OnErr (answer_of result) ((own_view task.old.state.items).snapshot ≡ None) }
+    ensures none { OnErr (answer_of result) ((answer_of result ≡ Err NoEntry) × ((own_view task.old.state.items).snapshot ≡ None) × (node.new ≡ node.old)) }
 {
     code(task.tree_node(number, node))
 }
 
-/// Writes how many blocks were charged in the last snapshot that the task has taken. ENOENT before its first.
+/// Writes how many blocks were charged in the last snapshot that the task has taken. ENOENT before its first, with nothing written.
 #[unsafe(no_mangle)]
 pub extern "C" fn mntgate_tree_used(task: &mut TaskHandle, used: &mut u64) -> u32
     requires { task.old.full ≡ true }
     ensures full { task.new.full ≡ true }
     ensures same { task.new.state ≡ task.old.state }
     ensures taken { OnOk (answer_of result) ((s : Taken) × ((own_view task.old.state.items).snapshot ≡ Some s) × (used.new ≡ s.loaded.used)) }
-    ensures none { OnErr (answer_of result) ((own_view task.old.state.items).snapshot ≡ None) }
+    ensures none { OnErr (answer_of result) ((answer_of result ≡ Err NoEntry) × ((own_view task.old.state.items).snapshot ≡ None) × (used.new ≡ used.old)) }
 {
     code(task.tree_used(used))
 }

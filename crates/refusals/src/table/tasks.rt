@@ -32,9 +32,9 @@ do next: Report it.
 in Linux: `free -m` tells how much memory is left. A mount that finds none is ENOMEM in the kernel, too.
 
 split: Order
-means: The task has an operation under way.
+means: The task has an operation under way. From C, Rust and Python also: it holds something, or has a file open.
 state now: Unchanged.
-do next: Step to its end, and split then. Accesses may be held.
+do next: Step to its end, and split then. In Rattle accesses may be held. From C, Rust and Python give back first what is held.
 
 split: TooMany
 means: The task has no number left to give.

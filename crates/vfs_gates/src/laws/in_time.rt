@@ -1,27 +1,33 @@
 //! Laws of whole calls in the order of time. What a task has seen are schedules: of the moments of its own calls, and of those of each task that
-//! was joined to it or that it was split off. Each later moment's schedule goes on from these. Only the handing over of tasks is order: of two
-//! threads that talk by other means nothing is said here. The functions do nothing: their contracts are the laws.
+//! was joined to it, that it was split off, or that it met, and of each receipt that it took in. Each later moment's schedule goes on from these. Only
+//! the handing over of tasks and receipts is order: of two threads that talk by other means nothing is said here. The functions do nothing: their
+//! contracts are the laws.
 
 ghost use Rattle.std.specs.Prelude.{◌≡◌, ◌<◌, ◌≤◌, ℕ, Bool, true, Some, Ok, Err, Result, List, ◌++◌, length};
 ghost use Rattle.access_model.specs.Holders.{held_by};
+ghost use Rattle.access_model.specs.Laws.{IsFrozenStill};
+ghost use Rattle.access_model.specs.declared.actions.Action.{Action};
 ghost use Rattle.access_model.specs.declared.actions.Holder.{Holder};
 ghost use Rattle.access_model.specs.declared.errors.GateError.{GateError};
-ghost use Rattle.access_model.specs.declared.errors.GateError.TheVariants.{Invalid};
+ghost use Rattle.access_model.specs.declared.errors.GateError.TheVariants.{Busy, Invalid};
 ghost use Rattle.access_model.specs.declared.replies.Reply.{Reply};
+ghost use Rattle.gate_world.specs.Shown.{shown};
 ghost use Rattle.gate_world.specs.traces.TraceStates.{state_of_trace};
 ghost use Rattle.gate_world.specs.declared.config.Config.{Config};
 ghost use Rattle.gate_world.specs.declared.entries.Entry.{Entry};
 ghost use Rattle.gate_world.specs.declared.operations.Op.{Op};
-ghost use Rattle.gate_world.specs.declared.operations.Op.TheVariants.{Snapshot as SnapshotOp};
+ghost use Rattle.gate_world.specs.declared.operations.Op.TheVariants.{Freeze, Snapshot as SnapshotOp};
 ghost use Rattle.gate_world.specs.declared.views.Snapshot.{Snapshot};
-ghost use Rattle.gate_steps.specs.Seating.{DealtNumbers};
+ghost use Rattle.gate_steps.specs.Seating.{DealtNumbers, HaveHistory};
 ghost use Rattle.gate_steps.specs.call_events.Grown.{StaySeen};
 ghost use Rattle.gate_steps.specs.call_events.Runs.{Called};
 ghost use Rattle.gate_steps.specs.call_events.Spans.{AreInOrder, HasItsCauseDuring, IsTreeDuring, TakesEffect};
 ghost use Rattle.vfs_gates.specs.Ended.{EndedWith, IsLeftAfter};
-ghost use Rattle.vfs_gates.specs.Frozen.{NeedsFreeze, NeverThaws, holders_of};
+ghost use Rattle.vfs_gates.specs.FoundSo.{WasSoDuring};
+ghost use Rattle.vfs_gates.specs.Frozen.{MayFreeze, NeedsFreeze, NeverFreezes, NeverThaws, holders_of};
 ghost use Rattle.vfs_gates.specs.Handed.{ComesAfter};
 ghost use Rattle.vfs_gates.specs.Held.{own_actions};
+ghost use Rattle.vfs_gates.specs.Meetings.{HasDone};
 ghost use Rattle.vfs_gates.specs.Parts.{SplitOf};
 ghost use Rattle.vfs_gates.specs.TaskStates.{SeatedTask, own_number, own_view};
 
@@ -49,9 +55,16 @@ pub fn closed_gates_are_left_after_all_that_was_seen()
 /// seen when it called, with more entries, of which the task's are the beginning and the call's own events, each once and in their order. In the
 /// history that it leaves, the actions that were added since the call began come after all that stood there when it did, and the task's own among
 /// them are exactly the call's.
+///
+/// - `actions`: that, of each call.
+/// - `nothing`: a call that was done, and added no action to its task's list, has its instant too: in the world of its last event, with which it
+///   returns, there was nothing to do. The mount that it was to make read-only or writable was so, and so the superblock; no
+///   callback was queued; or all was frozen, of a snapshot. No other call is done without an action.
 pub fn a_call_takes_effect_between_call_and_return()
-    ensures { (op : Op) (old left : SeatedTask) (answer : Result Reply GateError) (called : Called op old left answer) →
+    ensures actions { (op : Op) (old left : SeatedTask) (answer : Result Reply GateError) (called : Called op old left answer) →
         TakesEffect old.config old.items op called.trace old.seen left.seen called.history.history.log }
+    ensures nothing { (op : Op) (old left : SeatedTask) (reply : Reply) → Called op old left (Ok reply) → own_actions left ≡ own_actions old →
+        WasSoDuring old.config old.items op reply old.seen left.seen }
 {}
 
 /// Two calls, of which the second was made by a task that had seen what the first one left: in the history that the second one leaves, all that
@@ -91,6 +104,37 @@ pub fn a_freeze_stands_until_it_is_thawed()
         (ws : List ℕ) (items : DealtNumbers) (seen : List (List Entry)) (e : EndedWith old.config ws items seen) →
         held_by (holders_of (own_actions old)) h ≡ true → StaySeen left.seen seen →
         ((t : ℕ) → t < old.config.tasks → (t ≡ own_number old.items → ⊥) → NeverThaws h (e.ended.world.views t).actions) → ⊥ }
+{}
+
+/// What a holder has frozen stays until it is thawed, tree and all: all is frozen for the holder still, the same levels are closed, and the tree is the
+/// same, each node with its kind, its parent, its size and its marks.
+///
+/// - `calls`: in what a call leaves, since a freeze for that holder by the same task, if the task hasn't thawed for it since, and no other number thaws for
+///   it. Closed gates tell, whose last task has seen what the call left.
+/// - `worlds`: in each world since one in which a number's list has a freeze for that holder, if that number hasn't thawed for it since, and no other
+///   has. A third world tells the latter, which goes on from both: it may be the second.
+pub fn a_frozen_tree_stays_until_it_is_thawed()
+    ensures calls { (h : Holder) (op : Op) (old frozen begins left : SeatedTask) (reply : Reply) (answer : Result Reply GateError)
+        (added : List Action) (first : Called (Freeze h) old frozen (Ok reply)) (last : Called op begins left answer) →
+        begins.config ≡ old.config → own_number begins.items ≡ own_number frozen.items → StaySeen frozen.seen begins.seen →
+        own_actions left ≡ added ++ own_actions frozen → NeverThaws h added →
+        (ws : List ℕ) (items : DealtNumbers) (seen : List (List Entry)) (e : EndedWith old.config ws items seen) → StaySeen left.seen seen →
+        ((t : ℕ) → t < old.config.tasks → (t ≡ own_number frozen.items → ⊥) → NeverThaws h (e.ended.world.views t).actions) →
+        IsFrozenStill h (shown old.config first.history.world) (shown begins.config last.history.world) }
+    ensures worlds { (h : Holder) (c : Config) (n : ℕ) (one two three : DealtNumbers) (s r q : List (List Entry)) (first : HaveHistory c one s)
+        (last : HaveHistory c two r) (end : HaveHistory c three q) (list added : List Action) → StaySeen s r → StaySeen r q →
+        HasDone n list one → HasDone n (added ++ list) two → held_by (holders_of list) h ≡ true → NeverThaws h added →
+        ((t : ℕ) → t < c.tasks → (t ≡ n → ⊥) → NeverThaws h (end.world.views t).actions) →
+        IsFrozenStill h (shown c first.world) (shown c last.world) }
+{}
+
+/// A freeze is busy only beside another. If a task's own list has no freeze under way, and none that its holder holds, then its freeze for that holder
+/// isn't refused as Busy, unless another number freezes or thaws. Closed gates tell, whose last task has seen what the call left.
+pub fn a_freeze_is_busy_only_beside_another()
+    ensures { (h : Holder) (old left : SeatedTask) → Called (Freeze h) old left (Err Busy) →
+        (ws : List ℕ) (items : DealtNumbers) (seen : List (List Entry)) (e : EndedWith old.config ws items seen) →
+        MayFreeze h (own_actions old) → StaySeen left.seen seen →
+        ((t : ℕ) → t < old.config.tasks → (t ≡ own_number old.items → ⊥) → NeverFreezes (e.ended.world.views t).actions) → ⊥ }
 {}
 
 /// A call of a task to which another was joined comes after all that the other had done: in the history that the

@@ -1,11 +1,11 @@
 -- Each task ends in the closed gates' world with the list that it brought back, which it had begun with none.
-use Rattle.std.proofs.{Common.{◌≡◌, ◌+◌, ◌<◌, arith, ap, sym, subst, suc, zero, ◌∙◌}, lemmas.Result.{err_from_is_err_and}}
+use Rattle.std.proofs.{Common.{◌≡◌, ◌+◌, ◌<◌, ◌++◌, length, refl, arith, ap, sym, subst, suc, zero, ◌∙◌}, lemmas.Result.{err_from_is_err_and}}
 use Rattle.std.specs.{Prelude.{Bool, Result, Ok, Err, Option, None, IfSome, OnOk}, Result.{result_ok}}
 use Rattle.vfs_gates.proofs.Rounds.{Config, IsWithin, TableId, first_known, task_state}
-use Rattle.vfs_gates.proofs.Rounds.{◌≤◌, ℕ, rules, handed_did, granted_alone, joined_rests, own_times, times-append, GateError, Granted, Mount, SeatedTask}
+use Rattle.vfs_gates.proofs.Rounds.{◌≤◌, ℕ, rules, handed_did, handed_ends, granted_alone, joined_rests, last_ends, own_number_same, own_stays, own_times, some_items, times-append, GateError, Granted, Mount, SeatedTask}
 use Rattle.vfs_gates.proofs.Splitting.{gives_all, gives_on, has_begun, refused_for_memory}
-use Rattle.vfs_gates.specs.{Parts.{SplitOf}, Seating.{times}, Splitting.{Gives}}
-use Rattle.backup_beside_writer.specs.Reports.{Copies, HasAllWrites, SameNumbers}
+use Rattle.vfs_gates.specs.{Parts.{SplitOf}, Seating.{times}, Splitting.{Gives}, TaskStates.{own_number}}
+use Rattle.backup_beside_writer.specs.{Reports.{Copies, HasAllWrites, SameNumbers}, declared.report.Report.{Report}}
 use Rattle.backup_beside_writer.proofs.run.run.Goals as goal
 
 pub copy_at_the_end-task-requires-clause-rests : goal.copy_at_the_end-task-requires-clause-rests
@@ -35,21 +35,57 @@ returns-clause-told g c =
     c.in_ok-gates.ensures.made.1 c.in_ok-second.ensures.made c.in_ok-third.ensures.made
     (let wrote : Granted (Mount 0) 10000 c.split-2.new.self c.join-first.result.0 = search (rules, c.join-first.ensures.first) in wrote)
     c.join-both.ensures.numbers c.number-writer.ensures.there in
-    let last = with_writes c.copy_at_the_end-task.result.1 _ (HasAllWrites 10000)
-    (λ copied. record {
-      last = c.in_ok-third.third;
-      writer = c.join-both.result;
-      left = c.copy_at_the_end-task.result.0;
+    let ends = c.in-Ok.ensures.closed.2 in
+    let views = ends.ended.world.views in
+    let both = c.join-both.result in
+    let left = c.copy_at_the_end-task.result.0 in
+    let third = c.in_ok-third.third in
+    let its : own_number both.items ≡ c.number-writer.result =
+    ap own_number c.join-both.ensures.numbers ∙
+    (own_number_same c.join-first.result.0.items c.join-first.result.1.0.items c.number-writer.ensures.there ∙ sym c.number-writer.ensures.own) in
+    let some : 1 ≤ length both.items = some_items (own_number both.items) both.items
+    (let one = own_times (own_number c.join-first.result.0.items) c.join-first.result.0.items refl c.number-writer.ensures.there in
+    let all = times-append (own_number c.join-first.result.0.items) c.join-first.result.0.items c.join-first.result.1.0.items in
+    let first : own_number both.items ≡ own_number c.join-first.result.0.items = its ∙ c.number-writer.ensures.own in
+    let same : times (own_number both.items) both.items ≡ times (own_number c.join-first.result.0.items)
+    (c.join-first.result.0.items ++ c.join-first.result.1.0.items) = λ i. times (first i) (c.join-both.ensures.numbers i) in
+    omega (arith, one, all, same)) in
+    let some_left : 1 ≤ length left.items = some_items (own_number third.items) left.items
+    (let one = own_times (own_number third.items) third.items refl c.number-last.ensures.there in
+    let all = c.copy_at_the_end-task.ensures.numbers (own_number third.items) in omega (arith, one, all)) in
+    let told : Report = record {
+      writer = c.number-writer.result;
+      writes = 10000;
+      backup = c.number-backup.result;
+      copies = 100;
+      torn = c.join-first.result.1.1;
+      last = c.number-last.result;
+      last_torn = c.ok.result;
+    } in
+    let last = with_writes c.copy_at_the_end-task.result.1 _ (HasAllWrites told views)
+    (λ copied.
+    let own : own_number left.items ≡ c.number-last.result =
+    own_stays copied.opens ∙ (own_stays copied.closes ∙ (ap (λ (s : SeatedTask). own_number s.items) copied.joins ∙
+    (own_number_same third.items both.items c.number-last.ensures.there ∙ sym c.number-last.ensures.own))) in
+    record {
+      last = third;
+      writer = both;
+      left = left;
+      writer_is = its;
+      writer_ends = ap views (sym its) ∙
+          handed_ends third both ends c.copy_at_the_end-task.ensures.others c.number-last.ensures.there some;
       granted = granted;
       copied = copied;
+      last_is = own;
+      last_ends = ap views (sym own) ∙ last_ends ends some_left;
     })
     c.copy_at_the_end-task.ensures.every_write in
     record {
-      ended = did.0;
-      writes = did.1;
-      copies = did.2;
-      every_write = subst (λ (o : Option Bool). IfSome o (λ torn. HasAllWrites 10000)) (sym c.ok.ensures.value)
-          (where_told c.copy_at_the_end-task.result.1 (HasAllWrites 10000) last);
+      ended = ends.ended;
+      writes = did.0;
+      copies = did.1;
+      every_write = subst (λ (o : Option Bool). IfSome o (λ torn. HasAllWrites told views)) (sym c.ok.ensures.value)
+          (where_told c.copy_at_the_end-task.result.1 (HasAllWrites told views) last);
     }
 
 -- The numbers 0, 1 and 2 go to the three tasks, and no split is refused but for memory.

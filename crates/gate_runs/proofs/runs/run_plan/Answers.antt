@@ -1,14 +1,14 @@
 -- what the threads did is what their tasks' numbers have in the end
-use Rattle.std.proofs.{Common.{◌≡◌, ◌≢◌, ℕ, inl, inr, sym, ◌*◌, ◌-◌, ◌≤◌, arith, subst, ap, ◌∙◌}, lemmas.Nat.{mul-le}}
+use Rattle.std.proofs.{Common.{◌≡◌, ℕ, inl, inr, sym, ◌*◌, ◌-◌, ◌≤◌, arith, subst, ap, ◌∙◌}, lemmas.Nat.{mul-le}}
 use Rattle.std.proofs.lemmas.Result.{err_from_is_err_and}
 use Rattle.std.specs.Prelude.{Err, Ok, Result, slice_index, unwrap_or}
-use Rattle.access_model.specs.declared.errors.GateError.{GateError, TheVariants.{Invalid, NoMemory, Order, TooMany}}
+use Rattle.access_model.specs.declared.errors.GateError.{GateError, TheVariants.{NoMemory}}
 use Rattle.cpu_words.specs.{Names.{place, stride}, declared.names.WordName.TheVariants.{Used}}
 use Rattle.gate_world.specs.{declared.config.Config.{Config}, Configs.{IsWithin}}
 use Rattle.vfs_gates.specs.{TaskStates.{SeatedTask}, Ended.{EndedWith, ClosedState}, declared.Gates.{Gates}, Splitting.{Gives, HasBegun}}
-use Rattle.gate_runs.specs.{Ends.{AllJoined}, Parts.{Among, EndsAs}, Refusals.{RunRefused}}
+use Rattle.gate_runs.specs.{Ends.{AllJoined}, Parts.{Among, EndsAs}, Refusals.{NotStarted, RunRefused}}
 use Rattle.run_plans.specs.{Plans.{MayRun, run_config}, declared.{counts.Details.{Details}, plans.Plan.{Plan}}}
-use Rattle.gate_runs.proofs.Answering.{met_in_order}
+use Rattle.gate_runs.proofs.Answering.{IsInOrder, file_in_order}
 use Rattle.vfs_gates.proofs.Splitting.{first_begins, gives_all}
 use Rattle.gate_runs.proofs.{Joining.{found_nothing}, Staying.{all_did_on, ends_as}}
 use Rattle.gate_runs.proofs.runs.run_plan.Goals as goal
@@ -57,15 +57,22 @@ returns-clause-tells g c =
       all = all_did_on (Among task.items) (EndsAs views) (λ s h. ends_as views task.items s closed.1.mine h) _ _ _ _ _ _ _ joined.did;
     }
 
--- What a run's tasks were refused after all were joined: not because the backup found thawed what it had frozen, as the closed gates tell.
-not_thawed : (held : ℕ → ℕ → Type 0) (seen : ℕ → Type 0) (gates : Gates) (plan : Plan) (task : SeatedTask) (refusal : GateError) (closed : ClosedState) →
-    AllJoined held seen gates plan task (Err refusal) → closed.config ≡ gates.words.config →
-    EndedWith closed.config closed.words task.items task.seen → RunRefused gates.words.config plan.tasks refusal
-not_thawed held seen gates plan task refusal closed joined same ends =
+-- Who was refused where all were joined is a writer: the backup found nothing frozen or thawed by others, as the closed gates tell.
+a_writer_was : (held : ℕ → ℕ → Type 0) (seen : ℕ → Type 0) (gates : Gates) (plan : Plan) (task : SeatedTask) (refusal : GateError)
+    (closed : ClosedState) → AllJoined held seen gates plan task (Err refusal) → closed.config ≡ gates.words.config →
+    EndedWith closed.config closed.words task.items task.seen → gates.words.config ≡ run_config plan.tasks plan.processors plan.rounds →
+    RunRefused plan.tasks plan.processors plan.rounds refusal
+a_writer_was held seen gates plan task refusal closed joined same ends is =
     elim joined.refused [
-      | inl run ↦ run
+      | inl writer ↦ inr (gates, is, inr writer)
       | inr found ↦ absurd (found_nothing closed.config closed.words task (joined.from.1 ∙ sym same) joined.all joined.none ends found)
     ]
+
+-- and before, memory or a thread, or the creation of a file
+not_started : (gates : Gates) (tasks processors rounds : ℕ) (refusal : GateError) → gates.words.config ≡ run_config tasks processors rounds →
+    NotStarted gates tasks refusal → RunRefused tasks processors rounds refusal
+not_started gates tasks processors rounds refusal is (inl memory) = inl memory
+not_started gates tasks processors rounds refusal is (inr created) = inr (gates, is, inl created)
 
 -- a run's gates are within their limits
 run_within : (tasks processors rounds freezes : ℕ) → MayRun tasks processors rounds freezes → IsWithin (run_config tasks processors rounds)
@@ -83,18 +90,17 @@ run_within tasks processors rounds freezes may =
     }
 
 -- nobody is refused out of order: neither for memory, nor in a call
-in_order : (config : Config) (tasks : ℕ) (refusal : GateError) → RunRefused config tasks refusal →
-    (refusal ≢ Order) × (refusal ≢ TooMany) × (refusal ≢ Invalid)
-in_order config tasks refusal (inl memory) =
+in_order : (tasks processors rounds : ℕ) (refusal : GateError) → RunRefused tasks processors rounds refusal → IsInOrder refusal
+in_order tasks processors rounds refusal (inl memory) =
     ((λ is. let f : ⊥ = cc in f), (λ is. let f : ⊥ = cc in f), (λ is. let f : ⊥ = cc in f))
-in_order config tasks refusal (inr by) = met_in_order config tasks refusal by
+in_order tasks processors rounds refusal (inr file) = file_in_order file.0 tasks processors rounds refusal file.2
 
 -- the gates are refused for memory alone
 pub returns-in_err-gates-clause-tells : goal.returns-in_err-gates-clause-tells
 returns-in_err-gates-clause-tells g c = let p = err_from_is_err_and c.from_residual.result c.from_residual.ensures.1 in rw p.1 tt
 
 no_memory : (plan : Plan) (config : Config) (refusal : GateError) → config ≡ run_config plan.tasks plan.processors plan.rounds →
-    (IsWithin config → refusal ≡ NoMemory) → RunRefused (run_config plan.tasks plan.processors plan.rounds) plan.tasks refusal
+    (IsWithin config → refusal ≡ NoMemory) → RunRefused plan.tasks plan.processors plan.rounds refusal
 no_memory plan config refusal is memory =
     inl (memory (subst IsWithin (sym is) (run_within plan.tasks plan.processors plan.rounds plan.freezes plan.within)))
 
@@ -106,7 +112,7 @@ returns-in_err-gates-clause-refused g c =
 pub returns-in_err-gates-clause-in_order : goal.returns-in_err-gates-clause-in_order
 returns-in_err-gates-clause-in_order g c =
     let p = err_from_is_err_and c.from_residual.result c.from_residual.ensures.1 in
-    rw (p.1, p.2) (in_order _ _ c.in_err-gates.field-0.0
+    rw (p.1, p.2) (in_order _ _ _ c.in_err-gates.field-0.0
     (no_memory c.args.plan c.config.result c.in_err-gates.field-0.0 c.config.ensures c.in_err-gates.ensures.memory))
 
 -- the threads, as they were
@@ -117,13 +123,14 @@ returns-in_err-task-clause-tells g c =
 pub returns-in_err-task-clause-refused : goal.returns-in_err-task-clause-refused
 returns-in_err-task-clause-refused g c =
     let p = err_from_is_err_and c.from_residual-in_err-task.result c.from_residual-in_err-task.ensures.1 in
-    rw (p.1, p.2) (subst (λ (d : Config). RunRefused d c.args.plan.tasks c.in_err-task.field-0.0)
-    (c.in_ok-gates.ensures.made.0 ∙ c.config.ensures) c.in_err-task.ensures.refused)
+    rw (p.1, p.2) (not_started c.in_ok-gates.gates _ _ _ c.in_err-task.field-0.0 (c.in_ok-gates.ensures.made.0 ∙ c.config.ensures)
+    c.in_err-task.ensures.refused)
 
 pub returns-in_err-task-clause-in_order : goal.returns-in_err-task-clause-in_order
 returns-in_err-task-clause-in_order g c =
     let p = err_from_is_err_and c.from_residual-in_err-task.result c.from_residual-in_err-task.ensures.1 in
-    rw (p.1, p.2) (in_order _ _ c.in_err-task.field-0.0 c.in_err-task.ensures.refused)
+    rw (p.1, p.2) (in_order _ _ _ c.in_err-task.field-0.0 (not_started c.in_ok-gates.gates _ _ _ c.in_err-task.field-0.0
+    (c.in_ok-gates.ensures.made.0 ∙ c.config.ensures) c.in_err-task.ensures.refused))
 
 -- and what a task met, as it was
 pub returns-in_err-details-clause-tells : goal.returns-in_err-details-clause-tells
@@ -134,17 +141,16 @@ pub returns-in_err-details-clause-refused : goal.returns-in_err-details-clause-r
 returns-in_err-details-clause-refused g c =
     let p = err_from_is_err_and c.from_residual-in_err-details.result c.from_residual-in_err-details.ensures.1 in
     let joined = subst (AllJoined _ _ _ c.args.plan c.in_ok-task.task) c.in_err-details.was c.in_ok-task.ensures.joined in
-    rw (p.1, p.2) (subst (λ (d : Config). RunRefused d c.args.plan.tasks c.in_err-details.field-0.0) (c.in_ok-gates.ensures.made.0 ∙ c.config.ensures)
-    (not_thawed _ _ _ c.args.plan c.in_ok-task.task c.in_err-details.field-0.0 c.close-closed.result joined c.close-closed.ensures.0
-    c.close-closed.ensures.1))
+    rw (p.1, p.2) (a_writer_was _ _ _ c.args.plan c.in_ok-task.task c.in_err-details.field-0.0 c.close-closed.result joined c.close-closed.ensures.0
+    c.close-closed.ensures.1 (c.in_ok-gates.ensures.made.0 ∙ c.config.ensures))
 
 pub returns-in_err-details-clause-in_order : goal.returns-in_err-details-clause-in_order
 returns-in_err-details-clause-in_order g c =
     let p = err_from_is_err_and c.from_residual-in_err-details.result c.from_residual-in_err-details.ensures.1 in
     let joined = subst (AllJoined _ _ _ c.args.plan c.in_ok-task.task) c.in_err-details.was c.in_ok-task.ensures.joined in
-    rw (p.1, p.2) (in_order _ _ c.in_err-details.field-0.0
-    (not_thawed _ _ _ c.args.plan c.in_ok-task.task c.in_err-details.field-0.0 c.close-closed.result joined c.close-closed.ensures.0
-    c.close-closed.ensures.1))
+    rw (p.1, p.2) (in_order _ _ _ c.in_err-details.field-0.0
+    (a_writer_was _ _ _ c.args.plan c.in_ok-task.task c.in_err-details.field-0.0 c.close-closed.result joined c.close-closed.ensures.0
+    c.close-closed.ensures.1 (c.in_ok-gates.ensures.made.0 ∙ c.config.ensures)))
 
 -- all numbers are back
 pub close-closed-requires-clause-all : goal.close-closed-requires-clause-all

@@ -1,7 +1,7 @@
 -- the plan is what was asked for
 use Rattle.std.proofs.{Common.{◌≡◌, ℕ, refl, subst}, lemmas.Result.{err_from_is_err_and}}
 use Rattle.access_model.specs.declared.errors.GateError.TheVariants.{Invalid}
-use Rattle.run_plans.specs.{declared.plans.Plan.{Plan}, Meetings.{unseen}, Plans.{run_config}}
+use Rattle.run_plans.specs.{declared.plans.Plan.{Plan}, Meetings.{unseen}}
 use Rattle.gate_runs.specs.{Told.{TellsRun}, Refusals.{RunRefused}}
 use Rattle.gate_runs.proofs.runs.run_with.Goals as goal
 
@@ -27,7 +27,7 @@ returns-clause-tells g c =
 pub returns-in_err-totals-clause-refused : goal.returns-in_err-totals-clause-refused
 returns-in_err-totals-clause-refused g c = λ within.
     let p = err_from_is_err_and c.from_residual-in_err-totals.result c.from_residual-in_err-totals.ensures.1 in
-    rw (p.1, p.2) (as_asked (λ tasks processors rounds freezes. RunRefused (run_config tasks processors rounds) tasks c.in_err-totals.field-0.0)
+    rw (p.1, p.2) (as_asked (λ tasks processors rounds freezes. RunRefused tasks processors rounds c.in_err-totals.field-0.0)
     c.in_ok-plan.plan c.args.tasks c.args.processors c.args.rounds c.args.freezes c.in_ok-plan.ensures.asked c.in_err-totals.ensures.refused)
 
 pub returns-clause-within : goal.returns-clause-within

@@ -2,7 +2,7 @@
 use Rattle.std.proofs.Common.{subst}
 use Rattle.std.specs.Prelude.{IfErr}
 use Rattle.vfs_gates.specs.declared.Gates.{Gates}
-use Rattle.gate_runs.specs.Refusals.{RunRefused}
+use Rattle.gate_runs.specs.Refusals.{WriterRefused}
 use Rattle.gate_runs.proofs.{Homes.{came_home, home_refused}, Resting.{joined_rests, joined_there}, Staying.{stays_among}}
 use Rattle.gate_runs.proofs.threads.join_worker.Goals as goal
 
@@ -25,7 +25,7 @@ pub returns-clause-refused : goal.returns-clause-refused
 returns-clause-refused g c =
     let home = c.args.worker.promise in
     let met = c.join-other.result.met in
-    subst (λ (d : Gates). IfErr met (RunRefused d.words.config home.plan.tasks)) c.requires.home
+    subst (λ (d : Gates). IfErr met (WriterRefused d home.plan.tasks home.plan.processors home.plan.rounds)) c.requires.home
     (home_refused (g.W.RunObserver.held home.watch.now) home.gates.now home.plan home.number c.join-other.result.task met c.join-other.ensures)
 
 pub unreachable-requires : goal.unreachable-requires

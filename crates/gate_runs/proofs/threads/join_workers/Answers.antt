@@ -3,7 +3,7 @@ use Rattle.std.proofs.Common.{◌≡◌, ◌+◌, ◌-◌, arith, subst, ◌∙�
 use Rattle.std.specs.Prelude.{IfErr, IfOk, Ok, Result}
 use Rattle.access_model.specs.declared.errors.GateError.{GateError}
 use Rattle.run_plans.specs.declared.plans.Plan.{Plan}
-use Rattle.gate_runs.specs.{Refusals.{RunRefused}, declared.threads.Met.{Met}, Homes.{HasBack, NeverThawed, TaskShare}, Parts.{Among}}
+use Rattle.gate_runs.specs.{Refusals.{WriterRefused}, declared.threads.Met.{Met}, Homes.{HasBack, NeverFroze, TaskShare}, Parts.{Among}}
 use Rattle.gate_runs.proofs.{Homes.{all_parts, either_refused, parts_on, remounted_of, wrote_of}, Joining.{has_back_more, has_none_back}}
 use Rattle.gate_runs.proofs.Staying.{each_popped}
 use Rattle.gate_runs.proofs.threads.join_workers.Goals as goal
@@ -51,13 +51,13 @@ loop-worker-preserved g c =
       others = λ s h. joined.others s (before.others s h);
       back = has_back_more (vec_len c.pop.new.self + 1) (vec_len c.loop-worker.workers + 1) (vec_len c.args.workers.now + 1) c.args.task.now
           c.loop-worker.task joined.took.0 c.join_worker.new.task (omega (arith, next)) before.there
-          (subst (λ n. NeverThawed n joined.took.0) number joined.took.1) joined.took.2 before.back;
+          (subst (λ n. NeverFroze n joined.took.0) number joined.took.1) joined.took.2 before.back;
       parts = all_parts ends held plan.processors plan.rounds (vec_len c.loop-worker.workers) (vec_len c.pop.new.self) count promise.number
           c.loop-worker.met c.join_worker.result c.with_worker-met.result next number part
           (parts_on (Among c.loop-worker.task.items) ends joined.others held plan.processors plan.rounds (vec_len c.loop-worker.workers) count
           c.loop-worker.met before.parts) c.with_worker-met.ensures.done;
-      refused = either_refused (RunRefused c.args.gates.now.words.config plan.tasks) c.loop-worker.met c.join_worker.result c.with_worker-met.result
-          before.refused (subst (λ (p : Plan). IfErr c.join_worker.result (RunRefused c.args.gates.now.words.config p.tasks)) popped.1.1 joined.refused)
+      refused = either_refused (WriterRefused c.args.gates.now plan.tasks plan.processors plan.rounds) c.loop-worker.met c.join_worker.result c.with_worker-met.result
+          before.refused (subst (λ (p : Plan). IfErr c.join_worker.result (WriterRefused c.args.gates.now p.tasks p.processors p.rounds)) popped.1.1 joined.refused)
           c.with_worker-met.ensures.refused;
     }
 

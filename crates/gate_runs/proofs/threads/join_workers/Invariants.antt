@@ -1,7 +1,7 @@
 -- All threads that were joined are those of the last tasks. Each of these has done its part, with what they met together, or a call was refused.
 use Rattle.std.proofs.Common.{◌≡◌, ◌+◌, ◌-◌, ◌≤◌, length, vec_len}
 use Rattle.std.specs.Prelude.{IfErr, IfOk}
-use Rattle.gate_runs.specs.{Refusals.{RunRefused}, Homes.{HasBack}, Parts.{Among, EachFrom}}
+use Rattle.gate_runs.specs.{Refusals.{WriterRefused}, Homes.{HasBack}, Parts.{Among, EachFrom}}
 use Rattle.vfs_gates.specs.{TaskStates.{IsFrom, SeatedTask}, Held.{Rests}}
 use Rattle.gate_runs.proofs.Homes.{Joined}
 use Rattle.gate_runs.proofs.threads.join_workers.Given as goal
@@ -18,7 +18,7 @@ invariant-loop-worker g l = record {
   back : HasBack (vec_len l.workers + 1) (vec_len l.fn.workers + 1) l.fn.task l.task;
   parts : IfOk l.met (λ m. Joined (Among l.task.items) (g.W.RunObserver.held l.fn._watch) l.fn._plan.processors l.fn._plan.rounds
       (vec_len l.workers) (vec_len l.fn.workers - 1) m.0 m.1);
-  refused : IfErr l.met (RunRefused l.fn.gates.words.config l.fn._plan.tasks);
+  refused : IfErr l.met (WriterRefused l.fn.gates l.fn._plan.tasks l.fn._plan.processors l.fn._plan.rounds);
 }
 
 abbrev pub decreases-loop-worker : goal.decreases-loop-worker

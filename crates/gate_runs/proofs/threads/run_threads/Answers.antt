@@ -3,19 +3,20 @@ use Rattle.std.proofs.Common.{◌≡◌, ◌+◌, ◌-◌, ◌≤◌, ap, arith,
 use Rattle.std.proofs.lemmas.Result.{err_from_is_err_and}
 use Rattle.std.specs.Prelude.{◌⊎◌, Ok}
 use Rattle.access_model.specs.declared.errors.GateError.{GateError}
-use Rattle.gate_world.specs.declared.config.Config.{Config}
+use Rattle.access_model.specs.declared.actions.Holder.TheVariants.{User}
+use Rattle.gate_world.specs.declared.{config.Config.{Config}, views.View.{View}}
 use Rattle.run_plans.specs.declared.counts.{Copies.{Copies}, Details.{Details}, Remounts.{Remounts}, Writes.{Writes}}
-use Rattle.gate_runs.specs.{Counts.{no_copies, remounts_of}, Observers.{was_frozen, was_held}, Keeping.{HaveNotThawed}}
-use Rattle.gate_runs.specs.{Refusals.{FoundThawed}, Rounds.{BackupRound, Repeats}}
-use Rattle.gate_runs.specs.{Refusals.{RunRefused}, Parts.{AllWrote, Among, Remounted}}
-use Rattle.vfs_gates.specs.{Splitting.{Gives}, TaskStates.{own_number, spare_of}}
-use Rattle.gate_runs.proofs.Keeping.{creates_stay, idle_have_not}
+use Rattle.gate_runs.specs.{Counts.{no_copies, remounts_of}, Observers.{was_frozen, was_held}, Keeping.{HaveNotFrozen}}
+use Rattle.gate_runs.specs.{Refusals.{FoundOthers, WriterRefused}, Rounds.{BackupRound, Repeats}}
+use Rattle.gate_runs.specs.Parts.{AllWrote, Among, Remounted}
+use Rattle.vfs_gates.specs.{Frozen.{MayFreeze, NeverFreezes}, Held.{own_actions}, Splitting.{Gives}, TaskStates.{own_number, spare_of}}
+use Rattle.gate_runs.proofs.{Answering.{never_may}, Keeping.{creates_freeze_none, creates_stay, have_not, idle_have_not, own_has_not}}
 use Rattle.gate_runs.proofs.{Homes.{each_err, each_ok, either_refused, where_ok}, Joining.{all_numbers, found_on}}
-use Rattle.gate_runs.proofs.{Staying.{gives_stay, is_among}, Resting.{begun_rests}}
+use Rattle.gate_runs.proofs.{Staying.{gives_stay, is_among}}
 use Rattle.gate_runs.proofs.threads.run_threads.Goals as goal
 
 pub create_files-requires : goal.create_files-requires
-create_files-requires g c = record { from = c.requires.from; rests = begun_rests 0 c.args.task.now c.requires.gives.idle c.requires.begins }
+create_files-requires g c = record { from = c.requires.from; planned = c.requires.planned; begins = c.requires.begins; gives = c.requires.gives }
 
 pub returns-in_err-create_files-clause-joined : goal.returns-in_err-create_files-clause-joined
 returns-in_err-create_files-clause-joined g c = let p = err_from_is_err_and c.from_residual.result c.from_residual.ensures.1 in rw p.1 tt
@@ -53,7 +54,17 @@ returns-in_err-start_workers-clause-refused g c =
     rw (p.1, p.2) (inl c.in_err-start_workers.ensures.refused)
 
 pub back_up-copies-requires : goal.back_up-copies-requires
-back_up-copies-requires g c = record { from = c.in_ok-start_workers.ensures.from; rests = c.in_ok-start_workers.ensures.rests }
+back_up-copies-requires g c =
+    let begins = c.args.task.now in
+    let made = c.create_files.new.task in
+    let none : HaveNotFrozen begins.items = have_not begins.items (subst NeverFreezes (sym c.requires.begins.nothing) tt)
+    (idle_have_not (spare_of begins.items) c.requires.gives.nothing) in
+    let never = (own_has_not made.items ((creates_freeze_none _ _ _ c.in_ok-create_files.ensures.created).none none)).0 in
+    record {
+      from = c.in_ok-start_workers.ensures.from;
+      rests = c.in_ok-start_workers.ensures.rests;
+      may = subst (λ (v : View). MayFreeze User v.actions) (sym c.in_ok-start_workers.ensures.same) (never_may (own_actions made) never);
+    }
 
 pub join_workers-others-requires-clause-from : goal.join_workers-others-requires-clause-from
 join_workers-others-requires-clause-from g c = c.back_up-copies.ensures.from
@@ -77,7 +88,6 @@ returns-clause-joined g c =
     let last = c.back_up-copies.new.task in
     let task = c.join_workers-others.new.task in
     let plan = c.args.plan in
-    let config = c.args.gates.now.words.config in
     let started = c.in_ok-start_workers.ensures in
     let backed = c.back_up-copies.ensures in
     let joined = c.join_workers-others.ensures in
@@ -91,7 +101,7 @@ returns-clause-joined g c =
     λ m. AllWrote (Among task.items) (was_held (g.W.RunObserver.held c.args.watch.now)) plan.processors plan.rounds 0
     (vec_len c.start_workers.new.workers - 1) tt tt m.1 in
     let Both : Details → Type 0 = λ d. (copies ≡ Ok d.copies) × (others ≡ Ok (remounts_of d, d.writes)) in
-    let Refused : GateError → Type 0 = λ refusal. RunRefused config plan.tasks refusal ⊎ FoundThawed task in
+    let Refused : GateError → Type 0 = λ refusal. WriterRefused c.args.gates.now plan.tasks plan.processors plan.rounds refusal ⊎ FoundOthers task in
     let own : own_number task.items ≡ 0 = joined.back.own ∙ (backed.stays.own ∙ started.gives.own) in
     let there : 1 ≤ length task.items = joined.back.there (backed.stays.there started.gives.there) in
     let tasks : task.config.tasks ≡ plan.tasks = ap (λ (d : Config). d.tasks) (joined.from.1 ∙ c.requires.planned) in
@@ -103,7 +113,7 @@ returns-clause-joined g c =
         λ n lt. all_numbers (vec_len c.start_workers.new.workers + 1) last task joined.back own there n
             (omega (arith, tasks, lt, started.all, plan.within.tasks_from)),
       );
-      none = joined.back.none (subst HaveNotThawed (sym backed.stays.spare) (idle_have_not (spare_of first.items) started.gives.nothing));
+      none = joined.back.none (subst HaveNotFrozen (sym backed.stays.spare) (idle_have_not (spare_of first.items) started.gives.nothing));
       copies = each_ok Both (λ d. Frozen d.copies) c.details_of.result (λ d is. where_ok Frozen copies d.copies is.0 backed.all) both.done;
       did = each_ok Both _ c.details_of.result (λ d is.
           let wrote = where_ok Wrote others (remounts_of d, d.writes) is.1 joined.wrote in record {
@@ -128,9 +138,6 @@ returns-clause-joined g c =
             };
           }) both.done;
       refused = either_refused Refused copies others c.details_of.result
-          (each_err _ Refused copies (λ refusal by. elim by [
-            | inl met ↦ inl (inr met)
-            | inr found ↦ inr (found_on last task (joined.from.1 ∙ sym backed.from.1) joined.back.own joined.back.seen found)
-          ]) backed.refused)
+          (each_err _ Refused copies (λ refusal found. inr (found_on last task (joined.from.1 ∙ sym backed.from.1) joined.back.own joined.back.seen found)) backed.refused)
           (each_err _ Refused others (λ refusal by. inl by) joined.refused) both.refused;
     }

@@ -1,10 +1,10 @@
 -- the next number goes to a task that begins
 use Rattle.std.proofs.{Common.{◌≡◌, ℕ, ap, refl, subst, sym, ◌∙◌, [], ◌∷◌}, lemmas.Result.{err_from_is_err_and}}
 use Rattle.std.specs.Prelude.{Result, Ok, Err, OnOk}
-use Rattle.access_model.specs.declared.{actions.Holder.TheVariants.{User}, errors.GateError.{GateError}}
-use Rattle.vfs_gates.specs.{Frozen.{NeverThaws}, Parts.{SplitOf}, Seating.{DealtNumbers, given_of, kept_of}, Splitting.{HasBegun}}
+use Rattle.access_model.specs.declared.errors.GateError.{GateError}
+use Rattle.vfs_gates.specs.{Frozen.{NeverFreezes}, Parts.{SplitOf}, Seating.{DealtNumbers, given_of, kept_of}, Splitting.{HasBegun}}
 use Rattle.vfs_gates.specs.TaskStates.{SeatedTask, own_view, spare_of}
-use Rattle.gate_runs.specs.Keeping.{HaveNotThawed}
+use Rattle.gate_runs.specs.Keeping.{HaveNotFrozen}
 use Rattle.gate_runs.proofs.Keeping.{have_not}
 use Rattle.vfs_gates.proofs.Splitting.{gives_on, has_begun, refused_for_memory}
 use Rattle.gate_runs.specs.Homes.{IsReady}
@@ -19,10 +19,10 @@ one_given : (n : ℕ) (items : DealtNumbers) → spare_of (given_of n items) ≡
 one_given n [] = refl
 one_given n (x ∷ xs) = refl
 
-given_have_not : (number : ℕ) (old left other : SeatedTask) → SplitOf old left other → HasBegun number other → HaveNotThawed other.items
+given_have_not : (number : ℕ) (old left other : SeatedTask) → SplitOf old left other → HasBegun number other → HaveNotFrozen other.items
 given_have_not number old left other made begun =
-    have_not other.items (subst (NeverThaws User) (sym begun.nothing) tt)
-    (subst HaveNotThawed (sym (ap (λ (t : SeatedTask). spare_of t.items) made.given ∙ one_given made.number old.items)) tt)
+    have_not other.items (subst NeverFreezes (sym begun.nothing) tt)
+    (subst HaveNotFrozen (sym (ap (λ (t : SeatedTask). spare_of t.items) made.given ∙ one_given made.number old.items)) tt)
 
 -- what is so is so where an answer was granted
 where_granted : {A : Type 0} {P : Type 0} (answer : Result A GateError) → P → OnOk answer P

@@ -1,7 +1,8 @@
 -- A task comes home with its rounds done: a writer's place is told by its number, and so is the remounter.
-use Rattle.std.proofs.Common.{◌-◌, arith, rules}
+use Rattle.std.proofs.Common.{◌≡◌, ◌+◌, ◌-◌, arith, rules, subst}
+use Rattle.vfs_gates.specs.Splitting.{HasBegun}
 use Rattle.gate_runs.specs.Counts.{no_remounts}
-use Rattle.gate_runs.proofs.Keeping.{remounts_thaw_none}
+use Rattle.gate_runs.proofs.Keeping.{remounts_freeze_none}
 use Rattle.gate_runs.proofs.Homes.{comes_back}
 use Rattle.gate_runs.proofs.threads.work.Goals as goal
 
@@ -13,6 +14,7 @@ write-requires g c = record {
   from = c.requires.ready.from;
   planned = c.requires.ready.planned;
   writer = omega (arith, c.requires.ready.last);
+  begins = subst (λ n. HasBegun n c.args.task.now) (let same : c.args.number ≡ c.args.number - 2 + 2 = omega arith in same) c.requires.ready.begun;
   rests = c.requires.ready.rests;
 }
 
@@ -21,7 +23,7 @@ returns g c = record {
   home = (
     c.write.ensures.from,
     c.write.ensures.rests,
-    comes_back _ _ _ _ _ c.requires.ready c.write.ensures.thaws,
+    comes_back _ _ _ _ _ c.requires.ready c.write.ensures.freezes,
     (c.args.task.now, c.requires.ready.begun, (c.args.number - 2, omega arith, c.in_ok-writes.ensures.rounds)),
     tt,
   );
@@ -30,7 +32,7 @@ returns g c = record {
 pub returns-then-number-eq-REMOUNTER : goal.returns-then-number-eq-REMOUNTER
 returns-then-number-eq-REMOUNTER g c =
     let rounds = c.in_ok-remount.ensures.rounds in
-    let thaws = remounts_thaw_none c.args.plan.rounds (c.args.task.now, no_remounts) (c.remount.new.task, c.in_ok-remount.field-0) rounds in record {
+    let thaws = remounts_freeze_none c.args.plan.rounds (c.args.task.now, no_remounts) (c.remount.new.task, c.in_ok-remount.field-0) rounds in record {
       home = (
         c.remount.ensures.from,
         c.remount.ensures.rests,

@@ -1,15 +1,18 @@
 -- one freeze more
-use Rattle.std.proofs.{Common.{◌≡◌, ℕ, ◌+◌, List, ap, arith, inl, inr, refl, subst, sym, ◌∙◌}, lemmas.Result.{err_from_is_err_and}}
-use Rattle.std.specs.Prelude.{◌⊎◌, true, Err, Result}
-use Rattle.access_model.specs.{Holders.{held_by}, declared.{actions.Action.{Action}, errors.GateError.{GateError, TheVariants.{Invalid}}}}
+use Rattle.std.proofs.{Common.{◌≡◌, ◌+◌, List, ap, arith, inl, inr, refl, subst, sym, ◌∙◌}, lemmas.Result.{err_from_is_err_and}}
+use Rattle.std.specs.Prelude.{true, Err, Ok, Result}
+use Rattle.access_model.specs.{Holders.{held_by}, declared.{actions.Action.{Action}, errors.GateError.{GateError, TheVariants.{Busy, Invalid}}}}
 use Rattle.access_model.specs.declared.actions.Holder.TheVariants.{User}
-use Rattle.gate_world.specs.declared.{config.Config.{Config}, operations.Op.TheVariants.{Freeze, Snapshot, Thaw}}
+use Rattle.gate_world.specs.declared.operations.Op.TheVariants.{Freeze, Snapshot, Thaw}
+use Rattle.cpu_words.specs.Hooks.{HookAnswer}
+use Rattle.freeze_levels.specs.declared.hooks.HookCall.{HookCall}
+use Rattle.gate_steps.specs.call_events.Asking.{PerformsAsking}
 use Rattle.run_plans.specs.declared.counts.Copies.{Copies}
-use Rattle.vfs_gates.specs.{Frozen.{holders_of}, Held.{Rests, own_actions}, Runs.{Called, Performs}, TaskStates.{SeatedTask}}
+use Rattle.vfs_gates.specs.{Frozen.{MayFreeze, holders_of}, Held.{Rests, own_actions}, Runs.{Called, Performs}, Seating.{DealtNumbers}, TaskStates.{SeatedTask}}
 use Rattle.vfs_gates.proofs.Grown.{same_stays_seen}
-use Rattle.gate_runs.specs.{Refusals.{FoundThawed, MetBy, WasRefused}, Counts.{blocks_of, no_copies, with_copy, with_waits}}
-use Rattle.gate_runs.specs.Rounds.{BackupRound, CallsBack, Does, IsRefused, Repeats}
-use Rattle.gate_runs.proofs.Answering.{done_stays_seen, freeze_begins, freeze_refused, freezes_list, met, rests_by, thaw_begins, thaw_refused, was_refused, was_whole}
+use Rattle.gate_runs.specs.{Refusals.{FoundOthers}, Counts.{blocks_of, no_copies, with_copy, with_waits}}
+use Rattle.gate_runs.specs.Rounds.{BackupRound, CallsBack, Does, Repeats}
+use Rattle.gate_runs.proofs.Answering.{callbacks_list, done_stays_seen, freeze_begins, freeze_refused, freezes_list, may_again, rests_by, thaw_begins, thaw_refused}
 use Rattle.gate_runs.proofs.{Keeping.{backs_stay, called_stays, stays, stays_on}, Repeating.{one_more}}
 use Rattle.gate_runs.proofs.workers.back_up.Goals as goal
 
@@ -20,34 +23,47 @@ frozen_rests first last outcome rests did = rests_by _ (Freeze User) first last 
 thawed_rests : (first last : SeatedTask) (outcome : Result (Unit {0}) GateError) → Rests first → Performs (Thaw User) first last outcome → Rests last
 thawed_rests first last outcome rests did = rests_by _ (Thaw User) first last outcome refl rests did
 
--- what is found of a freeze that a task's own list has: a thaw that is refused as Invalid found thawed what was frozen
-thaw_found : (config : Config) (tasks : ℕ) (first frozen copied thawed : SeatedTask) (refusal : GateError) → copied.config ≡ config → Rests copied →
-    Does (Freeze User) first frozen → own_actions copied ≡ own_actions frozen → IsRefused (Thaw User) refusal copied thawed →
-    MetBy config tasks refusal ⊎ FoundThawed thawed
-thaw_found config tasks first frozen copied thawed refusal of rests freezes same refused =
-    let began = thaw_begins copied rests in
-    let called = was_whole _ (Thaw User) copied thawed refusal began refused in
-    let stayed = called_stays (Thaw User) copied thawed (Err refusal) called in
-    elim (thaw_refused copied thawed refusal called) [
-      | inl ends ↦ inl (met config tasks (Thaw User) refusal (refl, ends) (was_refused _ config (Thaw User) copied thawed refusal of rests began refused))
-      | inr invalid ↦ inr (record {
-        op = Thaw User;
-        first = copied;
-        last = thawed;
-        config = sym stayed.config;
-        own = sym stayed.own;
-        needs = refl;
-        holds = subst (λ (l : List Action). held_by (holders_of l) User ≡ true) (sym same) (freezes_list first frozen freezes);
-        refused = subst (λ e. Called (Thaw User) copied thawed (Err e)) invalid called;
-        seen = same_stays_seen thawed.seen;
-      })
-    ]
+-- a freeze of a task that may freeze is refused for others alone
+freeze_found : {H : Type 0} (answers : HookCall → DealtNumbers → H → HookAnswer → H → Type 0) →
+    ((call : HookCall) (at : DealtNumbers) (old new : H) (answer : HookAnswer) → answers call at old answer new → answer ≡ Ok tt) →
+    (first last : SeatedTask) (before after : H) (refusal : GateError) → Rests first → MayFreeze User (own_actions first) →
+    PerformsAsking answers (Freeze User) first last (Err refusal) before after → FoundOthers last
+freeze_found answers agree first last before after refusal rests may did =
+    let called = freeze_refused answers agree first last before after refusal (freeze_begins first rests) did in
+    let stayed = called_stays (Freeze User) first last (Err Busy) called in inr (record {
+      first = first;
+      last = last;
+      config = sym stayed.config;
+      own = sym stayed.own;
+      may = may;
+      refused = called;
+      seen = same_stays_seen last.seen;
+    })
+
+-- what is found of a freeze that a task's own list has: a thaw that is refused found thawed what was frozen
+thaw_found : {H : Type 0} (answers : HookCall → DealtNumbers → H → HookAnswer → H → Type 0) →
+    ((call : HookCall) (at : DealtNumbers) (old new : H) (answer : HookAnswer) → answers call at old answer new → answer ≡ Ok tt) →
+    (first frozen copied thawed : SeatedTask) (before after : H) (refusal : GateError) → Rests copied → Does (Freeze User) first frozen →
+    own_actions copied ≡ own_actions frozen → PerformsAsking answers (Thaw User) copied thawed (Err refusal) before after → FoundOthers thawed
+thaw_found answers agree first frozen copied thawed before after refusal rests freezes same did =
+    let called = thaw_refused answers agree copied thawed before after refusal (thaw_begins copied rests) did in
+    let stayed = called_stays (Thaw User) copied thawed (Err Invalid) called in inl (record {
+      op = Thaw User;
+      first = copied;
+      last = thawed;
+      config = sym stayed.config;
+      own = sym stayed.own;
+      needs = refl;
+      holds = subst (λ (l : List Action). held_by (holders_of l) User ≡ true) (sym same) (freezes_list first frozen freezes);
+      refused = called;
+      seen = same_stays_seen thawed.seen;
+    })
 
 -- and so did a snapshot
 snapshot_found : (first frozen copied thawed : SeatedTask) → Does (Freeze User) first frozen → Called (Snapshot true) frozen copied (Err Invalid) →
-    Does (Thaw User) copied thawed → FoundThawed thawed
+    Does (Thaw User) copied thawed → FoundOthers thawed
 snapshot_found first frozen copied thawed freezes refused thaws =
-    let stayed = stays_on (called_stays (Snapshot true) frozen copied (Err Invalid) refused) (stays _ (Thaw User) copied thawed _ thaws) in record {
+    let stayed = stays_on (called_stays (Snapshot true) frozen copied (Err Invalid) refused) (stays _ (Thaw User) copied thawed _ thaws) in inl (record {
       op = Snapshot true;
       first = frozen;
       last = copied;
@@ -57,7 +73,7 @@ snapshot_found first frozen copied thawed freezes refused thaws =
       holds = freezes_list first frozen freezes;
       refused = refused;
       seen = done_stays_seen (Thaw User) copied thawed thaws;
-    }
+    })
 
 pub freeze-requires : goal.freeze-requires
 freeze-requires g c = c.loop-freeze.invariant.from
@@ -90,10 +106,8 @@ returns-in_err-freeze-clause-rounds g c = let p = err_from_is_err_and c.from_res
 pub returns-in_err-freeze-clause-refused : goal.returns-in_err-freeze-clause-refused
 returns-in_err-freeze-clause-refused g c =
     let p = err_from_is_err_and c.from_residual.result c.from_residual.ensures.1 in
-    let was : WasRefused c.args.gates.now.words.config (Freeze User) c.in_err-freeze.field-0.0 = was_refused _ _ (Freeze User) c.loop-freeze.task
-    c.freeze.new.self _ c.loop-freeze.invariant.from.1 c.loop-freeze.invariant.rests (freeze_begins c.loop-freeze.task c.loop-freeze.invariant.rests)
-    c.in_err-freeze.ensures.replies in
-    rw (p.1, p.2) (inl (met _ c.args.plan.tasks (Freeze User) _ (refl, freeze_refused _ _ _ was.refused) was))
+    rw p.1 (freeze_found _ (λ call at old new answer is. is) c.loop-freeze.task c.freeze.new.self _ _ c.in_err-freeze.field-0.0
+    c.loop-freeze.invariant.rests c.loop-freeze.invariant.may c.in_err-freeze.ensures)
 
 pub returns-in_err-thaw-clause-from : goal.returns-in_err-thaw-clause-from
 returns-in_err-thaw-clause-from g c =
@@ -110,8 +124,8 @@ pub returns-in_err-thaw-clause-refused : goal.returns-in_err-thaw-clause-refused
 returns-in_err-thaw-clause-refused g c =
     let p = err_from_is_err_and c.from_residual-in_err-thaw.result c.from_residual-in_err-thaw.ensures.1 in
     let taken = c.take_snapshot-taken.ensures in
-    rw (p.1, p.2) (thaw_found c.args.gates.now.words.config c.args.plan.tasks c.loop-freeze.task c.freeze.new.self c.take_snapshot-taken.new.task
-    c.thaw.new.self c.in_err-thaw.field-0.0 taken.from.1 taken.rests c.in_ok-freeze.ensures.replies taken.list c.in_err-thaw.ensures.replies)
+    rw p.1 (thaw_found _ (λ call at old new answer is. is) c.loop-freeze.task c.freeze.new.self c.take_snapshot-taken.new.task c.thaw.new.self _ _
+    c.in_err-thaw.field-0.0 taken.rests c.in_ok-freeze.ensures.replies taken.list c.in_err-thaw.ensures)
 
 pub returns-in_err-blocks-clause-from : goal.returns-in_err-blocks-clause-from
 returns-in_err-blocks-clause-from g c =
@@ -128,8 +142,8 @@ returns-in_err-blocks-clause-rounds g c =
 pub returns-in_err-blocks-clause-refused : goal.returns-in_err-blocks-clause-refused
 returns-in_err-blocks-clause-refused g c =
     let p = err_from_is_err_and c.from_residual-in_err-blocks.result c.from_residual-in_err-blocks.ensures.1 in
-    rw (p.1, p.2) (inr (snapshot_found c.loop-freeze.task c.freeze.new.self c.take_snapshot-taken.new.task c.thaw.new.self
-    c.in_ok-freeze.ensures.replies c.in_err-blocks.ensures.refused.1 c.in_ok-thaw.ensures.replies))
+    rw p.1 (snapshot_found c.loop-freeze.task c.freeze.new.self c.take_snapshot-taken.new.task c.thaw.new.self
+    c.in_ok-freeze.ensures.replies c.in_err-blocks.ensures.refused.1 c.in_ok-thaw.ensures.replies)
 
 pub returns-in_err-ran-clause-from : goal.returns-in_err-ran-clause-from
 returns-in_err-ran-clause-from g c = c.call_back.ensures.from
@@ -225,6 +239,9 @@ loop-freeze-preserved g c =
     record {
       from = c.in_ok-ran.ensures.from;
       rests = c.in_ok-ran.ensures.rests;
+      may = subst (MayFreeze User) (sym (callbacks_list 3 _ (c.call_back.new.task, ran, c.in_ok-ran.waits) c.in_ok-ran.ensures.ran))
+          (may_again c.loop-freeze.task c.freeze.new.self copied c.thaw.new.self before.may c.in_ok-freeze.ensures.replies
+          c.take_snapshot-taken.ensures.list c.in_ok-thaw.ensures.replies);
       frozen = ap (λ (x : Copies). x.frozen) counts ∙ ap (λ n. n + 1) before.frozen;
       snapshots = ap (λ (x : Copies). x.snapshots) counts ∙ ap (λ n. n + 1) before.snapshots;
       callbacks = omega (arith, before.callbacks, callbacks, c.in_ok-ran.ensures.few);

@@ -1,11 +1,12 @@
--- The task comes from the gates, is inside its write access, and has created all files so far.
+-- The task comes from the gates, is inside its write access, has the numbers that it had, and has created all files so far.
 use Rattle.vfs_gates.specs.TaskStates.{IsFrom}
-use Rattle.gate_runs.specs.{Refusals.{HasWriteAccess}, Rounds.{CreatesFile, Repeats}}
+use Rattle.gate_runs.specs.{Keeping.{KeepsNumbers}, Refusals.{HasWriteAccess}, Rounds.{CreatesFile, Repeats}}
 use Rattle.gate_runs.proofs.workers.create_files.Given as goal
 
 abbrev pub invariant-loop-writer : goal.invariant-loop-writer
 invariant-loop-writer g l = record {
   from : IsFrom l.task l.fn.gates;
   inside : HasWriteAccess l.task;
+  numbers : KeepsNumbers l.fn.task l.task;
   created : Repeats (λ k. CreatesFile) l._writer l.initial.task l.task;
 }

@@ -3,9 +3,9 @@ use Rattle.std.proofs.Common.{rules, arith, ◌≡◌, ◌+◌, ◌-◌, ◌^◌
 use Rattle.access_model.specs.declared.errors.GateError.TheVariants.{Again}
 use Rattle.gate_world.specs.declared.{config.Config.{Config}, operations.Op.TheVariants.{Grow}}
 use Rattle.vfs_gates.proofs.Resting.{some_mount}
-use Rattle.gate_runs.specs.{Refusals.{WasRefused}, Rounds.{IsRefused}}
-use Rattle.gate_runs.proofs.Answering.{grow_begins, grow_refused, inside_by, was_refused}
-use Rattle.gate_runs.proofs.{Keeping.{refusals_thaw_none, thaws_none_on, thaws_nothing}, Repeating.{answered, counted_more, one_more}}
+use Rattle.gate_runs.specs.Rounds.{IsRefused}
+use Rattle.gate_runs.proofs.Answering.{grow_begins, grow_refused, inside_by, was_whole}
+use Rattle.gate_runs.proofs.{Keeping.{refusals_freeze_none, freezes_none_on, freezes_nothing}, Repeating.{answered, counted_more, one_more}}
 use Rattle.gate_runs.proofs.workers.grow.Goals as goal
 
 pub loop-preserved : goal.loop-preserved
@@ -40,20 +40,31 @@ returns-in-Err-clause-refused g c =
     let before = c.loop.invariant in
     let nodes : first.config.nodes ≡ gates.words.config.nodes = ap (λ (d : Config). d.nodes) before.0.1 in
     let began = grow_begins first before.1 (some_mount first gates before.0) c.args.file (omega (arith, nodes, c.requires.file)) in
-    let was : WasRefused gates.words.config (Grow c.args.file 1) c.in-Err.refusal = was_refused _ _ (Grow c.args.file 1) first c.grow.new.self _
-    before.0.1 before.1 began c.in-Err.ensures in
-    let other : ¬ (c.in-Err.refusal ≡ Again) = search rules in
-    (grow_refused c.args.file _ _ _ other was.refused, was)
+    let refused = was_whole _ (Grow c.args.file 1) first c.grow.new.self _ began c.in-Err.ensures in
+    let other : ¬ (c.in-Err.refusal ≡ Again) = search rules in record {
+      ends = grow_refused c.args.file _ _ _ other refused;
+      was = record {
+        first = first;
+        last = c.grow.new.self;
+        from = before.0;
+        own = (refusals_freeze_none (Grow c.args.file 1) tt Again before.2 c.args.task.now first before.3).numbers.own;
+        inside = before.1;
+        began = began;
+        refused = refused;
+      };
+      tries = before.2;
+      tried = before.3;
+    }
 
--- whatever it answers it thaws nothing
-pub returns-in-Ok-clause-thaws : goal.returns-in-Ok-clause-thaws
-returns-in-Ok-clause-thaws g c =
+-- whatever it answers it freezes and thaws nothing
+pub returns-in-Ok-clause-freezes : goal.returns-in-Ok-clause-freezes
+returns-in-Ok-clause-freezes g c =
     let before = c.loop.invariant in
-    thaws_none_on (refusals_thaw_none (Grow c.args.file 1) tt Again before.2 c.args.task.now c.loop.task before.3)
-    (thaws_nothing _ (Grow c.args.file 1) tt c.loop.task c.grow.new.self _ c.grow.ensures)
+    freezes_none_on (refusals_freeze_none (Grow c.args.file 1) tt Again before.2 c.args.task.now c.loop.task before.3)
+    (freezes_nothing _ (Grow c.args.file 1) tt c.loop.task c.grow.new.self _ c.grow.ensures)
 
-pub returns-in-Err-clause-thaws : goal.returns-in-Err-clause-thaws
-returns-in-Err-clause-thaws g c =
+pub returns-in-Err-clause-freezes : goal.returns-in-Err-clause-freezes
+returns-in-Err-clause-freezes g c =
     let before = c.loop.invariant in
-    thaws_none_on (refusals_thaw_none (Grow c.args.file 1) tt Again before.2 c.args.task.now c.loop.task before.3)
-    (thaws_nothing _ (Grow c.args.file 1) tt c.loop.task c.grow.new.self _ c.grow.ensures)
+    freezes_none_on (refusals_freeze_none (Grow c.args.file 1) tt Again before.2 c.args.task.now c.loop.task before.3)
+    (freezes_nothing _ (Grow c.args.file 1) tt c.loop.task c.grow.new.self _ c.grow.ensures)

@@ -1,14 +1,14 @@
 -- one round more
-use Rattle.std.proofs.{Common.{◌≡◌, ℕ, ◌+◌, ◌-◌, ◌%◌, ◌<◌, ◌≤◌, ap, arith, refl, subst, sym, ◌∙◌}, lemmas.Nat.{mod_below}}
+use Rattle.std.proofs.{Common.{◌≡◌, ℕ, ◌+◌, ◌-◌, ◌%◌, ◌<◌, ◌≤◌, ap, arith, subst, sym, ◌∙◌}, lemmas.Nat.{mod_below}}
 use Rattle.std.proofs.lemmas.Result.{err_from_is_err_and}
 use Rattle.std.specs.Prelude.{Result, Ok, Err}
 use Rattle.access_model.specs.declared.errors.GateError.{GateError}
-use Rattle.gate_world.specs.declared.{config.Config.{Config}, operations.Op.TheVariants.{DropWrite, Grow}}
+use Rattle.gate_world.specs.declared.{config.Config.{Config}, operations.Op.TheVariants.{DropWrite}}
 use Rattle.vfs_gates.specs.{Held.{Rests}, Runs.{Performs}, TaskStates.{SeatedTask}}
 use Rattle.vfs_gates.proofs.CallingBack.{none_err}
-use Rattle.gate_runs.specs.{Refusals.{HasWriteAccess}, Counts.{counted, no_writes}, Rounds.{Does, Takes, WriterRound}}
-use Rattle.gate_runs.proofs.{Answering.{gives_back, met}, Keeping.{takes_thaw_none, thaws_none_on, thaws_nothing, writes_thaw_none}}
-use Rattle.gate_runs.proofs.Repeating.{one_more}
+use Rattle.gate_runs.specs.{Refusals.{HasWriteAccess, WriterRefused}, Counts.{counted, no_writes}, Rounds.{Does, Takes, WriterRound}}
+use Rattle.gate_runs.proofs.{Answering.{gives_back}, Keeping.{takes_freeze_none, freezes_none_on, freezes_nothing, writes_freeze_none}}
+use Rattle.gate_runs.proofs.Repeating.{one_more, rounds_of_any}
 use Rattle.gate_runs.proofs.workers.write.Goals as goal
 
 -- write access is given back without a refusal, on a processor that there is
@@ -80,28 +80,28 @@ returns-in_err-grown-clause-rests g c = (given_back c.processor.result c.args.ga
     (ap (λ (d : Config). d.processors) c.requires.planned) c.args.plan.within.processors_from c.processor.ensures)
     c.grow-grown.ensures.from.1 c.grow-grown.ensures.inside c.in_ok-drop_write.ensures).1
 
--- it thaws nothing, whatever it answers
-pub returns-clause-thaws : goal.returns-clause-thaws
-returns-clause-thaws g c = writes_thaw_none (g.W.NotedObserver.meets c.args.watch.now) c.args.plan.processors c.args.writer c.loop-round.round
+-- it freezes and thaws nothing, whatever it answers
+pub returns-clause-freezes : goal.returns-clause-freezes
+returns-clause-freezes g c = writes_freeze_none (g.W.NotedObserver.meets c.args.watch.now) c.args.plan.processors c.args.writer c.loop-round.round
     (c.args.task.now, c.args.notes.now, no_writes) (c.loop-round.task, c.loop-round.notes, c.loop-round.writes) c.loop-round.invariant.2
 
-pub returns-in_err-denied-clause-thaws : goal.returns-in_err-denied-clause-thaws
-returns-in_err-denied-clause-thaws g c = absurd c.in_err-denied.ensures.granted
+pub returns-in_err-denied-clause-freezes : goal.returns-in_err-denied-clause-freezes
+returns-in_err-denied-clause-freezes g c = absurd c.in_err-denied.ensures.granted
 
-pub returns-in_err-drop_write-clause-thaws : goal.returns-in_err-drop_write-clause-thaws
-returns-in_err-drop_write-clause-thaws g c = absurd (none_err _ (given_back c.processor.result c.args.gates.now.words.config c.grow-grown.new.task c.drop_write.new.self (Err c.in_err-drop_write.field-0.0)
+pub returns-in_err-drop_write-clause-freezes : goal.returns-in_err-drop_write-clause-freezes
+returns-in_err-drop_write-clause-freezes g c = absurd (none_err _ (given_back c.processor.result c.args.gates.now.words.config c.grow-grown.new.task c.drop_write.new.self (Err c.in_err-drop_write.field-0.0)
     (on_processor (c.args.writer + (c.loop-round.round + 1)) c.args.plan.processors c.processor.result c.args.gates.now.words.config
     (ap (λ (d : Config). d.processors) c.requires.planned) c.args.plan.within.processors_from c.processor.ensures)
     c.grow-grown.ensures.from.1 c.grow-grown.ensures.inside c.in_err-drop_write.ensures).0)
 
-pub returns-in_err-grown-clause-thaws : goal.returns-in_err-grown-clause-thaws
-returns-in_err-grown-clause-thaws g c =
-    let so_far = writes_thaw_none (g.W.NotedObserver.meets c.args.watch.now) c.args.plan.processors c.args.writer c.loop-round.round
+pub returns-in_err-grown-clause-freezes : goal.returns-in_err-grown-clause-freezes
+returns-in_err-grown-clause-freezes g c =
+    let so_far = writes_freeze_none (g.W.NotedObserver.meets c.args.watch.now) c.args.plan.processors c.args.writer c.loop-round.round
     (c.args.task.now, c.args.notes.now, no_writes) (c.loop-round.task, c.loop-round.notes, c.loop-round.writes) c.loop-round.invariant.2 in
-    let took = takes_thaw_none c.processor-cpu.result (c.loop-round.task, c.loop-round.writes.waits) (c.want_write.new.task, c.in_ok-denied.waits)
+    let took = takes_freeze_none c.processor-cpu.result (c.loop-round.task, c.loop-round.writes.waits) (c.want_write.new.task, c.in_ok-denied.waits)
     c.in_ok-denied.ensures.took.0 in
-    let gave = thaws_nothing _ (DropWrite 0 c.processor.result) tt c.grow-grown.new.task c.drop_write.new.self _ c.in_ok-drop_write.ensures in
-    thaws_none_on so_far (thaws_none_on took (thaws_none_on c.grow-grown.ensures.thaws gave))
+    let gave = freezes_nothing _ (DropWrite 0 c.processor.result) tt c.grow-grown.new.task c.drop_write.new.self _ c.in_ok-drop_write.ensures in
+    freezes_none_on so_far (freezes_none_on took (freezes_none_on c.grow-grown.ensures.freezes gave))
 
 pub returns-clause-rests : goal.returns-clause-rests
 returns-clause-rests g c = c.loop-round.invariant.1
@@ -117,8 +117,24 @@ returns-in_err-grown-clause-rounds g c =
 pub returns-in_err-grown-clause-refused : goal.returns-in_err-grown-clause-refused
 returns-in_err-grown-clause-refused g c =
     let p = err_from_is_err_and c.from_residual-in_err-grown.result c.from_residual-in_err-grown.ensures.1 in
-    rw (p.1, p.2) (met c.args.gates.now.words.config c.args.plan.tasks (Grow (c.args.writer + 1) 1) _
-    (omega arith, omega (arith, c.requires.writer), refl, c.in_err-grown.ensures.refused.0) c.in_err-grown.ensures.refused.1)
+    let its : WriterRefused c.args.gates.now c.args.plan.tasks c.args.plan.processors c.args.plan.rounds c.in_err-grown.field-0.0 = record {
+      writer = c.args.writer;
+      there = c.requires.writer;
+      begins = c.args.task.now;
+      begun = c.requires.begins;
+      round = c.loop-round.round;
+      fewer = omega (arith, c.rounds-round-end.ensures, c.loop-round-test.true);
+      before = c.loop-round.task;
+      writes = c.loop-round.writes;
+      did = rounds_of_any (g.W.NotedObserver.meets c.args.watch.now) c.args.plan.processors c.args.writer c.loop-round.round
+          (c.args.task.now, c.args.notes.now, no_writes) (c.loop-round.task, c.loop-round.notes, c.loop-round.writes) c.loop-round.invariant.2;
+      held = c.want_write.new.task;
+      waits = c.in_ok-denied.waits;
+      took = subst (λ cpu. Takes cpu (c.loop-round.task, c.loop-round.writes.waits) (c.want_write.new.task, c.in_ok-denied.waits))
+          c.processor-cpu.ensures c.in_ok-denied.ensures.took.0;
+      grow = c.in_err-grown.ensures.refused;
+    } in
+    rw (p.1, p.2) its
 
 pub returns-clause-from : goal.returns-clause-from
 returns-clause-from g c = c.loop-round.invariant.0

@@ -72,11 +72,11 @@ IsReopening (suc i) UpWriteStep.ClearsBlock trace added = AreLeft (suc i) trace 
 IsReopening (suc i) (UpWriteStep.Exits transition) trace added = AreLeft i trace added
 IsReopening zero s trace added = ⊥
 
--- what is answered is told already
 -- what is added where all is frozen: nothing, where it was found so; or stage 4, with the levels closed of a writable superblock
 abbrev frozen_adds : List Traced → List Action
 frozen_adds trace = if found_complete trace then [] else Action.Stage 4 ∷ (if found_sealed trace then [] else all_levels_closed trace)
 
+-- what is answered is told already
 abbrev Answers : Config → Holder → Result Reply GateError → List Traced → List Action → Type 0
 Answers c holder answer trace added = (added ≡ actions_of (Op.Freeze holder) answer trace) × IsHonestAnswer c (Op.Freeze holder) answer trace
 

@@ -1,6 +1,6 @@
 -- Each clause is a lemma on whole schedules.
 use Rattle.gate_schedules.proofs.schedules.{Deadlocks.{whole_progress, whole_replies, whole_settles, whole_kept}, LevelRuns.whole_levels}
-use Rattle.gate_schedules.proofs.schedules.HeadlineProof.{whole_run, whole_moves, whole_nobody, whole_causes, whole_waits, whole_sums, whole_idle, whole_rests}
+use Rattle.gate_schedules.proofs.schedules.HeadlineProof.{whole_run, whole_moves, whole_nobody, whole_frozen, whole_causes, whole_waits, whole_sums, whole_idle, whole_rests}
 use Rattle.gate_schedules.proofs.schedules.HeadlineProof.{whole_freezes, whole_holders, whole_trees, whole_stays, whole_snapshots, whole_operations, whole_leads}
 use Rattle.gate_schedules.proofs.schedules.every_schedule.Goals as goal
 
@@ -12,6 +12,9 @@ returns-clause-run c = whole_run
 
 pub returns-clause-inside : goal.returns-clause-inside
 returns-clause-inside c = whole_nobody
+
+pub returns-clause-frozen : goal.returns-clause-frozen
+returns-clause-frozen c = whole_frozen
 
 pub returns-clause-sums : goal.returns-clause-sums
 returns-clause-sums c = whole_sums

@@ -1,6 +1,8 @@
-use Rattle.std.proofs.Common.{◌≡◌, ◌∙◌, sym, ap, subst, ◌∷◌, Some, Ok, IfSome, false}
-use Rattle.race_files.specs.{Left.{behind, left_in}, Calls.{is_race}, SettingUp.{SetsUp, made_by}}
-use Rattle.race_files.proofs.{Reading.{all_left, one_less}, SettingUp.{no_request, none_yet, one_more}}
+use Rattle.std.proofs.Common.{◌≡◌, ◌∙◌, sym, ap, subst, refl, ◌∷◌, None, Some, Ok, IfSome, false, inr}
+use Rattle.exploration.proofs.Lists.{err_from}
+use Rattle.race_files.specs.{Left.{behind, left_in}, Calls.{is_race}}
+use Rattle.race_files.specs.declared.faults.RaceFault.TheVariants.{Schedule}
+use Rattle.race_files.proofs.{FirstFaults.{at_end, no_request_line, no_word}, Reading.{all_left, one_less}, SettingUp.{no_request, none_yet, one_more, request_done}}
 use Rattle.race_files.proofs.setting_up.do_lines.Goals.{in-Request+in_ok-do_request, in_default-2}
 use Rattle.schedule_text.specs.Parsing.{parsed}
 use Rattle.transcripts.specs.Transcript.{ReplayState, request_outcome}
@@ -23,20 +25,18 @@ loop-line-preserved g c =
           let q : ReplayState = so_far.0 in
           let understood : parsed line (Some q.config.tasks) ≡ Ok c.in_ok-request.field-0 =
           ap (λ n. parsed line (Some n)) (sym (c.tasks.ensures q so_far.2)) ∙ (sym c.parse.ensures ∙ c.in_ok-request.was) in
-          let set_up : SetsUp (Some p) (made_by (Some q) (parsed line (Some q.config.tasks))) (left_in c.args.lines.now)
-          (left_in c.take-in-Some.new.self) = one_more (Some p) (Some q) (left_in c.args.lines.now) left (left_in c.take-in-Some.new.self) line
-          so_far.1 first c.take-in-Some.ensures.left no_race in
           elim c.match-branch-5.branch [
             | in-Request+in_ok-do_request w ↦ (
               (request_outcome q w.in-Request.request).play,
-              subst (λ o. SetsUp (Some p) o (left_in c.args.lines.now) (left_in c.take-in-Some.new.self))
-                  (ap (made_by (Some q)) (understood ∙ ap Ok w.in-Request.is)) set_up,
+              one_more (Some p) (Some q) (Some (request_outcome q w.in-Request.request).play) (left_in c.args.lines.now) left
+                  (left_in c.take-in-Some.new.self) line so_far.1 first c.take-in-Some.ensures.left
+                  (request_done q line w.in-Request.request no_race (understood ∙ ap Ok w.in-Request.is)),
               rw w.session-is (w.in_ok-do_request.ensures.shows q so_far.2),
             )
             | in_default-2 w ↦ (
               q,
-              subst (λ o. SetsUp (Some p) o (left_in c.args.lines.now) (left_in c.take-in-Some.new.self))
-                  (no_request q line c.in_ok-request.field-0 understood w.in_default-2.not-Request) set_up,
+              one_more (Some p) (Some q) (Some q) (left_in c.args.lines.now) left (left_in c.take-in-Some.new.self) line so_far.1 first
+                  c.take-in-Some.ensures.left (no_request q line c.in_ok-request.field-0 no_race understood w.in_default-2.not-Request),
               rw w.session-is so_far.2,
             )
           ];
@@ -54,3 +54,42 @@ returns-then-branch-clause-begin g c =
 
 pub returns-then-branch-clause-made : goal.returns-then-branch-clause-made
 returns-then-branch-clause-made g c = λ p shows. c.loop-line.invariant.made p shows
+
+pub returns-in_err-line-clause-fault : goal.returns-in_err-line-clause-fault
+returns-in_err-line-clause-fault g c = λ p shows.
+    let so_far = c.loop-line.invariant.made p shows in
+    err_from _ (Schedule c.in_err-line.field-0.0) _ c.from_residual.ensures.1
+    (at_end (Some p) (Some so_far.0) _ _ (Some c.in_err-line.field-0.0) _ so_far.1 c.in_err-line.ensures.fault refl)
+
+pub returns-in_err-is_race-clause-fault : goal.returns-in_err-is_race-clause-fault
+returns-in_err-is_race-clause-fault g c = λ p shows.
+    let left = left_in c.loop-line.lines in
+    let line = c.in-Some.line.now in
+    let first : left.lines ≡ line ∷ (behind left).lines =
+    subst (λ found. IfSome found (λ x. left.lines ≡ x.now ∷ (behind left).lines)) c.in-Some.is c.in_ok-line.ensures.some in
+    let so_far = c.loop-line.invariant.made p shows in
+    err_from _ (Schedule c.in_err-is_race.field-0.0) _ c.from_residual-in_err-is_race.ensures.1
+    (no_word (Some p) so_far.0 _ left line c.in_err-is_race.field-0.0 _ so_far.1 first (sym c.in_err-is_race.ensures) refl)
+
+pub returns-in_err-request-clause-fault : goal.returns-in_err-request-clause-fault
+returns-in_err-request-clause-fault g c = λ p shows.
+    let left = left_in c.loop-line.lines in
+    let line = c.in-Some.line.now in
+    let first : left.lines ≡ line ∷ (behind left).lines =
+    subst (λ found. IfSome found (λ x. left.lines ≡ x.now ∷ (behind left).lines)) c.in-Some.is c.in_ok-line.ensures.some in
+    let no_race : is_race line ≡ Ok false = sym c.in_ok-is_race.ensures ∙ ap Ok c.if-branch.false in
+    let so_far = c.loop-line.invariant.made p shows in
+    err_from _ (Schedule c.in_err-request.field-0.0) _ c.from_residual-in_err-request.ensures.1
+    (no_request_line (Some p) so_far.0 _ left line c.in_err-request.field-0.0 _ so_far.1 first no_race
+    (ap (λ n. parsed line (Some n)) (sym (c.tasks.ensures so_far.0 so_far.2)) ∙ (sym c.parse.ensures ∙ c.in_err-request.was)) refl)
+
+pub returns-in_err-do_request-clause-fault : goal.returns-in_err-do_request-clause-fault
+returns-in_err-do_request-clause-fault g c = λ p shows.
+    let so_far = c.loop-line.invariant.made p shows in
+    err_from _ (Schedule c.in_err-do_request.field-0.0) _ c.from_residual-in_err-do_request.ensures.1
+    (inr (ap Schedule (c.in_err-do_request.ensures.memory so_far.0 so_far.2)))
+
+pub returns-clause-fault : goal.returns-clause-fault
+returns-clause-fault g c = λ p shows.
+    let so_far = c.loop-line.invariant.made p shows in
+    at_end (Some p) (Some so_far.0) _ _ None _ so_far.1 (c.in_ok-line.ensures.none (ap Ok c.in_default.is)) refl

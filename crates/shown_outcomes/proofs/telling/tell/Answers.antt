@@ -22,7 +22,7 @@ returns-clause-some g c = λ less.
     let is = is_part _ _ _ _ c.is_whole.ensures c.in_ok-listing.ensures.table.lengths less in
     tells_some c.args.plan.method c.args.core c.args.source.calls.now.race.tasks c.args.source.calls.now.race.calls.items c.args.plan.limit asked
     listing.all.found.states listing.outcomes.items c.args.out.now.bytes.items c.tell_listed.new.out.bytes.items
-    (c.in_ok-listing.ensures.too_many less) c.in_ok-listing.ensures.so_far c.in_ok-listing.ensures.each
+    (c.in_ok-listing.ensures.too_many less) c.in_ok-listing.ensures.so_far (c.in_ok-listing.ensures.settled less) c.in_ok-listing.ensures.each
     (subst (λ (b : Bool). TellsListed (mark_of asked.schedules) (margin_of asked.schedules) (AsksNone asked)
     (head_text b c.args.plan.limit (length listing.all.found.states) (length listing.outcomes.items)) listing.outcomes.items
     c.args.out.now.bytes.items c.tell_listed.new.out.bytes.items) is c.in_ok-tell_listed.ensures)

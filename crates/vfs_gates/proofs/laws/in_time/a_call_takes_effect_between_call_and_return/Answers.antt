@@ -1,6 +1,10 @@
--- the law is a lemma
+-- both are lemmas
 use Rattle.gate_steps.proofs.call_events.Effects.{call_effect}
+use Rattle.vfs_gates.proofs.call_laws.NothingAdded.{was_so}
 use Rattle.vfs_gates.proofs.laws.in_time.a_call_takes_effect_between_call_and_return.Goals as goal
 
-pub returns : goal.returns
-returns c = call_effect
+pub returns-clause-actions : goal.returns-clause-actions
+returns-clause-actions c = call_effect
+
+pub returns-clause-nothing : goal.returns-clause-nothing
+returns-clause-nothing c = was_so

@@ -1,0 +1,400 @@
+-- An operation that meets what a lost task has left never has its reply.
+use Rattle.std.proofs.Common.{None, Option}
+use Rattle.access_model.specs.declared.errors.GateError.{GateError}
+use Rattle.std.proofs.lemmas.Bool.{cases_lt, eq-eqb, ltb-false}
+use Rattle.std.proofs.Common.{◌≡◌, ℕ, suc, ◌<◌, ◌≤◌, Bool, true, false, true≢false, refl, sym, ap, ◌∙◌, inl, inr, subst, arith, List, [], ◌∷◌}
+use Rattle.std.proofs.lemmas.Bool.{cases_Bool, ne_eqb, Decides.eqb_tells}
+use Rattle.std.specs.Prelude.{◌==◌, ◌%◌, ◌+◌, ◌&&◌, if◌then◌else◌, ◌⊎◌, Some, is_some, nat_lt}
+use Rattle.access_model.specs.{declared.{replies.Next.Next}}
+use Rattle.cpu_words.specs.{Hooks.HookAnswer, Sums.lead, Touches.{found_by, wrap_add}, Words.{Words, read}}
+use Rattle.cpu_words.specs.gate_counts.{Gates.{Barring, BarringHolds, admitted, unread}, Levels.{barring_of, level_as_gate}}
+use Rattle.finite_sums.{proofs.Totals.total_at, specs.Sums.total}
+use Rattle.percpu_rwsem.specs.{Callbacks.{callback_after, callback_looked, callback_next}, Graces.{is_first, looked, passed_on}, Writers.{down_write_after, down_write_next, sections_awaited}}
+use Rattle.percpu_rwsem.specs.declared.{callbacks.{Callback.Callback, CallbackStep.CallbackStep}, grace.{Grace.Grace, GraceNext.GraceNext}}
+use Rattle.percpu_rwsem.specs.declared.writers.{DownWrite.DownWrite, DownWriteStep.DownWriteStep}
+use Rattle.gate_world.specs.{Holdings.Holdings, Roles.{count_beside, down_count_role, freeze_position, position_count}}
+use Rattle.gate_schedules.proofs.levels.Counts.{held_bit}
+use Rattle.composite_ops.specs.{file_closes.Phases.then_frees, write_access.Phases.{then_gives_back, then_wants}}
+use Rattle.composite_ops.specs.declared.{file_closes.phases.ClosePhase.ClosePhase, write_access.phases.WritePhase.WritePhase}
+use Rattle.freeze_laws.specs.levels.Roles.{closed}
+use Rattle.freeze_levels.specs.{Freezes.{after_closing, freeze_after, freeze_next}, Thaws.{thaw_after, thaw_next}}
+use Rattle.freeze_levels.specs.declared.{freezes.{Freeze.Freeze, FreezeStep.FreezeStep}, thaws.{Thaw.Thaw, ThawStep.ThawStep}}
+use Rattle.gated_tree.specs.{Phases.{snapshot_after, snapshot_locked_out, snapshot_next}, declared.{phases.TreePhase.TreePhase, snapshots.{Snapshot.Snapshot, SnapshotStep.SnapshotStep}}}
+use Rattle.mount_counts.specs.{Phases.{change_after, change_next, has_flag, hold_found, lock_failed, want_after, want_next}, Remounts.{remount_after, remount_next}, Roles.has_hold}
+use Rattle.mount_counts.specs.declared.phases.{Change.Change, ChangeStep.ChangeStep, MountPhase.MountPhase, Want.Want, WantStep.WantStep}
+use Rattle.mount_counts.specs.declared.remounts.{Remount.Remount, RemountStep.RemountStep}
+use Rattle.percpu_rwsem.specs.{Readers.{down_read_after, down_read_next, step_found}}
+use Rattle.percpu_rwsem.specs.declared.readers.{DownRead.DownRead}
+use Rattle.gate_world.specs.{Beginnings.refusal, Configs.IsWithin, Fits.{DownWriteStepFits, FreezeFits, PhaseFits}, Levels.{at_level, inside, is_frozen_whole, level_role_of, sync_role_of}}
+use Rattle.gate_world.specs.{Rules.{AtLevel, IsGood, LevelHoldsIn, Sections, SyncAt, SyncHoldsIn, owns, role_of}}
+use Rattle.gate_world.specs.{Views.{held_of, holds_level, phase_after}, Work.after_of, Worlds.{World, after_step, begin_of, begin_refusal, words_after, found_at, happens, run, task_of}}
+use Rattle.gate_world.specs.declared.{config.Config.Config, entries.Entry.{Entry, TheVariants.{Begins, Steps}}, operations.Op.Op, views.View.View, work.Phase.Phase}
+use Rattle.gate_schedules.proofs.{levels.Facts.blocked_slow, operations.deadlocks.{BlockedStarts.{StaysKept, start_stays}, RankDecreases.{happens_is, stands_after}}}
+use Rattle.gate_schedules.proofs.{operations.deadlocks.WhoCanStep.fits_at, schedules.Schedule.happens_keeps}
+use Rattle.gate_schedules.specs.operations.Progress.{is_admitted}
+use Rattle.progress_laws.specs.{LostTasks.HoldIsLost, LostForEver.{AreOfOthers, LevelIsLost, LockIsLost, MeetsAtCallback, MeetsAtClosing, MeetsAtFreeze, MeetsHold, MeetsLevel, MeetsLost, MeetsSection, NeverReplies}}
+use Rattle.progress_laws.proofs.{LostStays.{same_entry, words_tell}, NobodyReplies.{GoesOnKept, goes_as, start_section}, Levels.lead_last, Rounds.{absent_is, idle_is}}
+
+abbrev is_start : Phase → Bool
+is_start (Phase.DownReads r) = true
+is_start (Phase.Writes (WritePhase.Takes m r)) = true
+is_start (Phase.Closes (ClosePhase.Enters f node r)) = true
+is_start p = false
+
+-- what comes after a step that meets it
+hold_goes : (w : Words) (x : Want) (s : WantStep) → s ≡ WantStep.LoadsHold → x.wait ≡ true → has_flag (w.flags x.mount) 2 ≡ true →
+    GoesOnKept (λ (y : Want). (y.step ≡ WantStep.LoadsHold) × (y.wait ≡ true) × (y.mount ≡ x.mount))
+    (want_after x s (found_by (want_next x s).1 (read w (want_next x s).0))).0
+hold_goes w x s at wait set = subst (λ s. GoesOnKept (λ (y : Want). (y.step ≡ WantStep.LoadsHold) × (y.wait ≡ true) × (y.mount ≡ x.mount))
+    (want_after x s (found_by (want_next x s).1 (read w (want_next x s).0))).0) (sym at) here
+  where
+    here : GoesOnKept (λ (y : Want). (y.step ≡ WantStep.LoadsHold) × (y.wait ≡ true) × (y.mount ≡ x.mount))
+        (want_after x WantStep.LoadsHold (w.flags x.mount)).0
+    here = rw set (held x.wait wait)
+      where
+        held : (b : Bool) → b ≡ true → GoesOnKept (λ (y : Want). (y.step ≡ WantStep.LoadsHold) × (y.wait ≡ true) × (y.mount ≡ x.mount)) (hold_found x b)
+        held b e = rw e (refl, wait, refl)
+
+taken : (w : Words) (y : ℕ) → w.umount ≡ suc y → (w.umount == 0) ≡ false
+taken w y is = ne_eqb w.umount 0 (λ e. omega (arith, e, is))
+
+change_goes : (w : Words) (x : Change) (s : ChangeStep) → s ≡ ChangeStep.Locks → x.wait ≡ true → (w.umount == 0) ≡ false →
+    GoesOnKept (λ (y : Change). (y.step ≡ ChangeStep.Locks) × (y.wait ≡ true))
+    (change_after x s (found_by (change_next x s).1 (read w (change_next x s).0))).0
+change_goes w x s at wait z =
+    subst (λ s. GoesOnKept (λ (y : Change). (y.step ≡ ChangeStep.Locks) × (y.wait ≡ true))
+    (change_after x s (found_by (change_next x s).1 (read w (change_next x s).0))).0) (sym at) (rw z (failed x.wait wait))
+  where
+    failed : (b : Bool) → b ≡ true → GoesOnKept (λ (y : Change). (y.step ≡ ChangeStep.Locks) × (y.wait ≡ true)) (lock_failed x b)
+    failed b e = rw e (refl, wait)
+
+remount_goes : (w : Words) (x : Remount) (s : RemountStep) (hook : HookAnswer) → s ≡ RemountStep.Locks → (w.umount == 0) ≡ false →
+    GoesOnKept (λ (y : Remount). y.step ≡ RemountStep.Locks)
+    (remount_after x s (found_by (remount_next x s hook).1 (read w (remount_next x s hook).0)) hook).0
+remount_goes w x s hook at z =
+    subst (λ s. GoesOnKept (λ (y : Remount). y.step ≡ RemountStep.Locks)
+    (remount_after x s (found_by (remount_next x s hook).1 (read w (remount_next x s hook).0)) hook).0) (sym at) (rw z refl)
+
+thaw_goes : (w : Words) (x : Thaw) (s : ThawStep) (hook : HookAnswer) → s ≡ ThawStep.Locks → (w.umount == 0) ≡ false →
+    GoesOnKept (λ (y : Thaw). y.step ≡ ThawStep.Locks) (thaw_after x s (found_by (thaw_next x s hook).1 (read w (thaw_next x s hook).0)) hook).0
+thaw_goes w x s hook at z =
+    subst (λ s. GoesOnKept (λ (y : Thaw). y.step ≡ ThawStep.Locks)
+    (thaw_after x s (found_by (thaw_next x s hook).1 (read w (thaw_next x s hook).0)) hook).0) (sym at) (rw z refl)
+
+snapshot_goes : (w : Words) (x : Snapshot) (s : SnapshotStep) → s ≡ SnapshotStep.Locks → x.wait ≡ true → (w.umount == 0) ≡ false →
+    GoesOnKept (λ (y : Snapshot). (y.step ≡ SnapshotStep.Locks) × (y.wait ≡ true))
+    (snapshot_after x s (found_by (snapshot_next x s).1 (read w (snapshot_next x s).0))).0
+snapshot_goes w x s at wait z =
+    subst (λ s. GoesOnKept (λ (y : Snapshot). (y.step ≡ SnapshotStep.Locks) × (y.wait ≡ true))
+    (snapshot_after x s (found_by (snapshot_next x s).1 (read w (snapshot_next x s).0))).0) (sym at) (rw z (failed x.wait wait))
+  where
+    failed : (b : Bool) → b ≡ true → GoesOnKept (λ (y : Snapshot). (y.step ≡ SnapshotStep.Locks) × (y.wait ≡ true)) (snapshot_locked_out x b)
+    failed b e = rw e (refl, wait)
+
+-- a step of another task leaves a section word, but its own
+plain_section : (w : Words) (p : Phase) (hook : HookAnswer) → is_start p ≡ false → (words_after w p hook).section ≡ w.section
+plain_section w p hook out = grind arith
+
+section_still : (c : Config) (w : Words) (t : ℕ) (held : Holdings) (p : Phase) (hook : HookAnswer) → PhaseFits c t held p → (y : ℕ) → (y ≡ t → ⊥) →
+    (words_after w p hook).section y ≡ w.section y
+section_still c w t held (Phase.DownReads r) hook f y ne = start_section w r r.step y (λ e. ne (e ∙ f.3))
+section_still c w t held (Phase.Writes (WritePhase.Takes m r)) hook f y ne = start_section w r r.step y (λ e. ne (e ∙ f.0.3))
+section_still c w t held (Phase.Closes (ClosePhase.Enters n node r)) hook f y ne = start_section w r r.step y (λ e. ne (e ∙ f.2.3))
+section_still c w t held p hook f y ne = ap (λ g. g y) (plain_section w p hook refl)
+
+-- one that is kept so goes on, in whatever phases it stands
+kept_more : {P : Type 0} (A B : P → Type 0) → ((x : P) → A x → B x) → (next : Next P) → GoesOnKept A next → GoesOnKept B next
+kept_more A B f (Next.Go x) h = f x h
+kept_more A B f (Next.Wait x) h = f x h
+kept_more A B f (Next.Done answer) h = absurd h
+
+start_more : (r : DownRead) (B : DownRead → Type 0) →
+    ((x : DownRead) → (x.wait ≡ true) × (is_admitted x.step ≡ false) × (x.level ≡ r.level) → B x) → (next : Next DownRead) → StaysKept r next →
+    GoesOnKept B next
+start_more r B f (Next.Go x) h = f x h
+start_more r B f (Next.Wait x) h = f x h
+start_more r B f (Next.Done answer) h = absurd h
+
+-- a look that finds the task in its section again
+abbrev LooksOn : World → Grace → GraceNext → Type 0
+LooksOn w g (GraceNext.Wait q) = q ≡ record { tasks = g.tasks; task = g.task; first = Some (w.words.section g.task) }
+LooksOn w g other = ⊥
+
+module _ (c : Config) (lim : IsWithin c) (lost : ℕ → Bool) where
+  -- what is lost in a world is lost in a later one with the same views of lost tasks
+  abbrev SameLost : World → World → Type 0
+  SameLost w next = (y : ℕ) → lost y ≡ true → (next.views y ≡ w.views y) × (next.words.section y ≡ w.words.section y)
+
+  lock_later : (w next : World) → SameLost w next → LockIsLost c lost w → LockIsLost c lost next
+  lock_later w next same (y, ly, dead, own) = (y, ly, dead, ap (λ (v : View). owns v.phase) (same y dead).0 ∙ own)
+
+  hold_later : (w next : World) → SameLost w next → (m : ℕ) → HoldIsLost c lost w m → HoldIsLost c lost next m
+  hold_later w next same m (y, ly, dead, has) = (y, ly, dead, ap (λ (v : View). has_hold (role_of m v.phase)) (same y dead).0 ∙ has)
+
+  level_later : (w next : World) → SameLost w next → (i : ℕ) → LevelIsLost c lost w i → LevelIsLost c lost next i
+  level_later w next same i (y, ly, dead, shut) = (y, ly, dead, ap (λ (v : View). closed (sync_role_of i v.phase)) (same y dead).0 ∙ shut)
+
+  section_later : (w next : World) → SameLost w next → (g : Grace) → MeetsSection c lost w g → MeetsSection c lost next g
+  section_later w next same g ((ly, dead, in_), first) = (
+    (ly, dead, ap (λ (v : View). inside v.phase) (same g.task dead).0 ∙ in_),
+    elim first [
+      | inl none ↦ inl none
+      | inr some ↦ inr (some ∙ ap Some (sym (same g.task dead).1))
+    ],
+  )
+
+  closing_later : (w next : World) → SameLost w next → (d : DownWrite) (s : DownWriteStep) → MeetsAtClosing c lost w d s → MeetsAtClosing c lost next d s
+  closing_later w next same d (DownWriteStep.AwaitsSections g) h = section_later w next same g h
+  closing_later w next same d (DownWriteStep.Sums sum) (y, ly, dead, is) =
+      (y, ly, dead, ap (λ (v : View). holds_level v d.level) (same y dead).0 ∙ is)
+  closing_later w next same d s h = absurd h
+
+  freeze_later : (w next : World) → SameLost w next → (s : FreezeStep) → MeetsAtFreeze c lost w s → MeetsAtFreeze c lost next s
+  freeze_later w next same FreezeStep.Locks h = lock_later w next same h
+  freeze_later w next same FreezeStep.LocksAgain h = lock_later w next same h
+  freeze_later w next same (FreezeStep.Closes d) h = closing_later w next same d d.step h
+  freeze_later w next same s h = absurd h
+
+  callback_later : (w next : World) → SameLost w next → (s : CallbackStep) → MeetsAtCallback c lost w s → MeetsAtCallback c lost next s
+  callback_later w next same (CallbackStep.AwaitsSections g) h = section_later w next same g h
+  callback_later w next same s h = absurd h
+
+  meets_later : (w next : World) → SameLost w next → (p : Phase) → MeetsLost c lost w p → MeetsLost c lost next p
+  meets_later w next same (Phase.Mounts (MountPhase.Want x)) h = (h.0, h.1, hold_later w next same x.mount h.2)
+  meets_later w next same (Phase.Mounts (MountPhase.Change x)) h = (h.0, h.1, lock_later w next same h.2)
+  meets_later w next same (Phase.Remounts x) h = (h.0, lock_later w next same h.1)
+  meets_later w next same (Phase.DownReads r) h = (h.0, h.1, level_later w next same r.level h.2)
+  meets_later w next same (Phase.Writes (WritePhase.Takes m r)) h = (h.0, h.1, level_later w next same r.level h.2)
+  meets_later w next same (Phase.Writes (WritePhase.Wants x)) h = (h.0, h.1, hold_later w next same x.mount h.2)
+  meets_later w next same (Phase.Freezes x) h = freeze_later w next same x.step h
+  meets_later w next same (Phase.Callbacks b) h = callback_later w next same b.step h
+  meets_later w next same (Phase.Thaws x) h = (h.0, lock_later w next same h.1)
+  meets_later w next same (Phase.Trees (TreePhase.Snapshot x)) h = (h.0, h.1, lock_later w next same h.2)
+  meets_later w next same (Phase.Closes (ClosePhase.Enters f node r)) h = (h.0, h.1, level_later w next same r.level h.2)
+  meets_later w next same p h = absurd h
+
+  module _ (w : World) (good : IsGood c w) where
+    lock_there : LockIsLost c lost w → (w.words.umount == 0) ≡ false
+    lock_there (y, ly, dead, own) = taken w.words y ((words_tell c lim w good y ly).lock own)
+
+    hold_there : (m : ℕ) → m < c.mounts → HoldIsLost c lost w m → has_flag (w.words.flags m) 2 ≡ true
+    hold_there m lm (y, ly, dead, has) = (words_tell c lim w good y ly).hold m lm has
+
+    start_there : (r : DownRead) → 1 ≤ r.level → r.level ≤ 3 → MeetsLevel c lost w r →
+        GoesOnKept (MeetsLevel c lost w) (down_read_after r r.step (found_by (down_read_next r r.step).1 (read w.words (down_read_next r r.step).0))).0
+    start_there r one three (wait, out, (y, ly, dead, shut)) =
+        let set : w.words.block r.level ≡ 1 = (words_tell c lim w good y ly).level r.level one three shut in
+        let s : SyncHoldsIn c w r.level = good (SyncAt r.level) one three in
+        start_more r (MeetsLevel c lost w)
+        (λ x h. (h.0, h.1, (y, ly, dead, ap (λ i. closed (sync_role_of i (w.views y).phase)) h.2 ∙ shut)))
+        (down_read_after r r.step (found_by (down_read_next r r.step).1 (read w.words (down_read_next r r.step).0))).0
+        (start_stays w.words r wait set (ap step_found s.packed ∙
+        blocked_slow c.tasks s.word (w.words.block r.level) (is_frozen_whole w.words) w.words.section
+        (λ u. sync_role_of r.level (w.views u).phase) s.holds set) r.step out)
+
+    hold_at : (x : Want) → x.mount < c.mounts → MeetsHold c lost w x →
+        GoesOnKept (MeetsHold c lost w) (want_after x x.step (found_by (want_next x x.step).1 (read w.words (want_next x x.step).0))).0
+    hold_at x lm (at, wait, by) =
+        kept_more (λ (y : Want). (y.step ≡ WantStep.LoadsHold) × (y.wait ≡ true) × (y.mount ≡ x.mount)) (MeetsHold c lost w)
+        (λ y h. (h.0, h.1, subst (HoldIsLost c lost w) (sym h.2) by)) _ (hold_goes w.words x x.step at wait (hold_there x.mount lm by))
+
+    -- a look at a lost task's section
+    look_there : (g : Grace) → MeetsSection c lost w g → LooksOn w g (looked g (w.words.section g.task))
+    look_there g ((ly, dead, in_), first) =
+        let odd : (w.words.section g.task % 2 == 1) ≡ true = eq-eqb (w.words.section g.task % 2) 1 (good Sections g.task ly ∙ in_) in
+        rw odd (by_first g.first first)
+      where
+        by_first : (o : Option ℕ) → (o ≡ None) ⊎ (o ≡ Some (w.words.section g.task)) →
+            LooksOn w g (if true && is_first o (w.words.section g.task)
+            then GraceNext.Wait (record { tasks = g.tasks; task = g.task; first = Some (w.words.section g.task) }) else passed_on g)
+        by_first o (inl none) = rw none refl
+        by_first o (inr some) = rw (some, eq-eqb (w.words.section g.task) (w.words.section g.task) refl) refl
+
+    seen : (g : Grace) → MeetsSection c lost w g → MeetsSection c lost w (record { tasks = g.tasks; task = g.task; first = Some (w.words.section g.task) })
+    seen g h = (h.0, inr refl)
+
+    callback_there : (b : Callback) (s : CallbackStep) → MeetsAtCallback c lost w s →
+        GoesOnKept (λ (y : Callback). MeetsAtCallback c lost w y.step)
+        (callback_after b s (found_by (callback_next b s).1 (read w.words (callback_next b s).0))).0
+    callback_there b (CallbackStep.AwaitsSections g) h = looks (looked g (w.words.section g.task)) (look_there g h)
+      where
+        looks : (next : GraceNext) → LooksOn w g next → GoesOnKept (λ (y : Callback). MeetsAtCallback c lost w y.step) (callback_looked b next)
+        looks (GraceNext.Wait q) is = subst (λ (q : Grace). MeetsSection c lost w q) (sym is) (seen g h)
+        looks other is = absurd is
+    callback_there b s h = absurd h
+
+    closing_there : (t : ℕ) → t < c.tasks → (d : DownWrite) (s : DownWriteStep) → 1 ≤ d.level → d.level ≤ 3 → d.processors ≡ c.processors →
+        DownWriteStepFits c s → level_role_of d.level (w.views t).phase ≡ down_count_role s → MeetsAtClosing c lost w d s →
+        GoesOnKept (λ (y : DownWrite). MeetsAtClosing c lost w y y.step)
+        (down_write_after d s (found_by (down_write_next d s).1 (read w.words (down_write_next d s).0))).0
+    closing_there t lt d (DownWriteStep.AwaitsSections g) one three processors fits role h =
+        looks (looked g (w.words.section g.task)) (look_there g h)
+      where
+        looks : (next : GraceNext) → LooksOn w g next → GoesOnKept (λ (y : DownWrite). MeetsAtClosing c lost w y y.step) (sections_awaited d next)
+        looks (GraceNext.Wait q) is = subst (λ (q : Grace). MeetsSection c lost w q) (sym is) (seen g h)
+        looks other is = absurd is
+    closing_there t lt d (DownWriteStep.Sums sum) one three processors fits role (y, ly, dead, is) =
+        let l : LevelHoldsIn c w d.level = good (AtLevel d.level) one three in
+        let b : BarringHolds c.processors (w.words.level d.level) (total c.tasks (λ x. admitted (level_as_gate (at_level d.level (w.views x)))))
+        (λ n. total c.tasks (λ x. unread n (level_as_gate (at_level d.level (w.views x))))) (Barring.Reading sum.words sum.total) =
+        subst (λ r. BarringHolds c.processors (w.words.level d.level) (total c.tasks (λ x. admitted (level_as_gate (at_level d.level (w.views x)))))
+        (λ n. total c.tasks (λ x. unread n (level_as_gate (at_level d.level (w.views x))))) (barring_of r)) role (l.gate.sums t lt) in
+        let e : held_bit (holds_level (w.views y) d.level) ≡ held_bit true = ap held_bit is in
+        let some : 1 ≤ total c.tasks (λ x. admitted (level_as_gate (at_level d.level (w.views x)))) =
+        omega (arith, e, total_at c.tasks y (λ x. admitted (level_as_gate (at_level d.level (w.views x)))) ly) in
+        elim (cases_Bool (nat_lt (sum.words + 1) d.processors)) [
+          | inl h ↦ rw h (y, ly, dead, is)
+          | inr h ↦
+              let last : wrap_add sum.total (w.words.level d.level sum.words) ≡ lead d.processors (w.words.level d.level) sum.words sum.total =
+              lead_last d.processors (w.words.level d.level) sum.words sum.total (omega (arith, fits, processors))
+              (ltb-false (sum.words + 1) d.processors h) in
+              let z : (wrap_add sum.total (w.words.level d.level sum.words) == 0) ≡ false =
+              ne_eqb _ 0 (λ q. omega (arith, q, last, ap (λ p. lead p (w.words.level d.level) sum.words sum.total) processors, b, some)) in
+              rw (h, z) (y, ly, dead, is)
+        ]
+    closing_there t lt d s one three processors fits role h = absurd h
+
+    freeze_there : (t : ℕ) → t < c.tasks → (x : Freeze) (hook : HookAnswer) (s : FreezeStep) → FreezeFits c x.holder s →
+        ((i : ℕ) → level_role_of i (w.views t).phase ≡ position_count i (freeze_position s)) → MeetsAtFreeze c lost w s →
+        GoesOnKept (λ (y : Freeze). MeetsAtFreeze c lost w y.step)
+        (freeze_after x s (found_by (freeze_next x s hook).1 (read w.words (freeze_next x s hook).0)) hook).0
+    freeze_there t lt x hook FreezeStep.Locks fits role h = rw (lock_there h) h
+    freeze_there t lt x hook FreezeStep.LocksAgain fits role h = rw (lock_there h) h
+    freeze_there t lt x hook (FreezeStep.Closes d) fits role h =
+        closes (down_write_after d d.step (found_by (down_write_next d d.step).1 (read w.words (down_write_next d d.step).0))).0
+        (closing_there t lt d d.step fits.0 fits.1 fits.3 fits.4
+        (role d.level ∙ ap (λ b. count_beside b (nat_lt d.level d.level) (down_count_role d.step)) (eq-eqb d.level d.level refl)) h)
+      where
+        closes : (next : Next DownWrite) → GoesOnKept (λ (y : DownWrite). MeetsAtClosing c lost w y y.step) next →
+            GoesOnKept (λ (y : Freeze). MeetsAtFreeze c lost w y.step) (after_closing x d.level next)
+        closes (Next.Go y) k = k
+        closes (Next.Wait y) k = k
+        closes (Next.Done answer) k = absurd k
+    freeze_there t lt x hook s fits role h = absurd h
+
+    -- its own step leaves it where it meets the same
+    step_meets : (t : ℕ) → t < c.tasks → (hook : HookAnswer) (p : Phase) → (w.views t).phase ≡ Some p → PhaseFits c t (held_of (w.views t)) p → MeetsLost c lost w p →
+        GoesOnKept (MeetsLost c lost w) (after_of p (found_at w.words p hook) hook).0
+    step_meets t lt hook (Phase.Mounts (MountPhase.Want x)) at f h =
+        goes_as Phase.Mounts (MeetsLost c lost w) _ (goes_as MountPhase.Want (λ y. MeetsLost c lost w (Phase.Mounts y)) _ (hold_at x f.0 h))
+    step_meets t lt hook (Phase.Mounts (MountPhase.Change x)) at f h =
+        goes_as Phase.Mounts (MeetsLost c lost w) _ (goes_as MountPhase.Change (λ y. MeetsLost c lost w (Phase.Mounts y)) _
+        (kept_more (λ (y : Change). (y.step ≡ ChangeStep.Locks) × (y.wait ≡ true)) (λ (y : Change). MeetsLost c lost w (Phase.Mounts (MountPhase.Change y)))
+        (λ y k. (k.0, k.1, h.2)) _ (change_goes w.words x x.step h.0 h.1 (lock_there h.2))))
+    step_meets t lt hook (Phase.Remounts x) at f h =
+        goes_as Phase.Remounts (MeetsLost c lost w) _
+        (kept_more (λ (y : Remount). y.step ≡ RemountStep.Locks) (λ (y : Remount). MeetsLost c lost w (Phase.Remounts y)) (λ y k. (k, h.1)) _
+        (remount_goes w.words x x.step hook h.0 (lock_there h.1)))
+    step_meets t lt hook (Phase.DownReads r) at f h = goes_as Phase.DownReads (MeetsLost c lost w) _ (start_there r f.0 f.1 h)
+    step_meets t lt hook (Phase.Writes (WritePhase.Takes m r)) at f h =
+        goes_as Phase.Writes (MeetsLost c lost w) _ (takes _ (start_there r f.0.0 f.0.1 h))
+      where
+        takes : (next : Next DownRead) → GoesOnKept (MeetsLevel c lost w) next →
+            GoesOnKept (λ (y : WritePhase). MeetsLost c lost w (Phase.Writes y)) (then_wants m r.cpu next)
+        takes (Next.Go x) k = k
+        takes (Next.Wait x) k = k
+        takes (Next.Done answer) k = absurd k
+    step_meets t lt hook (Phase.Writes (WritePhase.Wants x)) at f h = goes_as Phase.Writes (MeetsLost c lost w) _ (wants _ (hold_at x f.0.0 h))
+      where
+        wants : (next : Next Want) → GoesOnKept (MeetsHold c lost w) next →
+            GoesOnKept (λ (y : WritePhase). MeetsLost c lost w (Phase.Writes y)) (then_gives_back x.mount x.cpu next)
+        wants (Next.Go y) k = k
+        wants (Next.Wait y) k = k
+        wants (Next.Done answer) k = absurd k
+    step_meets t lt hook (Phase.Freezes x) at f h =
+        goes_as Phase.Freezes (MeetsLost c lost w) _ (freeze_there t lt x hook x.step f.5 (λ i. ap (level_role_of i) at) h)
+    step_meets t lt hook (Phase.Callbacks b) at f h = goes_as Phase.Callbacks (MeetsLost c lost w) _ (callback_there b b.step h)
+    step_meets t lt hook (Phase.Thaws x) at f h =
+        goes_as Phase.Thaws (MeetsLost c lost w) _
+        (kept_more (λ (y : Thaw). y.step ≡ ThawStep.Locks) (λ (y : Thaw). MeetsLost c lost w (Phase.Thaws y)) (λ y k. (k, h.1)) _
+        (thaw_goes w.words x x.step hook h.0 (lock_there h.1)))
+    step_meets t lt hook (Phase.Trees (TreePhase.Snapshot x)) at f h =
+        goes_as Phase.Trees (MeetsLost c lost w) _ (goes_as TreePhase.Snapshot (λ y. MeetsLost c lost w (Phase.Trees y)) _
+        (kept_more (λ (y : Snapshot). (y.step ≡ SnapshotStep.Locks) × (y.wait ≡ true))
+        (λ (y : Snapshot). MeetsLost c lost w (Phase.Trees (TreePhase.Snapshot y)))
+        (λ y k. (k.0, k.1, h.2)) _ (snapshot_goes w.words x x.step h.0 h.1 (lock_there h.2))))
+    step_meets t lt hook (Phase.Closes (ClosePhase.Enters n node r)) at f h =
+        goes_as Phase.Closes (MeetsLost c lost w) _ (enters _ (start_there r f.2.0 f.2.1 h))
+      where
+        enters : (next : Next DownRead) → GoesOnKept (MeetsLevel c lost w) next →
+            GoesOnKept (λ (y : ClosePhase). MeetsLost c lost w (Phase.Closes y)) (then_frees n node r.cpu next)
+        enters (Next.Go x) k = k
+        enters (Next.Wait x) k = k
+        enters (Next.Done answer) k = absurd k
+    step_meets t lt hook p at f h = absurd h
+
+  not_begun : (w : World) (u : ℕ) (op : Op) (p : Phase) → (w.views u).phase ≡ Some p → happens c w (Begins u op) ≡ w
+  not_begun w u op p at =
+      elim (cases_Bool (nat_lt u c.tasks)) [
+        | inl h ↦ rw h (ap (λ o. begin_of c w u op (refusal c (is_some o) (held_of (w.views u)) op)) at)
+        | inr h ↦ rw h refl
+      ]
+
+  -- where an operation stands after an entry, and that it meets the same there
+  abbrev MeetsAt : World → ℕ → Type 0
+  MeetsAt w t = (p : Phase) × ((w.views t).phase ≡ Some p) × MeetsLost c lost w p
+
+  own_step : (w : World) → IsGood c w → (t : ℕ) → t < c.tasks → (p : Phase) → (w.views t).phase ≡ Some p → (hook : HookAnswer) →
+      SameLost w (after_step w t p hook) → (coming : Next Phase) → ((after_step w t p hook).views t).phase ≡ phase_after coming →
+      GoesOnKept (MeetsLost c lost w) coming → MeetsAt (after_step w t p hook) t
+  own_step w good t lt p at hook same (Next.Go q) here k = (q, here, meets_later w (after_step w t p hook) same q k)
+  own_step w good t lt p at hook same (Next.Wait q) here k = (q, here, meets_later w (after_step w t p hook) same q k)
+  own_step w good t lt p at hook same (Next.Done answer) here k = absurd k
+
+  -- an entry of another task leaves a lost one's view, and its section
+  section_entry : (w : World) → IsGood c w → (e : Entry) (y : ℕ) → (y ≡ task_of e → ⊥) → (happens c w e).words.section y ≡ w.words.section y
+  section_entry w good (Begins u op) y ne = begun (begin_refusal c w u op)
+    where
+      begun : (refused : Option GateError) → (begin_of c w u op refused).words.section y ≡ w.words.section y
+      begun None = refl
+      begun (Some refused) = refl
+  section_entry w good (Steps u hook) y ne =
+      elim (cases_lt u c.tasks) [
+        | inl lu ↦ stepped lu (w.views u).phase refl
+        | inr ge ↦ ap (λ (v : World). v.words.section y) (absent_is c lim lost w u ge hook)
+      ]
+    where
+      stepped : u < c.tasks → (o : Option Phase) → (w.views u).phase ≡ o → (happens c w (Steps u hook)).words.section y ≡ w.words.section y
+      stepped lu None at = ap (λ (v : World). v.words.section y) (idle_is c lim lost w u lu hook at)
+      stepped lu (Some p) at =
+          ap (λ (v : World). v.words.section y) (happens_is c w u lu hook p at) ∙
+          section_still c w.words u (held_of (w.views u)) p hook (fits_at c w good u lu p at) y ne
+
+  same_lost : (w : World) → IsGood c w → (e : Entry) → lost (task_of e) ≡ false → SameLost w (happens c w e)
+  same_lost w good e live y dead = (
+    same_entry c y w e (λ is. true≢false (sym dead ∙ (ap lost is ∙ live))),
+    section_entry w good e y (λ is. true≢false (sym dead ∙ (ap lost is ∙ live))),
+  )
+
+  entry_meets : (w : World) → IsGood c w → (t : ℕ) → t < c.tasks → (e : Entry) → lost (task_of e) ≡ false → MeetsAt w t → MeetsAt (happens c w e) t
+  entry_meets w good t lt e live (p, at, h) =
+      elim (eqb_tells t (task_of e)) [
+        | inr ne ↦
+            let v : (happens c w e).views t ≡ w.views t = same_entry c t w e ne.1 in
+            (p, ap (λ (x : View). x.phase) v ∙ at, meets_later w (happens c w e) same p h)
+        | inl is ↦ mine e is.1 live
+      ]
+    where
+      same : SameLost w (happens c w e)
+      same = same_lost w good e live
+
+      mine : (e : Entry) → t ≡ task_of e → lost (task_of e) ≡ false → MeetsAt (happens c w e) t
+      mine (Begins u op) is live =
+          subst (λ (v : World). MeetsAt v t) (sym (not_begun w u op p (sym (ap (λ x. (w.views x).phase) is) ∙ at))) (p, at, h)
+      mine (Steps u hook) is live =
+          let next : World = after_step w t p hook in
+          let there : happens c w (Steps u hook) ≡ next = ap (λ x. happens c w (Steps x hook)) (sym is) ∙ happens_is c w t lt hook p at in
+          let keeps : SameLost w next = subst (SameLost w) there (same_lost w good (Steps u hook) live) in
+          subst (λ (v : World). MeetsAt v t) (sym there)
+          (own_step w good t lt p at hook keeps (after_of p (found_at w.words p hook) hook).0 (stands_after c w t lt hook p at)
+          (step_meets w good t lt hook p at (fits_at c w good t lt p at) h))
+
+  run_meets : (es : List Entry) (w : World) → IsGood c w → (t : ℕ) → t < c.tasks → AreOfOthers lost es → MeetsAt w t → MeetsAt (run c w es) t
+  run_meets [] w good t lt others h = h
+  run_meets (e ∷ es) w good t lt others h =
+      run_meets es (happens c w e) (happens_keeps c lim w good e).0 t lt others.1 (entry_meets w good t lt e others.0 h)
+
+  pub never_replies : (w : World) → IsGood c w → NeverReplies c lost w
+  never_replies w good t lt p at h es others =
+      let m : MeetsAt (run c w es) t = run_meets es w good t lt others (p, at, h) in
+      (m.0, m.1)

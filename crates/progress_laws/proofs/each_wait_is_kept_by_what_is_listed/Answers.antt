@@ -1,0 +1,7 @@
+use Rattle.gate_schedules.proofs.schedules.HeadlineProof.{whole_rule}
+use Rattle.gate_world.specs.Headline.{world_after}
+use Rattle.progress_laws.proofs.{Blame.{each_is_blocked}}
+use Rattle.progress_laws.proofs.each_wait_is_kept_by_what_is_listed.Goals as goal
+
+pub returns : goal.returns
+returns start c lim lost entries = each_is_blocked c lost (world_after c entries) (whole_rule c lim entries)

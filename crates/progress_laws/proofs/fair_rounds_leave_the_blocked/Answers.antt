@@ -1,0 +1,7 @@
+use Rattle.gate_schedules.proofs.schedules.HeadlineProof.{whole_rule}
+use Rattle.gate_world.specs.Headline.{world_after}
+use Rattle.progress_laws.proofs.{FairlyBlocked.{blocked_after}}
+use Rattle.progress_laws.proofs.fair_rounds_leave_the_blocked.Goals as goal
+
+pub returns : goal.returns
+returns start c lim entries = blocked_after c lim (world_after c entries) (whole_rule c lim entries)

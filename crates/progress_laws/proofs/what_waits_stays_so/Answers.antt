@@ -1,0 +1,7 @@
+use Rattle.gate_schedules.proofs.schedules.HeadlineProof.{whole_rule}
+use Rattle.gate_world.specs.Headline.{world_after}
+use Rattle.progress_laws.proofs.{Rounds.{stays_settled}}
+use Rattle.progress_laws.proofs.what_waits_stays_so.Goals as goal
+
+pub returns : goal.returns
+returns start c lim lost entries = stays_settled c lim lost (world_after c entries) (whole_rule c lim entries)

@@ -1,0 +1,5 @@
+-- Lemmas of the laws of whole calls, in the order of time and of how far they come.
+pub mod NothingAdded
+pub mod Blocked
+pub mod WaitFree
+pub mod TreeStays

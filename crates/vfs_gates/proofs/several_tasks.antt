@@ -1,0 +1,16 @@
+pub mod FrozenUntilThawed
+pub mod FreezesBeside
+pub mod Enclosed
+pub mod Keeping
+pub mod Begun
+pub mod Heard
+pub mod Told
+pub mod Shut
+pub mod FrozenOut
+pub mod GrantedFreeze
+pub mod Beside
+pub mod Between
+pub mod BothShut
+pub mod BothFrozen
+pub mod Moving
+pub mod FirstPair

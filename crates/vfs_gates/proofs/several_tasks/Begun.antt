@@ -1,0 +1,67 @@
+-- A call begins in a world in which its task's numbers stand as they did.
+use Rattle.std.proofs.Common.{◌≡◌, ℕ, zero, suc, List, [], ◌∷◌, ◌++◌, refl, sym, ap, ◌∙◌, subst, arith}
+use Rattle.std.proofs.lemmas.List.{append_assoc}
+use Rattle.std.specs.Prelude.{Option, Some, None, Result}
+use mathlib.Core.Option.{some}
+use lib.ListN.{get_elem?}
+use Rattle.access_model.specs.declared.{errors.GateError.{GateError}, replies.{Next.{Next, TheVariants.{Go, Wait, Done}}, Reply.{Reply}}}
+use Rattle.cpu_words.specs.Hooks.{HookAnswer}
+use Rattle.gate_world.specs.declared.entries.Entry.{Entry, TheVariants.{Begins, Steps}}
+use Rattle.gate_world.specs.declared.{config.Config.{Config}, operations.Op.{Op}, views.Traced.{Traced}, work.Phase.{Phase}}
+use Rattle.gate_world.specs.traces.TraceStates.{state_of_trace}
+use Rattle.gate_steps.specs.Histories.{then_begins, then_steps}
+use Rattle.gate_steps.specs.{Seating.{DealtNumbers, HaveHistory, IsPrefix, HasWitness, StepWitness}, declared.seating.Numbered.{Numbered}}
+use Rattle.gate_steps.specs.call_events.{Grown.{StaySeen}, Runs.{IsNextMove, AreMoves, Called}, SeatedTasks.{SeatedTask, own_number}}
+use Rattle.gate_steps.proofs.call_events.Grown.{next_on, only, stays_seen_on}
+use Rattle.vfs_gates.specs.Meetings.{BeginsIn}
+
+-- an event's schedule goes on from the one before it
+goes_on : (n : ℕ) (begins : Option Op) (hook : HookAnswer) (past : List Entry) → IsPrefix past (then_steps n hook (then_begins n begins past))
+goes_on n None hook past = (Steps n hook ∷ [], refl)
+goes_on n (Some op) hook past = (Begins n op ∷ (Steps n hook ∷ []), append_assoc past (Begins n op ∷ []) (Steps n hook ∷ []))
+
+by_move : (c : Config) (begins : Option Op) (phase : Phase) (hook : HookAnswer) (x : Numbered) (xs : DealtNumbers) (found : ℕ)
+    (seen gone : List (List Entry)) → StepWitness c begins phase hook x xs found seen gone → BeginsIn c (x ∷ xs) seen gone
+by_move c begins phase hook x xs found seen gone w =
+    let past : List Entry = w.past.reached.entries in
+    let now : List Entry = w.history.reached.entries in
+    let on : IsPrefix past now =
+    subst (IsPrefix past) (sym (w.stepped ∙ ap (then_steps x.number hook) w.begun)) (goes_on x.number begins hook past) in record {
+      began = past;
+      all = record { within = w.within; world = w.world; good = w.before; history = w.past; mine = w.mine; last = refl };
+      from = λ k earlier at. (0, past, refl, w.from.goes_on k earlier at);
+      on = λ k earlier at. (0, now, ap (λ l. get_elem? l 0) w.leaves, subst (λ (l : List Entry). IsPrefix l now) (only past k earlier at) on);
+    }
+
+by_witness : (c : Config) (begins : Option Op) (phase : Phase) (hook : HookAnswer) (items : DealtNumbers) (found : ℕ)
+    (seen gone : List (List Entry)) → HasWitness c begins phase hook items found seen gone → BeginsIn c items seen gone
+by_witness c begins phase hook [] found seen gone w = absurd w
+by_witness c begins phase hook (x ∷ xs) found seen gone w = by_move c begins phase hook x xs found seen gone w
+
+by_first : (c : Config) (op : Op) (items : DealtNumbers) (e : Traced) (seen gone : List (List Entry)) (comes : Next Phase) →
+    IsNextMove c op items [] e seen gone comes → BeginsIn c items seen gone
+by_first c op items e seen gone (Go phase) m = by_witness c (Some op) phase e.hook items m.0 seen gone m.2
+by_first c op items e seen gone (Wait phase) m = by_witness c (Some op) phase e.hook items m.0 seen gone m.2
+by_first c op items e seen gone (Done answer) m = absurd m
+
+moves_begin : (c : Config) (op : Op) (items : DealtNumbers) (seen : List (List Entry)) (e : Traced) (earlier : List Traced)
+    (gone : List (List Entry)) → AreMoves c op items seen (e ∷ earlier) gone → BeginsIn c items seen gone
+moves_begin c op items seen e [] gone m =
+    subst (λ s. BeginsIn c items s gone) m.2 (by_first c op items e m.0 gone (state_of_trace c (own_number items) op []).comes m.1)
+moves_begin c op items seen e (d ∷ ds) gone m =
+    let r : BeginsIn c items seen m.0 = moves_begin c op items seen d ds m.0 m.2 in
+    let next = next_on c op items (d ∷ ds) e m.0 gone (state_of_trace c (own_number items) op (d ∷ ds)).comes m.1 in record {
+      began = r.began;
+      all = r.all;
+      from = r.from;
+      on = stays_seen_on (r.began ∷ []) m.0 gone r.on (λ k earlier at. (0, next.1.0, next.1.1, next.0 k earlier at 0 next.1.0 next.1.1));
+    }
+
+trace_begins : (c : Config) (op : Op) (items : DealtNumbers) (seen gone : List (List Entry)) (answer : Result Reply GateError) (trace : List Traced) →
+    (state_of_trace c (own_number items) op trace).comes ≡ Done answer → AreMoves c op items seen trace gone → BeginsIn c items seen gone
+trace_begins c op items seen gone answer [] ends moves = absurd (let no : ⊥ = cc in no)
+trace_begins c op items seen gone answer (e ∷ earlier) ends moves = moves_begin c op items seen e earlier gone moves
+
+pub call_begins : (op : Op) (old left : SeatedTask) (answer : Result Reply GateError) → Called op old left answer →
+    BeginsIn old.config old.items old.seen left.seen
+call_begins op old left answer called = trace_begins old.config op old.items old.seen left.seen answer called.trace called.ends called.moves

@@ -1,0 +1,17 @@
+-- the task has its numbers, and has seen what either had
+use Rattle.std.proofs.Common.{◌≡◌, [], ◌++◌, sym, ap, ◌∙◌, subst}
+use Rattle.std.proofs.lemmas.List.{append-nil}
+use Rattle.gate_steps.specs.{Seating.{DealtNumbers}, call_events.GhostAgrees.{GhostAgrees}}
+use Rattle.vfs_gates.specs.{Buffers.{BuffersMatch, words_in}, TaskStates.{own_number, own_view}, Waits.{WaitsTell}}
+use Rattle.vfs_gates.proofs.task.Task.take_in.Goals as goal
+
+pub invariant_of-self : goal.invariant_of-self
+invariant_of-self c =
+    let old = c.self.inside in
+    let joined = c.take_back.ensures.joined in
+    let same = sym (ap (λ z. z.0.items) joined ∙ (ap (λ (l : DealtNumbers). old.seat.me.0.items ++ l) c.into_seat-seat.ensures.items.0 ∙ append-nil old.seat.me.0.items)) in (
+      subst (λ (l : DealtNumbers). GhostAgrees old.number old.config old.begins old.state old.spare l) same c.self.invariant.0,
+      ap (λ z. z.1) joined ∙ c.self.invariant.1,
+      subst (λ (l : DealtNumbers). BuffersMatch old.config.nodes (words_in old.buffers) old.begins old.state.phase l) same c.self.invariant.2,
+      subst (λ (l : DealtNumbers). WaitsTell old.config (own_number l) (own_view l) old.waited) same c.self.invariant.3,
+    )

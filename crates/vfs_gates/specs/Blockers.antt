@@ -1,0 +1,24 @@
+-- What blocks a step that waits, in the state in which it was done.
+use Rattle.std.specs.Prelude.{◌≡◌, ℕ, Some, List, [], ◌∷◌, ◌++◌}
+use mathlib.Core.Option.{some}
+use lib.ListN.{get_elem?}
+use Rattle.cpu_words.specs.Hooks.{HookAnswer}
+use Rattle.gate_world.specs.{Headline.world_after, refusals.{Causes.{since_begun, trail_of}, Waits.HasCulpritAmong}}
+use Rattle.gate_world.specs.declared.entries.Entry.{Entry, TheVariants.{Steps}}
+use Rattle.gate_world.specs.declared.{config.Config.Config, operations.Op.Op, views.Traced.Traced, work.Phase.Phase}
+use Rattle.gate_steps.specs.{Seating.{DealtNumbers, IsPrefix}, call_events.{SeatedTasks.own_number, Spans.{IsEventDuring, worlds_since}}}
+
+-- A step of this phase was done right after a schedule that goes on from all that its task had seen, and what its task has seen since is that step. In
+-- the state that the schedule makes the task is at this phase, and what it waits for another has.
+pub record WasBlocked (c : Config) (items : DealtNumbers) (phase : Phase) (hook : HookAnswer) (seen left : List (List Entry)) : Type 0 where
+  pub entries : List Entry
+  pub saw : (k : ℕ) (earlier : List Entry) → get_elem? seen k ≡ some earlier → IsPrefix earlier entries
+  pub at : ((world_after c entries).views (own_number items)).phase ≡ Some phase
+  pub blocker : HasCulpritAmong c (since_begun (own_number items) (trail_of c entries)) (own_number items) phase
+  pub leaves : left ≡ (entries ++ Steps (own_number items) hook ∷ []) ∷ []
+
+-- The same of an event of a call, which came to a wait: of the worlds since the call began.
+pub record WasBlockedDuring (c : Config) (items : DealtNumbers) (op : Op) (earlier : List Traced) (e : Traced)
+    (seen left : List (List Entry)) : Type 0 where
+  pub during : IsEventDuring c items op earlier e seen left
+  pub blocker : HasCulpritAmong c (worlds_since c during.began (own_number items) op during.since) (own_number items) during.happens.phase

@@ -1,0 +1,49 @@
+//! Laws of how far calls come: which end whatever others do, and what blocks one that waits. The functions do nothing: their contracts are the laws.
+
+ghost use Rattle.std.specs.Prelude.{◌≡◌, ◌<◌, ◌≤◌, ℕ, Some, Result, List, ◌∷◌, ◌++◌, length};
+ghost use Rattle.access_model.specs.declared.errors.GateError.{GateError};
+ghost use Rattle.access_model.specs.declared.replies.Reply.{Reply};
+ghost use Rattle.cpu_words.specs.Hooks.{HookAnswer};
+ghost use Rattle.gate_world.specs.declared.operations.Op.{Op};
+ghost use Rattle.gate_world.specs.declared.views.Traced.{Traced};
+ghost use Rattle.gate_world.specs.declared.work.Phase.{Phase};
+ghost use Rattle.gate_world.specs.traces.TraceStates.{state_of_trace};
+ghost use Rattle.gate_world.specs.traces.Traces.{most_events};
+ghost use Rattle.gate_schedules.specs.declared.steps.Progress.TheVariants.{Waiting};
+ghost use Rattle.gate_schedules.specs.declared.steps.Step.{Step};
+ghost use Rattle.gate_steps.specs.call_events.Runs.{Called, OpUnderWay, ProgressMatches};
+ghost use Rattle.gate_steps.specs.call_events.Stepped.{Stepped};
+ghost use Rattle.gate_steps.specs.call_events.Waited.{is_wait};
+ghost use Rattle.vfs_gates.specs.Blockers.{WasBlocked, WasBlockedDuring};
+ghost use Rattle.vfs_gates.specs.TaskStates.{SeatedTask, own_number};
+
+/// **Wait-freedom.** A call that waits for nobody, which is one that has a most number of steps (`most_events`), ends after so many steps of its own
+/// task, whatever other threads do in between, or don't: drops, ends, returns, the try forms and the calls at the tree but a waiting close or
+/// snapshot.
+///
+/// - `calls`: a whole call has done no more.
+/// - `steps`: an operation that is still under way has done fewer, so the next step is within them.
+/// - `never_waits`: no step of one says that it waits.
+pub fn calls_that_wait_for_nobody_are_wait_free()
+    ensures calls { (op : Op) (old left : SeatedTask) (answer : Result Reply GateError) (most : ℕ) → most_events old.config op ≡ Some most →
+        (called : Called op old left answer) → length called.trace ≤ most }
+    ensures steps { (op : Op) (start now : SeatedTask) (most : ℕ) → most_events start.config op ≡ Some most →
+        (goes : OpUnderWay op start now) → length goes.trace < most }
+    ensures never_waits { (op : Op) (start now : SeatedTask) (most : ℕ) → most_events start.config op ≡ Some most →
+        ProgressMatches op start Waiting now → ⊥ }
+{}
+
+/// A step that told that it waits was blocked in the state in which it was done, by what `every_schedule` says of it (clause `waits`): another task has
+/// HOLD set at its mount there, has `umount`, or is inside a section; or the level was closed when the task last looked, or something was counted there
+/// while a freeze summed it, always since its operation began.
+///
+/// - `steps`: that state is one of a schedule that goes on from all that the task had seen, and the step is the next entry.
+/// - `calls`: so it is of each event of a whole call that came to a wait, between call and return.
+pub fn a_step_that_waits_is_blocked()
+    ensures steps { (phase : Phase) (hook : HookAnswer) (step : Step) (old left : SeatedTask) → Stepped phase hook old step left →
+        step.progress ≡ Waiting → WasBlocked old.config old.items phase hook old.seen left.seen }
+    ensures calls { (op : Op) (old left : SeatedTask) (answer : Result Reply GateError) (called : Called op old left answer)
+        (later earlier : List Traced) (e : Traced) → called.trace ≡ later ++ e ∷ earlier →
+        is_wait (state_of_trace old.config (own_number old.items) op (e ∷ earlier)).comes ≡ 1 →
+        WasBlockedDuring old.config old.items op earlier e old.seen left.seen }
+{}
