@@ -76,5 +76,7 @@ build_archive() {
     mapfile -t words < <(words_over mntgate_c "$root")
     cd "$root/crates/mntgate_c"
     mkdir -p out
+    # The few lines of C that give it the program's malloc lie beside it, so that whoever links it needs no kit.
+    cp "$(dirname "$(rt doc)")/c/liblibc_c.a" out/heap.a
     "$(dirname "$(rt doc)")/bin/rattle" build src/lib.rt --crate-type staticlib "${words[@]}" "$@" --backend llvm -o out/libmntgate_c.a
 }

@@ -98,9 +98,9 @@ test_threads() {
 test_python() {
     local name
     for name in backup remount; do
-        MNTGATE_LIBRARY=$prefix/lib/libmntgate.so.0 expect "$(cat "bindings/python/examples/$name.stdout")" python3 -B "bindings/python/examples/$name.py"
+        MNTGATE_LIBRARY=$prefix/lib/libmntgate.so.1 expect "$(cat "bindings/python/examples/$name.stdout")" python3 -B "bindings/python/examples/$name.py"
     done
-    MNTGATE_LIBRARY=$prefix/lib/libmntgate.so.0 python3 -B bindings/python/test_mntgate.py 2>"$work/said" || { cat "$work/said" >&2; exit 1; }
+    MNTGATE_LIBRARY=$prefix/lib/libmntgate.so.1 python3 -B bindings/python/test_mntgate.py 2>"$work/said" || { cat "$work/said" >&2; exit 1; }
 }
 
 test_rust() {

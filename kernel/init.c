@@ -4,6 +4,8 @@
  *   T CALL                  T ok | T errno N | T inside | T waits FUNCTION, and the flags behind it
  *   race ROUNDS SECONDS SEED CALL[,CALL..] ..                 seen COUNT ANSWERS, for each row of answers; then raced ROUNDS
  *   restore                 restored: nothing is under way, frozen, open or read-only
+ *   words                   words ..: those behind the gates, by the module
+ *   history CALLS SEED CHANGES HOLDERS     what threads have called at once (histories.c)
  *   off                     the guest ends
  *
  * T is a task, 0 to 3: a thread of its own. A call is one of
@@ -17,6 +19,13 @@
  *   remount ro|rw           the superblock, by fsconfig; spare ro|rw by mount with MS_REMOUNT at a mount that no other call uses
  *   freeze, thaw            FIFREEZE, FITHAW
  *   look                    whether what the task waited in is done now
+ *
+ * and, where the module is loaded, by its device (module/gates.h), on processor P:
+ *
+ *   want M P, drop M P      __mnt_want_write, __mnt_drop_write at mount M
+ *   wantwrite M P, dropwrite M P
+ *   start L P, trystart L P, end L P       of level L, 1 to 3
+ *   freeze H, thaw H        freeze_super, thaw_super for a holder: kernel or user, with '+' behind it where it may nest
  *
  * The flags are those of /proc/self/mountinfo: the superblock's, then each mount's own, as 'rw:rw,ro,rw'. In a race a call's words are
  * joined by '.', as bind.0.ro. Its answers stand for each task in order, and for each of its calls: 0, an errno, or w where it waits. */
@@ -45,44 +54,31 @@
 #include <time.h>
 #include <unistd.h>
 
-enum { TASKS = 4, MOUNTS = 3, PAGE = 4096, CALLS = 4, OPENS = 64, ROWS = 256, LINE = 256 };
+#include "guest.h"
 
-enum verb { OPEN, CLOSE, TOUCH, WRITE, BEGIN, REMOVE, BIND, SETATTR, REMOUNT, SPARE, RELEASE, FREEZE, THAW };
-
-/* The verbs' words, in their order: up to setattr they have a mount. */
-static const char *const verbs[] = {"open",    "close",   "touch", "write",   "begin",  "remove", "bind",
-                                    "setattr", "remount", "spare", "release", "freeze", "thaw"};
-
-struct call {
-    enum verb verb;
-    int mount;
-    int read_only;
+/* Each verb's word, and its arguments: a mount, a way (ro or rw), a level, a processor, or a holder. */
+static const struct {
+    const char *word, *arguments;
+} verbs[VERBS] = {
+    [OPEN] = {"open", "m"},           [CLOSE] = {"close", "m"},          [TOUCH] = {"touch", "m"},
+    [WRITE] = {"write", "m"},         [BEGIN] = {"begin", "m"},          [REMOVE] = {"remove", "m"},
+    [BIND] = {"bind", "mw"},          [SETATTR] = {"setattr", "mw"},     [REMOUNT] = {"remount", "w"},
+    [SPARE] = {"spare", "w"},         [RELEASE] = {"release", ""},       [FREEZE] = {"freeze", "h"},
+    [THAW] = {"thaw", "h"},           [WANT] = {"want", "mp"},           [DROP] = {"drop", "mp"},
+    [WANT_WRITE] = {"wantwrite", "mp"}, [DROP_WRITE] = {"dropwrite", "mp"}, [START] = {"start", "lp"},
+    [TRY_START] = {"trystart", "lp"}, [END] = {"end", "lp"},
 };
 
-/* A task: what it is to do, what it has answered, and what it has open. `done` counts the calls that it has ended. */
-struct task {
-    int number;
-    pid_t thread;
-    struct call calls[CALLS];
-    int answers[CALLS];
-    int count;
-    long delay;
-    atomic_int racing, asked, taken, done;
-    int opened[MOUNTS][OPENS];
-    int opens[MOUNTS];
-    int removed;
-    char *page;
-};
-
-static struct task tasks[TASKS];
-static int root, faults, line_out, processors;
+struct task tasks[TASKS];
+int processors;
+static int root, faults, line_out;
 
 /* In a race: how many tasks there are, and how many have ended, which only wakes who looks. */
 static int racers;
 static atomic_int ended;
 static char written[PAGE] __attribute__((aligned(PAGE)));
 
-static void say(const char *form, ...) {
+void say(const char *form, ...) {
     char text[1024];
     va_list words;
     va_start(words, form);
@@ -95,7 +91,7 @@ static void say(const char *form, ...) {
 }
 
 /* Ends the guest, and says what failed. */
-static void need(int holds, const char *what) {
+void need(int holds, const char *what) {
     if (holds) return;
     if (line_out) say("failed %s: errno %d\n", what, errno);
     dprintf(2, "init: %s: errno %d\n", what, errno);
@@ -176,7 +172,7 @@ static int remount_spare(int read_only) {
     return result(syscall(SYS_mount, NULL, "/spare", NULL, MS_REMOUNT | (read_only ? MS_RDONLY : 0), NULL));
 }
 
-static int perform(struct task *task, const struct call *call) {
+int perform(struct task *task, const struct call *call) {
     switch (call->verb) {
     case OPEN: return open_file(task, call->mount);
     case CLOSE: return close_file(task, call->mount);
@@ -189,10 +185,10 @@ static int perform(struct task *task, const struct call *call) {
     case SETATTR: return set_attribute(call->mount, call->read_only);
     case REMOUNT: return remount(call->read_only);
     case SPARE: return remount_spare(call->read_only);
-    case FREEZE: return result(ioctl(root, FIFREEZE, 0));
-    case THAW: return result(ioctl(root, FITHAW, 0));
+    case FREEZE: return call->argument ? call_gates(task, call) : result(ioctl(root, FIFREEZE, 0));
+    case THAW: return call->argument ? call_gates(task, call) : result(ioctl(root, FITHAW, 0));
+    default: return call_gates(task, call);
     }
-    return ENOSYS;
 }
 
 static void wake(atomic_int *word) { syscall(SYS_futex, word, 1 /* FUTEX_WAKE */, 1, NULL, NULL, 0); }
@@ -233,41 +229,54 @@ static int is_idle(struct task *task) { return atomic_load(&task->taken) == atom
 
 /* Those in which a call waits for another task. /proc has no functions of locks, but their callers: percpu_rwsem_wait is a reader's of a
  * level, freeze_super a freeze's for a level's readers or for s_umount, and all others those of s_umount. */
-static const char *const waits[] = {"percpu_rwsem_wait", "freeze_super", "thaw_super", "path_mount", "__do_sys_fsconfig", "vfs_fsconfig_locked"};
+static const char *const waits[] = {"percpu_rwsem_wait", "freeze_super", "thaw_super", "path_mount", "__do_sys_fsconfig", "vfs_fsconfig_locked",
+                                    "super_lock", "wait_for_partially_frozen", "vfs_cmd_reconfigure"};
 
-/* Which of these a thread sleeps in; NULL where it runs, or sleeps for another reason. */
-static const char *where_asleep(struct task *task) {
-    char path[LINE], name[LINE];
+/* Which of these a thread sleeps in; NULL where it runs, or sleeps for another reason. `name` is the function's name, and "0" where it runs. */
+static const char *where_asleep(struct task *task, char name[LINE]) {
+    char path[LINE];
     snprintf(path, sizeof path, "/proc/self/task/%d/wchan", task->thread);
     int file = open(path, O_RDONLY | O_CLOEXEC);
-    ssize_t size = file < 0 ? 0 : read(file, name, sizeof name - 1);
+    ssize_t size = file < 0 ? 0 : read(file, name, LINE - 1);
     if (file >= 0) close(file);
     name[size > 0 ? size : 0] = 0;
+    // The compiler may have split a function: freeze_super.part.0.
+    name[strcspn(name, ".")] = 0;
     for (int i = 0; i < (int)(sizeof waits / sizeof *waits); i++)
         if (strcmp(name, waits[i]) == 0) return waits[i];
     return NULL;
 }
 
-static long now(void) {
+long now(void) {
     struct timespec time;
     clock_gettime(CLOCK_MONOTONIC, &time);
     return time.tv_sec * 1000000 + time.tv_nsec / 1000;
 }
 
+/* Notes which tasks miss the page of their buffer. */
+static void read_faults(void) {
+    struct pollfd fault = {faults, POLLIN, 0};
+    struct uffd_msg message;
+    while (poll(&fault, 1, 0) == 1 && read(faults, &message, sizeof message) == sizeof message)
+        for (int i = 0; i < TASKS; i++)
+            if ((message.arg.pagefault.address & -(unsigned long)PAGE) == (unsigned long)tasks[i].page) tasks[i].held_up = 1;
+}
+
 /* Waits until the task's call is done (0), or it sleeps in a function of the kernel in which it waits for another task (1), or a page of its
  * buffer is missing (2). All others rest or sleep, so a reader of a level sleeps for good; who else sleeps may do so for a thread of the
- * kernel's, and has to for 20 ms. */
+ * kernel's, and has to for 20 ms. In a function that isn't known it has to for 2 s. */
 static int settle(struct task *task, const char **name) {
+    static char text[LINE];
     long since = 0;
     while (!is_idle(task)) {
-        struct pollfd fault = {faults, POLLIN, 0};
-        struct uffd_msg message;
-        if (poll(&fault, 1, 0) == 1 && read(faults, &message, sizeof message) == sizeof message) return 2;
-        *name = where_asleep(task);
-        if (*name == NULL) since = 0;
-        else if (*name == waits[0]) return 1;
+        read_faults();
+        if (task->held_up) return 2;
+        const char *known = where_asleep(task, text);
+        *name = known ? known : text;
+        if (known == NULL && (*text == 0 || strcmp(text, "0") == 0)) since = 0;
+        else if (known == waits[0]) return 1;
         else if (since == 0) since = now();
-        else if (now() - since > 20000) return 1;
+        else if (now() - since > (known ? 20000 : 2000000)) return 1;
         if (since) usleep(1000);
         else sched_yield();
     }
@@ -303,21 +312,31 @@ static void answer(struct task *task) {
     else say("%d errno %d %s\n", task->number, task->answers[0], state);
 }
 
+/* Reads one argument of a call; false where it is none. */
+static int read_argument(char kind, const char *word, struct call *call) {
+    static const char *const holders[] = {"kernel", "user", "", "", "kernel+", "user+"};
+    int number = word ? word[0] - '0' : -1;
+    switch (kind) {
+    case 'm': return call->mount = number, number >= 0 && number < MOUNTS;
+    case 'l': return call->argument = number, number >= 1 && number <= LEVELS;
+    case 'p': return call->processor = number, number >= 0;
+    case 'w': return call->read_only = word != NULL && strcmp(word, "ro") == 0, word != NULL;
+    default:
+        for (int i = 0; word && i < (int)(sizeof holders / sizeof *holders); i++)
+            if (strcmp(word, holders[i]) == 0) call->argument = i + 1;
+        return word == NULL || call->argument > 0;
+    }
+}
+
 /* Reads a call's words, which are separated by spaces or dots; false where they are none. */
 static int read_call(char *words, struct call *call) {
     char *rest = NULL;
     char *verb = strtok_r(words, " .", &rest);
-    for (int i = 0; verb && i < (int)(sizeof verbs / sizeof *verbs); i++) {
-        if (strcmp(verb, verbs[i])) continue;
-        call->verb = i;
-        call->mount = 0;
-        if (i <= SETATTR) {
-            char *mount = strtok_r(NULL, " .", &rest);
-            if (mount == NULL || mount[0] < '0' || mount[0] >= '0' + MOUNTS) return 0;
-            call->mount = mount[0] - '0';
-        }
-        char *way = strtok_r(NULL, " .", &rest);
-        call->read_only = way != NULL && strcmp(way, "ro") == 0;
+    for (int i = 0; verb && i < VERBS; i++) {
+        if (strcmp(verb, verbs[i].word)) continue;
+        *call = (struct call){.verb = i};
+        for (const char *kind = verbs[i].arguments; *kind; kind++)
+            if (!read_argument(*kind, strtok_r(NULL, " .", &rest), call)) return 0;
         return 1;
     }
     return 0;
@@ -325,6 +344,8 @@ static int read_call(char *words, struct call *call) {
 
 /* Gives the missing page of a write that is held up. */
 static void give_page(struct task *task) {
+    read_faults();
+    task->held_up = 0;
     struct uffdio_copy copy = {(unsigned long)task->page, (unsigned long)written, PAGE, 0, 0};
     ioctl(faults, UFFDIO_COPY, &copy);
 }
@@ -362,7 +383,8 @@ static int is_quiet(int count, struct look *before) {
     struct look look = {0, 0, before->since};
     for (int i = 0; i < count; i++) {
         if (is_idle(&tasks[i])) continue;
-        const char *name = where_asleep(&tasks[i]);
+        char text[LINE];
+        const char *name = where_asleep(&tasks[i], text);
         if (name == NULL) return *before = (struct look){-1, 0, 0}, 0;
         look.waiting++;
         look.readers += name == waits[0];
@@ -387,13 +409,16 @@ static int is_read_only(void) {
 /* Makes all as it was: nothing frozen, nothing open, nothing read-only. */
 static void restore(void) {
     while (!are_idle(TASKS)) {
-        for (int i = 0; i < TASKS; i++)
-            if (!is_idle(&tasks[i])) give_page(&tasks[i]);
-        ioctl(root, FITHAW, 0);
+        for (int i = 0; i < TASKS; i++) {
+            if (is_idle(&tasks[i])) give_back(&tasks[i]);
+            else give_page(&tasks[i]);
+        }
+        if (!thaw_holders()) ioctl(root, FITHAW, 0);
         sched_yield();
     }
-    while (ioctl(root, FITHAW, 0) == 0) {}
+    while (thaw_holders() || ioctl(root, FITHAW, 0) == 0) {}
     for (int i = 0; i < TASKS; i++) {
+        give_back(&tasks[i]);
         for (int mount = 0; mount < MOUNTS; mount++)
             while (tasks[i].opens[mount]) close_file(&tasks[i], mount);
         if (tasks[i].removed) release(&tasks[i]);
@@ -485,7 +510,7 @@ static void fill_disk(void) {
     static char block[1 << 16];
     ssize_t size;
     int from = open("/disk.ext4", O_RDONLY | O_CLOEXEC), to = open("/dev/ram0", O_WRONLY | O_CLOEXEC);
-    need(from >= 0 && to >= 0, "the disk");
+    need(from >= 0 && to >= 0, "the RAM disk of brd (BLK_DEV_RAM)");
     while ((size = read(from, block, sizeof block)) > 0) need(write(to, block, size) == size, "a block of the disk");
     close(from);
     need(close(to) == 0, "the disk's end");
@@ -565,6 +590,7 @@ int main(void) {
     make_mounts();
     make_pages();
     make_tasks();
+    open_gates();
     say("ready\n");
     FILE *lines = fdopen(dup(console), "r");
     while (lines && fgets(line, sizeof line, lines)) {
@@ -572,6 +598,8 @@ int main(void) {
         if (strcmp(line, "hello") == 0) hello();
         else if (strncmp(line, "race ", 5) == 0) race(line + 5);
         else if (strcmp(line, "restore") == 0) restore(), say("restored\n");
+        else if (strcmp(line, "words") == 0) say_words();
+        else if (strncmp(line, "history ", 8) == 0) record_history(line + 8);
         else if (strcmp(line, "off") == 0) break;
         else do_line(line);
     }

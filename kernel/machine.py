@@ -1,5 +1,9 @@
 """The machine to compare with: Debian's packages, a guest made of them, and qemu, to whose second serial line one speaks."""
 
+import glob
+import gzip
+import hashlib
+import lzma
 import os
 import re
 import select
@@ -14,12 +18,15 @@ HERE = os.path.dirname(os.path.realpath(__file__))
 OUT = f"{HERE}/out"
 
 # Each program that is needed, and the package that has it.
-PROGRAMS = {"qemu-system-x86_64": "qemu-system-x86", "gcc": "gcc", "mkfs.ext4": "e2fsprogs", "dpkg-deb": "dpkg"}
+PROGRAMS = {"qemu-system-x86_64": "qemu-system-x86", "gcc": "gcc", "make": "make", "mkfs.ext4": "e2fsprogs", "dpkg-deb": "dpkg"}
 
 # The guest's modules. Which others each needs it says itself; that ext4 needs a driver for crc32c, it doesn't.
 MODULES = ["crc32c_generic", "brd", "ext4"]
 DISK = 12 << 20
-NEEDED = re.compile(r"\./(boot/vmlinuz-|lib/modules/[^/]+/kernel/(fs|lib|crypto|drivers/block)/)")
+NEEDED = re.compile(r"\./(boot/vmlinuz-|(usr/)?lib/modules/[^/]+/(modules\.builtin$|kernel/(fs|lib|crypto|drivers/block)/))")
+
+# The names of the stock kernels' packages, by release, behind linux-image- and linux-headers-.
+RELEASES = {"6.1": r"6\.1\.0-\d+-amd64", "6.12": r"6\.12\.\d+\+deb12-amd64"}
 
 # Seconds that the guest may take to come up, and for one answer.
 BOOT = 180
@@ -68,31 +75,36 @@ def install_programs():
         raise Failed(f"not root, and no sudo: install {', '.join(missing)} first") from cause
 
 
-def newest_image():
-    """The name of the newest stock 6.1 kernel's package that apt knows for this machine."""
-    names = run(["apt-cache", "pkgnames", "linux-image-6.1."], "apt's list of packages").split()
-    stock = [name for name in names if re.fullmatch(r"linux-image-6\.1\.0-\d+-amd64", name)]
+def newest_image(release):
+    """The name of the newest stock kernel's package of this release that apt knows for this machine."""
+    names = run(["apt-cache", "pkgnames", f"linux-image-{release}."], "apt's list of packages").split()
+    stock = [name for name in names if re.fullmatch(f"linux-image-{RELEASES[release]}", name)]
     if not stock:
-        raise Failed("apt knows no stock 6.1 kernel (linux-image-6.1.0-N-amd64): run 'apt-get update' with Debian bookworm's main and "
-                     "bookworm-security in its sources, or give a package by --package FILE")
-    return max(stock, key=lambda name: int(name.split("-")[3]))
+        raise Failed(f"apt knows no stock {release} kernel: run 'apt-get update' with Debian bookworm's main and bookworm-security in its "
+                     "sources, or give a package by --package FILE")
+    return max(stock, key=lambda name: [int(number) for number in re.findall(r"\d+", name)])
 
 
-def fetch_image():
-    """The package of the stock 6.1 kernel, as a file. It is unpacked, and not installed."""
-    name = newest_image()
+def fetch(name, about=""):
+    """A package as a file. It is unpacked, and not installed."""
     os.makedirs(OUT, exist_ok=True)
-    have = [file for file in os.listdir(OUT) if file.startswith(f"{name}_") and file.endswith(".deb")]
+    have = glob.glob(f"{OUT}/{glob.escape(name)}_*.deb")
     if not have:
-        say(f"fetching {name} (70 MB; it is unpacked in {OUT}, and not installed)")
-        run(["apt-get", "download", name], "the kernel's package can't be fetched", cwd=OUT)
-        have = [file for file in os.listdir(OUT) if file.startswith(f"{name}_") and file.endswith(".deb")]
-    return f"{OUT}/{max(have)}"
+        say(f"fetching {name} ({about}it is unpacked in {OUT}, and not installed)")
+        run(["apt-get", "download", name], "the package can't be fetched", cwd=OUT)
+        have = glob.glob(f"{OUT}/{glob.escape(name)}_*.deb")
+    return max(have)
+
+
+def sum_of(path):
+    """The beginning of a file's checksum. What is made of a file is kept by that, since a name says nothing of what is in it."""
+    with open(path, "rb") as file:
+        return hashlib.file_digest(file, "sha256").hexdigest()[:16]
 
 
 def unpack(package):
     """What is needed of the package's files, as a folder."""
-    folder = f"{OUT}/{os.path.basename(package)[:-4]}"
+    folder = f"{OUT}/image-{sum_of(package)}"
     if os.path.exists(f"{folder}/whole"):
         return folder
     shutil.rmtree(folder, ignore_errors=True)
@@ -105,28 +117,110 @@ def unpack(package):
                         files.extract(file, folder)
     except tarfile.TarError as cause:
         raise Failed(f"the kernel's package {package} can't be read: {cause}") from cause
+    if not glob.glob(f"{folder}/boot/vmlinuz-*"):
+        raise Failed(f"{package} is no package of a kernel: it has no boot/vmlinuz-..")
     open(f"{folder}/whole", "w", encoding="utf-8").close()
     return folder
 
 
-def module_files(folder):
-    """The guest's modules in the order in which they are loaded, each after those that it needs."""
-    files = {}
-    for path, _, names in os.walk(f"{folder}/lib/modules"):
+def fetch_headers(image):
+    """The folder of the headers for this kernel's package, to build a module with: three packages, unpacked in one place."""
+    version = os.path.basename(image).split("_")[0].removeprefix("linux-image-")
+    root = f"{OUT}/headers-{version}"
+    folder = f"{root}/usr/src/linux-headers-{version}"
+    if os.path.exists(f"{root}/whole"):
+        return folder
+    shutil.rmtree(root, ignore_errors=True)
+    package = fetch(f"linux-headers-{version}")
+    needs = run(["dpkg-deb", "-f", package, "Depends"], "what the headers depend on")
+    others = re.findall(r"(linux-headers-\S+-common|linux-kbuild-\S+?)(?=[ ,(\n])", needs)
+    for file in [package, *(fetch(name) for name in others)]:
+        run(["dpkg-deb", "-x", file, root], "the headers can't be unpacked")
+    for name in glob.glob(f"{root}/usr/src/*/Makefile"):
+        move_paths(name, root)
+    follow_links(root)
+    open(f"{root}/whole", "w", encoding="utf-8").close()
+    return folder
+
+
+def follow_links(root):
+    """Puts a copy in the place of each link below a folder: `rt ci` takes no checkout with links in it."""
+    for path, folders, names in os.walk(root):
+        for name in (f"{path}/{entry}" for entry in [*folders, *names]):
+            if not os.path.islink(name):
+                continue
+            target = os.path.realpath(name)
+            os.unlink(name)
+            if os.path.isdir(target):
+                shutil.copytree(target, name, symlinks=True)
+            elif os.path.exists(target):
+                shutil.copy(target, name)
+
+
+def move_paths(name, root):
+    """Lets a makefile of the headers name them where they were unpacked."""
+    with open(name, encoding="utf-8") as file:
+        text = file.read()
+    with open(name, "w", encoding="utf-8") as file:
+        file.write(re.sub(r"(?<![\w.])/usr/(src|lib)/linux-", rf"{root}/usr/\1/linux-", text))
+
+
+def build_module(headers, *words):
+    """Builds the module of module/ for the kernel that has these headers, with these words for make, and hands out its file."""
+    if not os.path.exists(f"{headers}/Makefile"):
+        raise Failed(f"there are no headers of a kernel in {headers}: give the folder that it was built in by --headers DIR")
+    folder = f"{OUT}/module-{hashlib.sha256(os.path.realpath(headers).encode()).hexdigest()[:16]}"
+    shutil.rmtree(folder, ignore_errors=True)
+    os.makedirs(folder)
+    for name in ("gates.c", "gates.h", "Kbuild"):
+        shutil.copy(f"{HERE}/module/{name}", folder)
+    # Type information for debuggers would need another program.
+    run(["make", "-C", headers, f"M={folder}", "CONFIG_DEBUG_INFO_BTF_MODULES=", *words, "modules"], "the module can't be built")
+    return f"{folder}/gates.ko"
+
+
+def read_module(path):
+    """A module's bytes; many kernels have them compressed."""
+    match path.rpartition(".")[2]:
+        case "xz":
+            return lzma.decompress(read(path))
+        case "gz":
+            return gzip.decompress(read(path))
+        case "zst":
+            if not find("zstd"):
+                raise Failed(f"{path} is compressed by zstd: install zstd")
+            return subprocess.run(["zstd", "-dcq", path], stdout=subprocess.PIPE, check=True).stdout
+    return read(path)
+
+
+def find_modules(folder):
+    """The modules below a folder by their names, and the names of those that the kernel has in itself, which modules.builtin lists."""
+    files, built_in = {}, set()
+    for path, _, names in os.walk(folder):
         for name in names:
-            if name.endswith(".ko"):
-                files[name[:-3].replace("-", "_")] = f"{path}/{name}"
-    ordered = []
+            if re.search(r"\.ko(\.xz|\.gz|\.zst)?$", name):
+                files[name.split(".ko")[0].replace("-", "_")] = f"{path}/{name}"
+            elif name == "modules.builtin":
+                built_in |= {os.path.basename(line).removesuffix(".ko").replace("-", "_") for line in read(f"{path}/{name}").decode().split()}
+    return files, built_in
+
+
+def module_files(folder):
+    """The guest's modules in the order in which they are loaded, each after those that it needs: (name, bytes). A kernel that was given without a
+    folder has all of them in itself."""
+    files, built_in = find_modules(folder) if folder else ({}, set(MODULES))
+    ordered = {}
 
     def reach(name):
+        if name in built_in:
+            return
         if name not in files:
-            raise Failed(f"the kernel's package has no module {name}.ko")
-        with open(files[name], "rb") as module:
-            needed = re.search(rb"\0depends=([^\0]*)\0", module.read()).group(1).decode().replace("-", "_")
+            raise Failed(f"the kernel has no module {name}, neither in itself (=y, as modules.builtin lists it) nor as {name}.ko in {folder}")
+        data = read_module(files[name])
+        needed = re.search(rb"\0depends=([^\0]*)\0", data).group(1).decode().replace("-", "_")
         for other in filter(None, needed.split(",")):
             reach(other)
-        if files[name] not in ordered:
-            ordered.append(files[name])
+        ordered.setdefault(f"{name}.ko", data)
 
     for name in MODULES:
         reach(name)
@@ -149,32 +243,52 @@ def read(path):
         return file.read()
 
 
-def build_guest(folder):
+def build_guest(folder, module):
     """The guest's initramfs: our init, the modules, and a disk with an ext4."""
     init, disk, guest = f"{OUT}/init", f"{OUT}/disk.ext4", f"{OUT}/guest.cpio"
-    run([find("gcc"), "-O2", "-static", "-pthread", "-o", init, f"{HERE}/init.c"], "the guest's init can't be built")
+    sources = [f"{HERE}/{name}.c" for name in ("init", "gate_calls", "histories")]
+    run([find("gcc"), "-O2", "-Wall", "-Wextra", "-static", "-pthread", "-o", init, *sources], "the guest's init can't be built")
     with open(disk, "wb") as file:
         file.truncate(DISK)
     run([find("mkfs.ext4"), "-q", "-F", disk], "the guest's disk can't be made")
     modules = module_files(folder)
-    names = [os.path.basename(path) for path in modules]
+    if module:
+        modules["gates.ko"] = read(module)
     entries = [("dev", b"", 0o40755), ("init", read(init), 0o100755), ("disk.ext4", read(disk), 0o100644)]
-    entries += [(name, read(path), 0o100644) for name, path in zip(names, modules)]
-    entries.append(("modules", "".join(f"/{name}\n" for name in names).encode(), 0o100644))
+    entries += [(name, data, 0o100644) for name, data in modules.items()]
+    entries.append(("modules", "".join(f"/{name}\n" for name in modules).encode(), 0o100644))
     with open(guest, "wb") as file:
         file.write(archive(entries))
     return guest
 
 
-def make_ready(package):
+def stock(package, release, with_module):
+    """A stock kernel of Debian's: its file, the folder of its modules, and that of its headers, if they are wanted."""
+    package = package or fetch(newest_image(release), "70 to 110 MB; ")
+    folder = unpack(package)
+    return glob.glob(f"{folder}/boot/vmlinuz-*")[0], folder, fetch_headers(package) if with_module else None
+
+
+def own(image, modules, headers):
+    """A kernel that somebody has built: as `stock`. Where its modules were installed, there is a link to the folder that it was built in."""
+    if not os.path.isfile(image):
+        raise Failed(f"there is no kernel {image}: arch/x86/boot/bzImage, say")
+    if modules and not os.path.isdir(modules):
+        raise Failed(f"there is no folder {modules}: it is INSTALL_MOD_PATH of 'make modules_install', or /lib/modules/VERSION")
+    links = glob.glob(f"{modules}/build") + glob.glob(f"{modules}/lib/modules/*/build") if modules else []
+    return image, modules, headers or (links[0] if links else f"{os.path.dirname(image)}/../../..")
+
+
+def make_ready(options, with_module):
     """Installs, fetches and builds what is needed: the kernel's file and the guest's."""
     if os.uname().machine != "x86_64":
         raise Failed(f"this machine is {os.uname().machine}: only amd64's kernel is known here")
     install_programs()
-    folder = unpack(package or fetch_image())
-    kernels = os.listdir(f"{folder}/boot")
-    kernel = next(name for name in kernels if name.startswith("vmlinuz-"))
-    return f"{folder}/boot/{kernel}", build_guest(folder)
+    if options.image:
+        kernel, folder, headers = own(options.image, options.modules, options.headers)
+    else:
+        kernel, folder, headers = stock(options.package, options.kernel, with_module)
+    return kernel, build_guest(folder, build_module(headers) if with_module else None)
 
 
 def accelerator(emulate):
@@ -195,12 +309,13 @@ class Guest:
         self.said = f"{OUT}/kernel-{processors}.log"
         words = [find("qemu-system-x86_64"), "-accel", by, "-cpu", "max", "-smp", str(processors), "-m", "320", "-nodefaults",
                  "-display", "none", "-no-reboot", "-kernel", kernel, "-initrd", guest,
-                 "-append", "console=ttyS0 loglevel=5 panic=-1 rcupdate.rcu_expedited=1 rdinit=/init",
+                 "-append", "console=ttyS0 loglevel=5 panic=-1 rcupdate.rcu_expedited=1 brd.rd_nr=1 brd.rd_size=16384 rdinit=/init",
                  "-serial", f"file:{self.said}", "-serial", "stdio"]
         self.qemu = subprocess.Popen(words, stdin=subprocess.PIPE, stdout=subprocess.PIPE, stderr=subprocess.PIPE)
         self.expect("ready", BOOT)
         self.processors = self.ask("hello").split()[1]
         self.version = self.receive(ANSWER).split(" ", 1)[1]
+        self.release = tuple(int(number) for number in re.search(r"(\d+)\.(\d+)\.(\d+)", self.version).groups())
 
     def receive(self, seconds):
         """The next line from the guest."""

@@ -11,7 +11,7 @@ CONFIG = f"config {TASKS + 1} 2 {MOUNTS} 8 8"
 END = f"{TASKS} run"
 
 # The names of refusals that both sides give, by errno.
-NAMES = {11: "Again", 12: "NoMemory", 16: "Busy", 22: "Invalid", 30: "ReadOnly"}
+NAMES = {11: "Again", 12: "NoMemory", 16: "Busy", 22: "Invalid", 30: "ReadOnly", 35: "Order"}
 
 # How often each call is drawn, beside the others that are possible.
 WEIGHTS = {"open": 8, "close": 5, "touch": 5, "write": 4, "begin": 3, "end": 5, "bind": 3, "setattr": 3, "remount": 3, "spare": 2, "freeze": 5,
@@ -48,13 +48,13 @@ def read_model(lines):
 class Replay:
     """A replay that is under way. `lines` are those that it was given; with what it printed they are also kept in `log`."""
 
-    def __init__(self, program, log):
+    def __init__(self, program, log, config=CONFIG):
         self.process = subprocess.Popen([*program, "replay"], stdin=subprocess.PIPE, stdout=subprocess.PIPE, text=True)
         self.log = log
         self.lines = []
         self.steps = {}
         self.nodes = {}
-        self.ask(CONFIG)
+        self.ask(config)
 
     def ask(self, *lines):
         """Gives it these lines, and hands out what it prints for them."""
@@ -122,9 +122,32 @@ def calls_of(words, cpu):
             "release": [f"close {{node}} {cpu}"]}[verb]
 
 
-class Drawn:
+class Drawing:
+    """What draws the calls of a schedule: those that a task has to choose from, each as often as its weight says. `left` are still to be drawn, and
+    `waits` has the tasks that wait."""
+
+    WEIGHTS = {}
+
+    def choices(self, task):
+        """The calls that the task can make."""
+        raise NotImplementedError
+
+    def next(self):
+        """A task and its call; None where enough were drawn, or no more than one task doesn't wait, and so has to let the others go on."""
+        free = [task for task in range(TASKS) if task not in self.waits]
+        if self.left <= 0 or len(free) < 2:
+            return None
+        self.left -= 1
+        task = self.draw.choice(free)
+        choices = self.choices(task)
+        return task, self.draw.choices(choices, [self.WEIGHTS[words[0]] for words in choices])[0]
+
+
+class Drawn(Drawing):
     """A schedule that is drawn by a seed, and what it has come to: what tasks have open, who waits in what, and who is inside a write that is
     held up."""
+
+    WEIGHTS = WEIGHTS
 
     def __init__(self, seed):
         self.draw = random.Random(seed)
@@ -150,16 +173,6 @@ class Drawn:
         if self.opens[task]:
             choices += [[verb, str(draw.choice(self.opens[task]))] for verb in ("close", "write", "begin")]
         return choices
-
-    def next(self):
-        """A task and its call; None where enough were drawn, or no more than one task doesn't wait, and so has to let the others go on."""
-        free = [task for task in range(TASKS) if task not in self.waits]
-        if self.left <= 0 or len(free) < 2:
-            return None
-        self.left -= 1
-        task = self.draw.choice(free)
-        choices = self.choices(task)
-        return task, self.draw.choices(choices, [WEIGHTS[words[0]] for words in choices])[0]
 
     def next_of_end(self):
         """What leads to the end of a schedule, at which all is as it was; None there."""

@@ -1,15 +1,26 @@
 #!/usr/bin/env -S python3 -B
-"""Tests how a comparison reads answers, on what both sides were asked and answered once (recorded.log): no kernel runs, and no mntgate."""
+"""Tests how a comparison reads answers, on what both sides were asked and answered once (recorded.log, and recorded-module.log for the module's
+calls): no kernel runs, and no mntgate."""
 
 import os
 import re
 import unittest
 
+import gate_schedules
+import histories
 import races
 import schedules
 
-with open(f"{os.path.dirname(os.path.realpath(__file__))}/recorded.log", encoding="utf-8") as record:
-    LOG = record.read().splitlines()
+
+
+def read_log(name):
+    """The lines of a record."""
+    with open(f"{os.path.dirname(os.path.realpath(__file__))}/{name}", encoding="utf-8") as record:
+        return record.read().splitlines()
+
+
+LOG = read_log("recorded.log")
+CALLS_LOG = read_log("recorded-module.log")
 
 
 def schedules_of(log):
@@ -69,6 +80,80 @@ class Guest:
     def ask(self, line):
         """The recorded answer."""
         return self.sides.answers("guest", [line])[0]
+
+
+class RecordedCalls(gate_schedules.Drawn):
+    """A schedule of the module's calls that has the recorded ones."""
+
+    def __init__(self, log):
+        super().__init__("", ())
+        self.calls = [line.split(" ")[1:] for line in log if re.match(r"guest> \d (?!look)", line)]
+
+    next, next_of_end = Recorded.next, Recorded.next_of_end
+
+
+def sides_of_calls(log):
+    """Both sides of a recorded schedule of the module's calls, by the rules of its kernel."""
+    kernel = gate_schedules.TwoHolders if log[0].startswith("# 6.12") else gate_schedules.OneHolder
+
+    class CallSides(kernel):
+        """The replay, which answers as it did."""
+
+        def __init__(self):
+            self.log, self.place, self.lines = [line for line in log if not line.startswith("#")], 0, []
+            self.calls, self.put_off, self.nested, self.known = {}, set(), {"user": 0, "kernel": 0}, []
+            self.ask(gate_schedules.CONFIG)
+
+        answers, ask = Sides.answers, Sides.ask
+
+    return CallSides()
+
+
+class Calls(unittest.TestCase):
+    """What is read of the module's calls."""
+
+    def setUp(self):
+        begins = [place for place, line in enumerate(CALLS_LOG) if line.startswith("# ")]
+        self.logs = [CALLS_LOG[begin:end] for begin, end in zip(begins, [*begins[1:], len(CALLS_LOG)])]
+        gate_schedules.PATIENCE = 0
+
+    def run_recorded(self, log, change=lambda line: line):
+        """The answers of a recorded schedule, whose lines of the guest may be changed."""
+        sides = sides_of_calls(log)
+        sides.log = [f"guest< {change(line.removeprefix('guest< '))}" if line.startswith("guest< ") else line for line in sides.log]
+        return gate_schedules.run(RecordedCalls(log), sides, Guest(sides), lambda line: line), sides
+
+    def test_recorded_schedules_agree(self):
+        told, known = set(), set()
+        for log in self.logs:
+            answers, sides = self.run_recorded(log)
+            self.assertFalse(any(answer.differs() for answer in answers))
+            told |= {answer.ours[0] for answer in answers}
+            known |= set(sides.known)
+        self.assertEqual(told, {"ok", "waits", "refused 11 Again", "refused 16 Busy", "refused 22 Invalid", "refused 30 ReadOnly"})
+        self.assertTrue(known)
+
+    def test_each_wrong_word_differs(self):
+        log = self.logs[0]
+        for name in ("stage", "user", "mount0.cpu1", "level1.cpu0", "entered2", "block3", "umount"):
+            last = max(place for place, line in enumerate(log) if line.startswith("guest< words"))
+            count = iter(range(len(log)))
+            lines = [place for place, line in enumerate(log) if line.startswith("guest< ")]
+
+            def change(line, last=last, name=name, count=count, lines=lines):
+                there = lines[next(count)] == last
+                return re.sub(rf"( {re.escape(name)} )(-?\d+)", lambda found: f"{found[1]}{int(found[2]) + 1}", line) if there else line
+
+            answers, _ = self.run_recorded(log, change)
+            self.assertEqual([answer.differs() for answer in answers[-2:]], [False, True], name)
+
+    def test_histories(self):
+        lines = iter(["1 0 begin want 0 0", "3 0 return ok", "4 1 begin freeze user", "5 1 return errno 16", "recorded 2"])
+        guest = type("Teller", (), {"receive": lambda self, seconds: next(lines)})()
+        told, calls = histories.read_history(guest, 1)
+        self.assertEqual((told[-1], calls), ("5 1 return refused 16 Busy", 2))
+        lines = iter(["1 0 begins want"])
+        self.assertRaises(schedules.Unreadable, histories.read_history, guest, 1)
 
 
 class Readings(unittest.TestCase):

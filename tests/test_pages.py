@@ -1,5 +1,5 @@
 #!/usr/bin/env -S python3 -B
-"""Tests the pages README.md, CONTRIBUTING.md and docs/**/*.md against the repository and the built program.
+"""Tests the pages README.md, CONTRIBUTING.md, docs/**/*.md and examples/**/*.md against the repository and the built program.
 
     tests/test_pages.py [--links] [PROGRAM]
 
@@ -73,7 +73,7 @@ def read_page(path):
 
 def pages():
     """All pages."""
-    found = glob.glob("*.md", root_dir=ROOT) + glob.glob("docs/**/*.md", root_dir=ROOT, recursive=True)
+    found = [path for pattern in ("*.md", "docs/**/*.md", "examples/**/*.md") for path in glob.glob(pattern, root_dir=ROOT, recursive=True)]
     return [read_page(path) for path in sorted(found)]
 
 

@@ -50,6 +50,9 @@
 #include <stdint.h>
 #include <sys/select.h>
 
+/* The version of this header, and of the library that it comes with. The soname has its first number: see bin/install-c. */
+#define MNTGATE_VERSION "1.2.0"
+
 #ifdef __cplusplus
 extern "C" {
 #endif
@@ -125,8 +128,7 @@ mntgate_result mntgate_split(struct mntgate_task *task, struct mntgate_task *oth
 mntgate_result mntgate_join(struct mntgate_task *task, struct mntgate_task *other);
 
 /* Brings two tasks together: what either has done lies behind all that both do from here on. They keep what they hold. Neither has to rest. It
- * waits for nobody: it reads one word of the gates four times. No contract says what an operation was as a whole if a meeting comes between its
- * begin and its last step. */
+ * waits for nobody: it reads one word of the gates four times. An operation under way stays one operation. */
 void mntgate_meet(struct mntgate_task *task, struct mntgate_task *other);
 
 /* A word of the gates, for mntgate_close_reading and mntgate_step. */
@@ -564,6 +566,21 @@ static inline mntgate_result mntgate_want_write(struct mntgate_task *task, uint8
 	mntgate_result begun = mntgate_want_write_at_once(task, mount, processor, &outcome);
 
 	return mntgate_answer(task, begun, &outcome);
+}
+
+/* Goes inside level 1 and takes an access at a mount, or does neither (mnt_want_write, which would wait). EDEADLK inside a level.
+ *   EAGAIN  a freeze closes the level, or a change of the mount holds writers off.   EROFS, EMFILE  as mntgate_try_want. Where the mount
+ * refuses, the task was inside level 1 and has left it, with EINVAL too. */
+static inline mntgate_result mntgate_try_want_write(struct mntgate_task *task, uint8_t mount, uint8_t processor)
+{
+	mntgate_result result = mntgate_try_start(task, 1, processor);
+
+	if (MNTGATE_UNLIKELY(result))
+		return result;
+	result = mntgate_try_want(task, mount, processor);
+	if (MNTGATE_UNLIKELY(result))
+		(void)mntgate_end(task, 1, processor);
+	return result;
 }
 
 /* Makes a mount read-only, or writable again; waits for s_umount. What mntgate_try_change_mount says of a read-only superblock holds here.

@@ -13,7 +13,8 @@ which everything was frozen. These laws are proved of the library, for every int
         task.join(other)
 
 A task is used by one call at a time: each call takes the task's own lock, so that a second thread waits for the first one's call. A call lets go of
-Python's lock, so threads meet at the gates. The library is found by MNTGATE_LIBRARY, the path of libmntgate.so, else by the loader.
+Python's lock, so threads meet at the gates. The library is found by MNTGATE_LIBRARY, the path of libmntgate.so, else in the folder mntgate.libs
+beside this module, which a wheel has, else by the loader.
 
 Every call may raise `Error`: with EDEADLK if the task may not make it now, with EINVAL if a number is out of range. A number that is no integer is a
 TypeError.
@@ -46,6 +47,7 @@ import threading
 import time
 from typing import Callable, ContextManager, Iterator, NamedTuple, Optional, Sequence, Tuple
 
+__version__ = "1.2.0"
 __all__ = ["Config", "Error", "Holder", "HookFailed", "Hooks", "Node", "Task", "Tree", "open"]
 
 # From here on a result is the code of a hook that failed.
@@ -175,7 +177,9 @@ _CALLS: dict = {
 def _load() -> Callable:
     """Returns the library's calls, by their names without the prefix. ImportError says where it was looked for."""
     named = os.environ.get("MNTGATE_LIBRARY")
-    path = named or ctypes.util.find_library("mntgate") or "libmntgate.so"
+    packed = os.path.join(os.path.dirname(os.path.abspath(__file__)), "mntgate.libs", f"libmntgate.so.{__version__.split('.', maxsplit=1)[0]}")
+    is_packed = not named and os.path.exists(packed)
+    path = named or (packed if is_packed else ctypes.util.find_library("mntgate") or "libmntgate.so")
     calls = {}
     try:
         library = ctypes.CDLL(path)
@@ -186,6 +190,8 @@ def _load() -> Callable:
     except (OSError, AttributeError) as reason:
         place = "the path in MNTGATE_LIBRARY" if named else "MNTGATE_LIBRARY is not set, so the loader looked for it"
         advice = "bin/install-c PREFIX makes the library: set MNTGATE_LIBRARY=PREFIX/lib/libmntgate.so"
+        if is_packed:
+            place, advice = "the one that came with this module", "It runs on x86-64 processors with SSE4.2 and POPCNT (x86-64-v2)"
         raise ImportError(f"can't load the library {path} ({place}): {reason}. {advice}", name=__name__, path=path) from reason
     return calls.__getitem__
 

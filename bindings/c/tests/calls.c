@@ -99,6 +99,20 @@ static void test_levels(struct mntgate_task *task, struct mntgate_task *other)
 	assert(mntgate_thaw(other, MNTGATE_KERNEL, &hooks) == 0 && asked[2] == 1 && mntgate_settle(task) == 0);
 }
 
+/* Both, or neither: a task that is refused rests. */
+static void test_try_want_write(struct mntgate_task *task, struct mntgate_task *other)
+{
+	assert(mntgate_try_want_write(task, 0, 0) == 0 && mntgate_holds_level(task, 1) && mntgate_holds_mount(task, 0) == 1);
+	assert(mntgate_try_want_write(task, 0, 0) == EDEADLK && mntgate_holds_mount(task, 0) == 1);
+	assert(mntgate_drop_write(task, 0, 1) == 0 && mntgate_rests(task));
+	assert(mntgate_try_want_write(task, 1, 0) == EINVAL && mntgate_try_want_write(task, 0, 2) == EINVAL && mntgate_rests(task));
+	assert(mntgate_start(task, 2, 0) == 0 && mntgate_try_want_write(task, 0, 0) == EDEADLK && mntgate_end(task, 2, 0) == 0);
+	assert(mntgate_freeze(other, MNTGATE_USER, NULL) == 0 && mntgate_try_want_write(task, 0, 0) == EAGAIN && mntgate_rests(task));
+	assert(mntgate_thaw(other, MNTGATE_USER, NULL) == 0 && mntgate_settle(other) == 0);
+	assert(mntgate_change_mount(other, 0, true) == 0 && mntgate_try_want_write(task, 0, 0) == EROFS && mntgate_rests(task));
+	assert(mntgate_change_mount(other, 0, false) == 0);
+}
+
 /* A hook's 16 isn't EBUSY. */
 static void test_hooks(struct mntgate_task *task)
 {
@@ -287,6 +301,7 @@ int main(void)
 	test_meetings(&task, &other);
 	test_change_that_sets_nothing(&task);
 	test_levels(&task, &other);
+	test_try_want_write(&task, &other);
 	test_hooks(&task);
 	test_hook_that_leaves(&task, &other);
 	test_tree(&task, &other);

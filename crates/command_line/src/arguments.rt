@@ -9,7 +9,7 @@ use clap::{Arg, ArgAction, Command};
 use std::alloc::{AllocError, Global};
 
 /// The version of the program.
-const VERSION: &str = "1.1.0";
+const VERSION: &str = "1.2.0";
 
 /// The argument that names a schedule's file.
 pub(crate) const FILE: &str = "FILE";

@@ -1,18 +1,18 @@
 -- What some schedule makes of the opening, a table's world is again after each beginning, event and gift of a number.
 use Rattle.std.proofs.{Common.{arith, ◌≡◌, ℕ, ◌<◌, [], ◌∷◌, ◌++◌, refl, sym, ap, ◌∙◌, subst}, lemmas.Bool.{lt-ltb}}
-use Rattle.std.specs.Prelude.{is_some, Some, None, List}
+use Rattle.std.specs.Prelude.{is_some, false, Option, Some, None, List}
 use Rattle.finite_sums.specs.Sums.{update}
 use Rattle.finite_sums.proofs.Totals.{each_updated}
 use Rattle.cpu_words.specs.{Hooks.HookAnswer, Touches.event_of}
 use Rattle.access_model.specs.{Histories.Done}
-use Rattle.gate_world.specs.{Beginnings.{first_phase, refusal, view_refusal}, Holdings.holdings_of, Views.{phase_after, actions_after, begun_view}}
+use Rattle.gate_world.specs.{Beginnings.{first_phase, refusal, view_refusal}, Holdings.holdings_of, Views.{phase_after, actions_after, begun_view, held_of}}
 use Rattle.gate_world.specs.{Views.{view_after, view_after_with_others, with_hook}, Work.{next_of, after_of}, Worlds.{World, after_begin}}
 use Rattle.gate_world.specs.declared.entries.Entry.{Entry, TheVariants.{Begins, Steps}}
 use Rattle.gate_world.specs.{Worlds.{words_after, after_step, after_step_with_others, run, opening, happens, history, with_action, action_of, task_of}}
 use Rattle.gate_world.specs.{Worlds.{value_at, found_at, phase_action}, declared.{config.Config.Config, operations.Op.Op}}
 use Rattle.gate_world.specs.declared.{views.{View.View}, work.Phase.Phase}
-use Rattle.gate_schedules.proofs.schedules.Runs.{run_more}
-use Rattle.gate_steps.specs.{Histories.{IsLike, IsReached, then_steps}, Seating.renewed}
+use Rattle.gate_schedules.proofs.schedules.{Beginnings.may_begin, Runs.run_more}
+use Rattle.gate_steps.specs.{Histories.{BeginsIdle, IsLike, IsReached, IsWellFormed, then_steps}, Seating.renewed}
 
 -- views that agree agree after one of each is replaced by views that agree
 like_update : (f g : ℕ → View) (t : ℕ) (v u : View) → IsLike v u → ((x : ℕ) → IsLike (f x) (g x)) → (x : ℕ) →
@@ -27,6 +27,7 @@ opening_reached c = (
     words = refl;
     views = λ t. record { phase = refl; actions = refl; events = refl; same = λ op is. (is, refl, refl) };
     made = refl;
+    formed = tt;
   },
   refl,
 )
@@ -36,6 +37,20 @@ history_more : (c : Config) (w : World) (earlier : List Done) (es : List Entry) 
     history c w earlier (es ++ e ∷ []) ≡ with_action (task_of e) (action_of c (run c w es) e) (history c w earlier es)
 history_more c w earlier [] e = refl
 history_more c w earlier (x ∷ es) e = history_more c (happens c w x) (with_action (task_of x) (action_of c w x) earlier) es e
+
+-- a well-formed schedule with one entry more
+formed_more : (c : Config) (w : World) (es : List Entry) (e : Entry) → IsWellFormed c w es → BeginsIdle (run c w es) e →
+    IsWellFormed c w (es ++ e ∷ [])
+formed_more c w [] e formed idle = (idle, tt)
+formed_more c w (x ∷ es) e formed idle = (formed.0, formed_more c (happens c w x) es e formed.1 idle)
+
+-- what isn't under way has no phase
+none_of : (o : Option Phase) → is_some o ≡ false → o ≡ None
+none_of o is = grind arith
+
+-- so a number that may begin an operation has none
+pub begins_idle : (c : Config) (v : View) (op : Op) → view_refusal c v op ≡ None → v.phase ≡ None
+begins_idle c v op may = none_of v.phase (may_begin c (is_some v.phase) (held_of v) op may).idle
 
 -- a number that was given to a new task has no operation
 no_operation : (op : Op) (v u : View) → u.op ≡ None → u.op ≡ Some op → (v.op ≡ Some op) × (v.trace ≡ u.trace) × (v.before ≡ u.before)
@@ -62,6 +77,7 @@ module _ (c : Config) (log : List Done) (w : World) (reached : IsReached c log w
           })
           (λ ne. reached.views x);
       made = reached.made;
+      formed = reached.formed;
     },
     refl,
   )
@@ -88,6 +104,7 @@ module _ (c : Config) (log : List Done) (w : World) (reached : IsReached c log w
                 (begun_view (w.views t) op (first_phase c t op))
                 begun reached.views x);
             made = history_more c opening [] reached.entries (Begins t op) ∙ reached.made;
+            formed = formed_more c opening reached.entries (Begins t op) reached.formed (like.phase ∙ begins_idle c (w.views t) op may);
           },
           refl,
         )
@@ -124,6 +141,7 @@ module _ (c : Config) (log : List Done) (w : World) (reached : IsReached c log w
                 (like_update there.views w.views t before after stepped reached.views x);
             made = history_more c opening [] reached.entries (Steps t hook) ∙
                 (λ i. with_action t (acts_there phase hook at i) (reached.made i));
+            formed = formed_more c opening reached.entries (Steps t hook) reached.formed tt;
           },
           refl,
         )

@@ -19,6 +19,7 @@ pub mod ThawAsks
 pub mod RemountAsks
 pub mod Refused
 pub mod Moments
+pub mod Resting
 pub mod Spanning
 pub mod Caused
 pub mod Effects

@@ -3,7 +3,7 @@ use Rattle.std.specs.Prelude.{◌≡◌, ℕ, Option, Some, None, List, [], ◌�
 use Rattle.access_model.specs.Histories.{Done, end_of, IsLegal, IsMerge}
 use Rattle.cpu_words.specs.Hooks.{HookAnswer}
 use Rattle.gate_world.specs.{declared.{config.Config.{Config}, operations.Op.{Op}, views.View.{View}}, Configs.{model_limits}}
-use Rattle.gate_world.specs.{Worlds.{World, run, opening, history}, declared.entries.Entry.{Entry, TheVariants.{Begins, Steps}}}
+use Rattle.gate_world.specs.{Worlds.{World, run, happens, opening, history}, declared.entries.Entry.{Entry, TheVariants.{Begins, Steps}}}
 use Rattle.gate_world.specs.{Shown.{shown}, Moments.{AllHaveMoments}}
 
 -- Two views of a number agree but for the last snapshot: also in the operation, its trace and what was done before it, where the second has
@@ -14,7 +14,17 @@ pub record IsLike (v u : View) : Type 0 where
   pub events : v.events ≡ u.events
   pub same : (op : Op) → u.op ≡ Some op → (v.op ≡ Some op) × (v.trace ≡ u.trace) × (v.before ≡ u.before)
 
--- The world is what some schedule makes of the opening: all its words, and of each number the phase, the actions and the events, and the
+-- a number begins an operation only while it has none under way
+abbrev pub BeginsIdle : World → Entry → Type 0
+BeginsIdle w (Begins t op) = (w.views t).phase ≡ None
+BeginsIdle w (Steps t hook) = Unit {0}
+
+-- so each number has one operation after the other in this schedule, which goes on from this world
+abbrev pub IsWellFormed : Config → World → List Entry → Type 0
+IsWellFormed c w [] = Unit {0}
+IsWellFormed c w (e ∷ es) = BeginsIdle w e × IsWellFormed c (happens c w e) es
+
+-- The world is what some well-formed schedule makes of the opening: all its words, and of each number the phase, the actions and the events, and the
 -- operation with its trace. (A number that was given to a new task has no operation of its own yet.) The actions that the schedule's events
 -- have added are the log.
 pub record IsReached (c : Config) (log : List Done) (w : World) : Type 0 where
@@ -22,6 +32,7 @@ pub record IsReached (c : Config) (log : List Done) (w : World) : Type 0 where
   pub words : (run c opening entries).words ≡ w.words
   pub views : (t : ℕ) → IsLike ((run c opening entries).views t) (w.views t)
   pub made : history c opening [] entries ≡ log
+  pub formed : IsWellFormed c opening entries
 
 -- one history: a legal log of actions, whose end is the shown model, of which each number's own list is its part, in which each
 -- number's last snapshot has its moment, and which are the actions of some schedule that makes of the opening this world

@@ -7,6 +7,7 @@ mod failures;
 mod fixtures;
 mod lines;
 mod lost;
+mod meetings;
 mod pairs;
 mod runs;
 mod shown;

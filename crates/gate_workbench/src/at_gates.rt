@@ -8,7 +8,7 @@ use std::alloc::Global;
 use std::rt::Clock;
 use std::sync::Wait;
 use std::thread;
-use std::thread::Threads;
+use std::thread::{Parker, Threads};
 use std::time::{Duration, Instant};
 use vfs_gates::{Config, GateError, Gates, Holder, Kind, Task};
 
@@ -31,6 +31,8 @@ pub(crate) enum Round {
     Snapshot,
     /// A file, opened and closed, by one task.
     File,
+    /// A place inside level 1, which all tasks but the first wait for while the first one has all frozen, for as many milliseconds as there are rounds.
+    Wait,
 }
 
 /// Takes an access at mount 0 and gives it back, so often, on the processor with the task's own number, and says whether each call
@@ -159,6 +161,18 @@ fn open_and_close<R: Wait>(task: &mut Task, rt: &R, gates: &Gates, count: u32) -
     true
 }
 
+/// Sleeps for so many milliseconds and thaws, as the task that has all frozen. Any other task goes inside level 1 and leaves it, once all is thawed.
+fn thaw_or_wait<R: Wait>(task: &mut Task, rt: &R, gates: &Gates, milliseconds: u32) -> bool
+    requires { IsFrom task.old gates.now }
+{
+    let cpu = task.number();
+    if cpu == 0 {
+        Parker::new().park_timeout(rt, Duration::from_millis(u64::from(milliseconds)));
+        return task.thaw(rt, gates, Holder::User, &mut ()).is_ok();
+    }
+    task.start(rt, gates, 1, cpu).is_ok() && task.end(gates, 1, cpu).is_ok()
+}
+
 /// Does so many rounds of one kind.
 fn do_rounds<R: Wait>(task: &mut Task, rt: &R, gates: &Gates, round: Round, count: u32) -> bool
     requires { IsFrom task.old gates.now }
@@ -172,6 +186,7 @@ fn do_rounds<R: Wait>(task: &mut Task, rt: &R, gates: &Gates, round: Round, coun
         Round::Remounts => remounts(task, rt, gates, count),
         Round::Snapshot => snapshots(task, rt, gates, count),
         Round::File => open_and_close(task, rt, gates, count),
+        Round::Wait => thaw_or_wait(task, rt, gates, count),
     }
 }
 
@@ -239,13 +254,16 @@ fn time_first<R: Threads + Wait + Clock + Sync>(
 ) -> Result<Duration>
     requires { IsFrom first gates.now }
 {
+    if let Round::Wait = round {
+        first.freeze(rt, gates, Holder::User, &mut ())?;
+    }
     let mut tasks = Vec::new(alloc);
     split_off(alloc, gates, &mut first, threads, &mut tasks)?;
     tasks.push(first)?;
     time_tasks(rt, gates, tasks, round, count)
 }
 
-/// How long so many rounds take each of so many tasks, with as many processors. All but pairs are done by one task. A snapshot has as many
+/// How long so many rounds take each of so many tasks, with as many processors. All but pairs and waits are done by one task. A snapshot has as many
 /// nodes.
 pub(crate) fn measure<R: Threads + Wait + Clock + Sync>(
     rt: &R,
@@ -266,7 +284,7 @@ pub(crate) fn measure<R: Threads + Wait + Clock + Sync>(
         capacity: 0,
     };
     let threads = match round {
-        Round::Mount | Round::Level | Round::WriteAccess => size,
+        Round::Mount | Round::Level | Round::WriteAccess | Round::Wait => size,
         _ => 1,
     };
     let (gates, first) = Gates::new(alloc, config)?;

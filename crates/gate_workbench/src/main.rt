@@ -25,9 +25,10 @@ Usage: gate_workbench measure <WHAT> <SIZE> <COUNT>
 measure  Measures the gates, and prints nanoseconds
          WHAT   mount, level or write-access: pairs of a taken and a returned access; freeze or freeze-and-callbacks: freezes, each
                 with its thaw; remounts: remounts to read-only, each with one back; snapshot: snapshots; file: a file's opens, each with
-                its close; run: runs
-         SIZE   Threads of the pairs, or tasks and processors, and nodes of a snapshot: 1 to 64, and at least 3 for runs
-         COUNT  How many of them: of pairs, for each thread
+                its close; wait: starts behind a freeze; run: runs
+         SIZE   Threads of the pairs, or tasks and processors, and nodes of a snapshot: 1 to 64, and at least 3 for runs. Of a wait,
+                the task that has frozen and those that wait
+         COUNT  How many of them: of pairs, for each thread; of a wait, how many milliseconds
 backup   Runs a backup beside a writer, and prints what both have done";
 
 /// What the words of a command line ask for.

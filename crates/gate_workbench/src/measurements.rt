@@ -42,6 +42,7 @@ impl Measurement {
             "remounts" => Subject::Rounds(Round::Remounts),
             "snapshot" => Subject::Rounds(Round::Snapshot),
             "file" => Subject::Rounds(Round::File),
+            "wait" => Subject::Rounds(Round::Wait),
             "run" => Subject::Runs,
             _ => return None,
         };

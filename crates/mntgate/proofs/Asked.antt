@@ -4,14 +4,14 @@ use Rattle.std.specs.Borrow.{Bor}
 use mathlib.Core.Bool.{true≢false}
 use Rattle.command_line.specs.{CommandLine.{IsPlainOfInput}, declared.words.{ProgramRequest.{ProgramRequest}, ReplayForm.{ReplayForm}}}
 use Rattle.command_line.specs.declared.words.{ReplayForm.TheVariants.{Plain, Events, Columns, Json, Html}, OutcomeForm.TheVariants.{Text}}
-use Rattle.command_line.specs.declared.words.{Numbers.{Numbers}, Outcomes.{Outcomes}}
+use Rattle.command_line.specs.declared.words.{Numbers.{Numbers}, Outcomes.{Outcomes}, Replay.{Replay}}
 use Rattle.command_line.specs.declared.words.ProgramRequest.TheVariants as ask
 use Rattle.exit_status.specs.{Endings.{of_file}, declared.ends.ProgramEnding.{ProgramEnding}}
 use Rattle.exit_status.specs.declared.ends.ProgramEnding.TheVariants.{Done, DoneOfFile, DoneOverGates, Shown, Passed, Blessed, Listed, Ran, Told, Refused, Misused}
 use Rattle.program_checks.specs.Checks.{TellsPassed, count_checked}
 use Rattle.program_replay.specs.Replays.{EndsReplayed, done_in, done_of, ending_of}
 use Rattle.mntgate.specs.Outcomes.{EndsTold}
-use Rattle.mntgate.specs.Asking.{EndsAsked, EndsOutcomes, EndsRun, TellsSomePassed}
+use Rattle.mntgate.specs.Asking.{EndsAsked, EndsOutcomes, EndsReplay, EndsRun, TellsSomePassed}
 use Rattle.schedule_lines.specs.declared.bytes.replay_faults.ReplayFault.{ReplayFault}
 use Rattle.line_players.specs.Replayed.{Replayed}
 
@@ -84,6 +84,12 @@ outcomes_ended asked race input left held holds (Ok ending) is ends told =
     let ended : EndsOutcomes race input held holds ending = record { ends = ends; told = told } in
     subst (λ (a : ProgramRequest). EndsAsked a input left held holds ending) (sym is) ended
 outcomes_ended asked race input left held holds (Err refused) is ends told = tt
+
+-- how it ends where a replay was asked for
+pub replay_ended : (asked : ProgramRequest) (replay : Replay) (input left held holds : Option (List ℕ)) (ending : ProgramEnding) →
+    asked ≡ ask.Replay replay → EndsReplay replay input left held holds ending → EndsAsked asked input left held holds ending
+replay_ended asked replay input left held holds ending is ended =
+    subst (λ (a : ProgramRequest). EndsAsked a input left held holds ending) (sym is) ended
 
 -- what ends so ends with none that is otherwise
 otherwise : (is : ProgramEnding → Bool) (ending other : ProgramEnding) → is ending ≡ true → is other ≡ false → ending ≡ other → ⊥

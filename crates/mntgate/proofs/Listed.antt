@@ -1,15 +1,18 @@
 -- How the program ends that was asked for the outcomes of a race.
-use Rattle.std.proofs.Common.{◌≡◌, ◌↔◌, ◌<◌, ◌≤◌, ◌∙◌, ◌⊎◌, inl, inr, arith, refl, subst, sym, false, true, Bool, IsTrue, IfSome, ℕ, List, [], Option, Some, None}
+use Rattle.std.proofs.Common.{◌≡◌, ◌↔◌, ◌<◌, ◌≤◌, ◌∙◌, ◌⊎◌, inl, inr, arith, refl, subst, false, true, Bool, IsTrue, ℕ, List, [], Option, Some, None, Result, Ok, Err, IfOk, IfErr}
 use Rattle.std.proofs.lemmas.Bool.{cases_lt}
-use Rattle.std.specs.Io.KnownBytes.{Appends, Keeps}
+use Rattle.std.specs.{Io.KnownBytes.{Appends, Keeps}, Result.{OnErr, OnOk}}
 use Rattle.command_line.specs.declared.words.Outcomes.{Outcomes}
-use Rattle.exit_status.specs.declared.ends.ProgramEnding.{ProgramEnding, TheVariants.{Listed, Refused}}
-use Rattle.mntgate.specs.Outcomes.{AreRead, EndsTold, TellsAs, TellsRace, details_of, method_of}
-use Rattle.mntgate.specs.Outcomes.EndsTold.{IsWritten, IsPart, IsRefused, IsCutOff}
-use Rattle.shown_outcomes.specs.Told.{TellsAll, TellsSome}
+use Rattle.exit_status.specs.declared.ends.ProgramEnding.{ProgramEnding}
 use Rattle.gate_core.specs.Memory.{Memory}
+use Rattle.mntgate.specs.declared.unlisted.Unlisted.{Unlisted, TheVariants.{Unwritten}}
+use Rattle.mntgate.specs.Outcomes.{IsListed, IsUnlisted, IsUnlisted.{IsCutOff}, TellsAs, TellsRace, details_of, list_ending, method_of, outcomes_told}
+use Rattle.outcome_texts.specs.Outcomes.{HaveOwnTexts, IsIdle}
+use Rattle.program_checks.specs.declared.claims.Judged.{Judged}
+use Rattle.race_files.specs.{Left.{Left}, Races.{IsRaceIn}}
 use Rattle.race_programs.specs.declared.calls.Call.{Call}
-use Rattle.schedule_lines.specs.bytes.Writing.{AppendsPart}
+use Rattle.schedule_lines.specs.{bytes.Writing.{AppendsPart}, declared.faults.Fault.TheVariants.{WriteFailed}}
+use Rattle.shown_outcomes.specs.Told.{TellsAll, TellsSome}
 
 -- all outcomes are told, or those so far
 pub tells_as : (b : Bool) (core : Memory) (calls : List (List (Option Call))) (tasks : ℕ) (asked : Outcomes) (before after : List ℕ)
@@ -27,33 +30,39 @@ tells_as false core calls tasks asked before after {expanded} {origins} {states}
     not_all (inl less) = less
     not_all (inr more) = absurd (false_true (whole.1 (omega (arith, more, within, lengths))))
 
+-- a race of a file begins with no operation under way, so each outcome that is told has a line of its own
+core_idle : (all : Left) (core : Memory) (calls : List (List (Option Call))) → IsRaceIn all core calls → IsIdle core
+core_idle all core calls race t less =
+    let tasks : core.config.tasks ≡ race.play.config.tasks = λ i. (race.shows.config i).tasks in
+    race.shows.world.phases t less ∙ race.idle t (omega (arith, less, tasks))
+
+pub own_lines : (whole : Bool) (all : Left) (core : Memory) (calls : List (List (Option Call))) (asked : Outcomes) (before after : List ℕ)
+    (tells : TellsAs whole core calls asked before after) → IsRaceIn all core calls → HaveOwnTexts core.config.tasks calls (outcomes_told whole core calls asked before after tells)
+own_lines true all core calls asked before after tells race = tells.are.so_far.apart (core_idle all core calls race)
+own_lines false all core calls asked before after tells race = tells.are.apart (core_idle all core calls race)
+
 -- a writer that nobody wrote to
 pub kept : (held : Option (List ℕ)) → Keeps held held
 kept None = tt
 kept (Some bytes) = refl
 
--- what was told is written, or a write failed
-pub ends_written : (asked : Outcomes) (input held holds : Option (List ℕ)) (ending : ProgramEnding) (whole : Bool) (bytes before told : List ℕ) →
-    (ending ≡ Listed) ⊎ (ending ≡ Refused) → (ending ≡ Listed → whole ≡ true) → before ≡ [] → AreRead asked input bytes →
-    TellsRace asked whole bytes before told → (Appends held holds told) ⊎ ((ending ≡ Refused) × AppendsPart held holds told) →
-    EndsTold asked input held holds ending
-ends_written asked input held holds ending whole bytes before told ends all none read tells wrote =
-    let told_of : TellsRace asked whole bytes [] told = subst (λ (b : List ℕ). TellsRace asked whole bytes b told) none tells in
-    elim wrote [
-      | inl appends ↦ elim ends [
-        | inl e ↦ IsWritten bytes told read (subst (λ (w : Bool). TellsRace asked w bytes [] told) (all e) told_of) appends e
-        | inr e ↦ IsPart whole bytes told read told_of appends e
-      ]
-      | inr cut ↦ IsCutOff whole bytes told read told_of cut.1 cut.0
-    ]
+module _ (asked : Outcomes) (bytes : List ℕ) (held holds : Option (List ℕ)) (whole : Bool) (judged : Judged) (before told : List ℕ) where
+  -- what was told is written
+  pub listed : (r : Result ProgramEnding Unlisted) → before ≡ [] → TellsRace asked whole judged bytes before told →
+      IfOk r (λ ending. ending ≡ list_ending whole judged) → OnOk r (Appends held holds told) → IfOk r (IsListed asked bytes held holds)
+  listed (Ok ending) none tells ends written = record {
+    whole = whole;
+    judged = judged;
+    text = told;
+    tells = subst (λ (b : List ℕ). TellsRace asked whole judged bytes b told) none tells;
+    written = written;
+    ends = ends;
+  }
+  listed (Err why) none tells ends written = tt
 
--- the bytes that were to be read, in place of what there was to read
-pub ends_of : (asked : Outcomes) (input held holds : Option (List ℕ)) (bytes : List ℕ) (ending : ProgramEnding) → AreRead asked input bytes →
-    EndsTold asked (Some bytes) held holds ending → EndsTold asked input held holds ending
-ends_of asked input held holds bytes ending read (IsWritten found text are tells all e) =
-    IsWritten found text (λ none. subst (λ (b : List ℕ). IfSome input (λ all. b ≡ all)) (sym (are none)) (read none)) tells all e
-ends_of asked input held holds bytes ending read (IsPart whole found text are tells all e) =
-    IsPart whole found text (λ none. subst (λ (b : List ℕ). IfSome input (λ all. b ≡ all)) (sym (are none)) (read none)) tells all e
-ends_of asked input held holds bytes ending read (IsRefused kept e) = IsRefused kept e
-ends_of asked input held holds bytes ending read (IsCutOff whole found text are tells part e) =
-    IsCutOff whole found text (λ none. subst (λ (b : List ℕ). IfSome input (λ all. b ≡ all)) (sym (are none)) (read none)) tells part e
+  -- or a write failed
+  pub cut_off : (r : Result ProgramEnding Unlisted) → before ≡ [] → TellsRace asked whole judged bytes before told →
+      IfErr r (λ why. why ≡ Unwritten WriteFailed) → OnErr r (AppendsPart held holds told) → IfErr r (IsUnlisted asked bytes held holds)
+  cut_off (Ok ending) none tells is part = tt
+  cut_off (Err why) none tells is part =
+      IsCutOff whole judged told (subst (λ (b : List ℕ). TellsRace asked whole judged bytes b told) none tells) part is

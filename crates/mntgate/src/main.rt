@@ -4,6 +4,7 @@
 pub mod dispatch;
 pub mod outcomes;
 mod progress;
+pub mod unlisted;
 
 use crate::dispatch::run;
 use access_model::GateError;

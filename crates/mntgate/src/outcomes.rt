@@ -1,30 +1,33 @@
 //! The outcomes of a race, from the command line.
 
-ghost use Rattle.std.specs.Prelude.{◌≡◌, ◌<◌, ◌≤◌, ◌*◌, ◌⊎◌, ◌++◌, false, true, Some, All, IfOk, IfErr, OnOk, OnErr, length};
+ghost use Rattle.std.specs.Prelude.{◌≡◌, ◌<◌, ◌≤◌, ◌*◌, ◌⊎◌, false, true, All, IfOk, IfErr, OnOk, OnErr, is_some, length};
 ghost use Rattle.std.specs.Io.KnownBytes.{Appends, Keeps};
 ghost use Rattle.exit_status.specs.declared.ends.ProgramEnding.TheVariants.{Listed, Refused};
 ghost use Rattle.exploration.specs.Tables.{IsTable};
+ghost use Rattle.exploration.specs.declared.stops.Stop.TheVariants.{TooMany};
 ghost use Rattle.outcome_texts.specs.Methods.{next_by};
-ghost use Rattle.mntgate.specs.Outcomes.{EndsTold, TellsRace, details_of, method_of, schedules_as};
+ghost use Rattle.program_checks.specs.declared.claims.Judged.TheVariants.{Hold};
+ghost use Rattle.mntgate.specs.Outcomes.{EndsTold, IsListed, IsUnlisted, IsWhyUnlisted, TellsRace, details_of, list_ending, method_of, schedules_as};
+ghost use Rattle.mntgate.specs.declared.unlisted.Unlisted.TheVariants.{Unsaved, Unwritten};
 ghost use Rattle.shown_outcomes.specs.Told.{TellsAll, TellsSome};
 ghost use Rattle.command_line.specs.declared.words.OutcomeForm.TheVariants.{Text};
 ghost use Rattle.race_files.specs.Calls.{is_claim};
 ghost use Rattle.race_files.specs.Left.{lines_in};
-ghost use Rattle.race_files.specs.Races.{IsRaceIn};
+ghost use Rattle.race_files.specs.Races.{IsRaceIn, IsRecent};
 ghost use Rattle.schedule_lines.specs.Printed.{Prints};
 ghost use Rattle.schedule_lines.specs.bytes.Writing.{AppendsPart};
+ghost use Rattle.schedule_lines.specs.declared.faults.Fault.TheVariants.{WriteFailed};
 
 use crate::progress::SearchProgress;
-use access_model::GateError;
+use crate::unlisted::Unlisted;
 use command_line::{OutcomeForm, Outcomes, ScheduleForm};
-use diagnostics::{Context, Faulty, tell_faulty};
-use exit_status::{ProgramEnding, read_bytes, refused_of, why_told, why_told_of};
+use exit_status::{ProgramEnding, read_bytes};
 use exploration::{Observer, Stop};
 use gate_core::Core;
 use outcome_texts::{Method, OutcomeListing as RaceListing, SearchPlan};
 use program_checks::{Judged, VerdictForm, bad_claim, tell_claims};
 use race_files::{RaceFile, RaceSource, read_race};
-use schedule_lines::bytes::{ReplayFault, write_out};
+use schedule_lines::bytes::write_out;
 use schedule_text::Output;
 use shown_events::{Form, Style, html};
 use shown_outcomes::{
@@ -52,7 +55,13 @@ pub fn run_outcomes<R: Files + Clock + Alloc<A = Global>, I: Read, W: Write, E: 
     ensures memory { OnErr result (Keeps (W.contents writer.old) (W.contents writer.new)) }
 {
     match read_bytes(rt, alloc, asked.file, reader, errors) {
-        Ok(bytes) => Ok(answer_outcomes(rt, asked, bytes.as_slice(), writer, errors, watched)),
+        Ok(bytes) => {
+            let bytes = bytes.as_slice();
+            match answer_outcomes(rt, asked, bytes, writer, errors, watched) {
+                Ok(ending) => Ok(ending),
+                Err(why) => Ok(why.told(alloc, asked, bytes, errors)),
+            }
+        }
         Err(ending) => Ok(ending),
     }
 }
@@ -66,56 +75,60 @@ struct Answered {
     judged: Judged,
 }
 
-/// Writes the outcomes of the race that these bytes have, in the form that is asked for.
-fn answer_outcomes<R: Files + Clock + Alloc<A = Global>, W: Write, E: Write>(
+/// Writes the outcomes of the race that these bytes have, in the form that is asked for, and the verdicts on what it claims. It ends as Listed exactly
+/// if these are all outcomes, and all claims hold.
+///
+/// # Errors
+///
+/// Why nothing was written; or that a write failed, and then the first bytes of all that was to be written are.
+pub fn answer_outcomes<R: Files + Clock + Alloc<A = Global>, W: Write, E: Write>(
     rt: &R,
     asked: Outcomes<'_>,
     bytes: &[u8],
     writer: &mut W,
     errors: &mut E,
     watched: Option<Stderr>,
-) -> ProgramEnding
-    ensures ends { (result ≡ Listed) ⊎ (result ≡ Refused) }
-    ensures told { asked.entry.form ≡ Text → asked.entry.ends ≡ false →
-        EndsTold asked.entry (Some bytes.now) (W.contents writer.old) (W.contents writer.new) result }
+) -> Result<ProgramEnding, Unlisted>
+    ensures ends { IfOk result (λ ending. (ending ≡ Listed) ⊎ (ending ≡ Refused)) }
+    ensures listed { asked.entry.form ≡ Text → asked.entry.ends ≡ false →
+        IfOk result (IsListed asked.entry bytes.now (W.contents writer.old) (W.contents writer.new)) }
+    ensures why { asked.entry.form ≡ Text → asked.entry.ends ≡ false →
+        IfErr result (IsUnlisted asked.entry bytes.now (W.contents writer.old) (W.contents writer.new)) }
 {
     let mut told = Output::new(rt.alloc());
     let mut watch = SearchProgress::new(rt, watched);
-    match answer_race(rt, asked, bytes, &mut watch, &mut told, errors) {
-        Ok(answered) => write_told(&told, &answered, writer, errors),
-        Err(ending) => ending,
-    }
+    let answered = answer_race(rt, asked, bytes, &mut watch, &mut told, errors)?;
+    write_told(&told, &answered, writer)
 }
 
-/// Writes what is told. It ends as Listed where that is all outcomes, and all claims hold.
-fn write_told<W: Write, E: Write>(
+/// Writes what is told, and returns how the program ends then.
+///
+/// # Errors
+///
+/// That a write failed: then the first bytes are written.
+fn write_told<W: Write>(
     told: &Output,
     answered: &Answered,
     writer: &mut W,
-    errors: &mut E,
-) -> ProgramEnding
-    ensures ends { (result ≡ Listed) ⊎ (result ≡ Refused) }
-    ensures whole { result ≡ Listed → answered.now.is_whole ≡ true }
-    ensures written { Appends (W.contents writer.old) (W.contents writer.new) told.now.bytes.items
-        ⊎ ((result ≡ Refused) × AppendsPart (W.contents writer.old) (W.contents writer.new) told.now.bytes.items) }
+) -> Result<ProgramEnding, Unlisted>
+    ensures ends { IfOk result (λ ending. ending ≡ list_ending answered.now.is_whole answered.now.judged) }
+    ensures written { OnOk result (Appends (W.contents writer.old) (W.contents writer.new) told.now.bytes.items) }
+    ensures part { OnErr result (AppendsPart (W.contents writer.old) (W.contents writer.new) told.now.bytes.items) }
+    ensures why { IfErr result (λ why. why ≡ Unwritten WriteFailed) }
 {
     match write_out(writer, told.bytes.as_slice()) {
-        Ok(()) => ending_of(answered),
-        Err(fault) => why_told(fault.text(), errors),
+        Ok(()) => Ok(list_ending(answered.is_whole, answered.judged)),
+        Err(fault) => Err(Unlisted::Unwritten(fault)),
     }
 }
 
-/// How it ends where all was written that is told.
-fn ending_of(answered: &Answered) -> ProgramEnding
-    ensures ends { (result ≡ Listed) ⊎ (result ≡ Refused) }
-    ensures whole { result ≡ Listed → answered.now.is_whole ≡ true }
+/// How it ends where all was written that is told: as Listed if these are all outcomes, and all claims hold.
+fn list_ending(is_whole: bool, judged: Judged) -> ProgramEnding
+    ensures { result ≡ list_ending is_whole judged }
 {
-    if !answered.is_whole {
-        return ProgramEnding::Refused;
-    }
-    match answered.judged {
-        Judged::Hold => ProgramEnding::Listed,
-        Judged::Broken | Judged::Unjudged => ProgramEnding::Refused,
+    match judged {
+        Judged::Hold if is_whole => ProgramEnding::Listed,
+        Judged::Hold | Judged::Broken | Judged::Unjudged => ProgramEnding::Refused,
     }
 }
 
@@ -123,7 +136,8 @@ fn ending_of(answered: &Answered) -> ProgramEnding
 ///
 /// # Errors
 ///
-/// How the program ends if they aren't told: why is told on the writer of faults.
+/// Why they aren't told: the first fault of the text, the first line that claims something by what is no condition, or want of memory; or a
+/// schedule of theirs was to be saved, and wasn't.
 fn answer_race<R: Files + Clock + Alloc<A = Global>, E: Write>(
     rt: &R,
     asked: Outcomes<'_>,
@@ -131,16 +145,15 @@ fn answer_race<R: Files + Clock + Alloc<A = Global>, E: Write>(
     watch: &mut SearchProgress<'_, R>,
     told: &mut Output,
     errors: &mut E,
-) -> Result<Answered, ProgramEnding>
-    ensures ends { IfErr result (λ ending. ending ≡ Refused) }
-    ensures told { asked.entry.form ≡ Text → asked.entry.ends ≡ false →
-        IfOk result (λ answered. TellsRace asked.entry answered.is_whole bytes.now told.old.bytes.items told.new.bytes.items) }
+) -> Result<Answered, Unlisted>
+    ensures told { asked.entry.form ≡ Text → asked.entry.ends ≡ false → IfOk result (λ answered.
+        TellsRace asked.entry answered.is_whole answered.judged bytes.now told.old.bytes.items told.new.bytes.items) }
+    ensures why { asked.entry.form ≡ Text → asked.entry.ends ≡ false → IfErr result (IsWhyUnlisted asked.entry bytes.now) }
 {
-    let alloc = rt.alloc();
-    let file = read_race(alloc, bytes).map_err(|fault| tell_fault(
-        alloc, bytes, fault, asked.file, errors,
-    ))?;
-    answer_file(rt, asked, bytes, file, watch, told, errors)
+    match read_race(rt.alloc(), bytes) {
+        Ok(file) => answer_file(rt, asked, bytes, file, watch, told, errors),
+        Err(fault) => Err(Unlisted::Faulty(fault)),
+    }
 }
 
 /// Tells the outcomes of a race that was read from these bytes, and what its claims come to.
@@ -152,11 +165,12 @@ fn answer_file<R: Files + Clock + Alloc<A = Global>, E: Write>(
     watch: &mut SearchProgress<'_, R>,
     told: &mut Output,
     errors: &mut E,
-) -> Result<Answered, ProgramEnding>
-    requires { IsRaceIn (lines_in 1048576 bytes.now) file.core file.calls.race.calls.items }
-    ensures ends { IfErr result (λ ending. ending ≡ Refused) }
-    ensures told { asked.entry.form ≡ Text → asked.entry.ends ≡ false →
-        IfOk result (λ answered. TellsRace asked.entry answered.is_whole bytes.now told.old.bytes.items told.new.bytes.items) }
+) -> Result<Answered, Unlisted>
+    requires race { IsRaceIn (lines_in 1048576 bytes.now) file.core file.calls.race.calls.items }
+    requires recent { IsRecent file.core }
+    ensures told { asked.entry.form ≡ Text → asked.entry.ends ≡ false → IfOk result (λ answered.
+        TellsRace asked.entry answered.is_whole answered.judged bytes.now told.old.bytes.items told.new.bytes.items) }
+    ensures why { asked.entry.form ≡ Text → asked.entry.ends ≡ false → IfErr result (IsWhyUnlisted asked.entry bytes.now) }
 {
     let alloc = rt.alloc();
     let RaceFile { core, calls } = file;
@@ -165,31 +179,26 @@ fn answer_file<R: Files + Clock + Alloc<A = Global>, E: Write>(
         bytes,
         calls: &calls,
     };
-    expect_claims(source, &core, asked, errors)?;
+    expect_claims(source, &core, asked)?;
     let answered = list_judged(source, core, asked, watch, told);
     watch.end();
-    match answered {
-        Ok(answered) => {
-            save(rt, source, &answered.listing, asked, errors)?;
-            Ok(answered)
-        }
-        Err(stop) => Err(stopped(stop, asked, errors)),
-    }
+    let answered = answered?;
+    save(rt, source, &answered.listing, asked, errors)?;
+    Ok(answered)
 }
 
-/// Tells the first line that claims something by what is no condition.
-fn expect_claims<E: Write>(
-    source: RaceSource<'_>,
-    core: &Core,
-    asked: Outcomes<'_>,
-    errors: &mut E,
-) -> Result<(), ProgramEnding>
-    ensures { IfErr result (λ ending. ending ≡ Refused) }
+/// That each line that claims something does so by a condition.
+///
+/// # Errors
+///
+/// What is told of the first line that doesn't, or that memory was refused.
+fn expect_claims(source: RaceSource<'_>, core: &Core, asked: Outcomes<'_>) -> Result<(), Unlisted>
+    ensures { IfErr result (IsWhyUnlisted asked.entry source.entry.bytes.now) }
 {
     match bad_claim(source, core, asked.file) {
         Ok(None) => Ok(()),
-        Ok(Some(text)) => Err(why_told(text.as_str(), errors)),
-        Err(AllocError) => Err(refused_of(GateError::NoMemory, asked.file, errors)),
+        Ok(Some(text)) => Err(Unlisted::BadClaim(text)),
+        Err(AllocError) => Err(Unlisted::Stopped(Stop::NoMemory)),
     }
 }
 
@@ -209,7 +218,9 @@ fn list_judged<W: Observer>(
     ensures expanded { IfOk result (λ answered. answered.listing.all.found.expanded ≤ length answered.listing.all.found.states) }
     ensures within { IfOk result (λ answered. All (λ outcome. outcome.end < length answered.listing.all.found.states) answered.listing.outcomes.items) }
     ensures told { asked.entry.form ≡ Text → asked.entry.ends ≡ false →
-        IfOk result (λ answered. TellsRace asked.entry answered.is_whole source.entry.bytes.now told.old.bytes.items told.new.bytes.items) }
+        IfOk result (λ answered. TellsRace asked.entry answered.is_whole answered.judged source.entry.bytes.now
+        told.old.bytes.items told.new.bytes.items) }
+    ensures not_recent { asked.entry.form ≡ Text → asked.entry.ends ≡ false → IfErr result (λ stop. stop ≡ TooMany → ¬ IsRecent core) }
 {
     let mut verdicts = Output::new(source.alloc);
     let judged = judge_claims(source, &core, asked, watch, &mut verdicts)?;
@@ -234,14 +245,28 @@ fn judge_claims<W: Observer>(
     verdicts: &mut Output,
 ) -> Result<Judged, Stop>
     requires { source.calls.now.race.tasks ≡ core.now.config.tasks }
-    ensures { All (λ line. is_claim line ≡ false) (lines_in 1048576 source.entry.bytes.now).lines → verdicts.new ≡ verdicts.old }
+    ensures nothing { All (λ line. is_claim line ≡ false) (lines_in 1048576 source.entry.bytes.now).lines → verdicts.new ≡ verdicts.old }
+    ensures holds { All (λ line. is_claim line ≡ false) (lines_in 1048576 source.entry.bytes.now).lines → IfOk result (λ judged. judged ≡ Hold) }
+    ensures not_recent { IfErr result (λ stop. stop ≡ TooMany → ¬ IsRecent core.now) }
 {
+    tell_claims(
+        source,
+        core,
+        plan_of(asked).limit,
+        form_of(asked),
+        watch,
+        verdicts,
+    )
+}
+
+/// In which form verdicts are told.
+fn form_of(asked: Outcomes<'_>) -> VerdictForm {
     let Details {
         schedules,
         style,
         ..
     } = details_of(asked);
-    let form = VerdictForm {
+    VerdictForm {
         broken_alone: false,
         has_schedules: schedules.are_told(),
         steps: match asked.form {
@@ -251,8 +276,7 @@ fn judge_claims<W: Observer>(
         mark: schedules.mark(),
         margin: schedules.margin(),
         style,
-    };
-    tell_claims(source, core, plan_of(asked).limit, form, watch, verdicts)
+    }
 }
 
 /// How the states of a race are searched.
@@ -289,6 +313,7 @@ fn list_race<W: Observer>(
     ensures some { asked.entry.form ≡ Text → asked.entry.ends ≡ false → IfOk result (λ listing. listing.all.found.expanded < length listing.all.found.states →
         TellsSome (method_of asked.entry.reduction) core source.entry.calls.now.race.tasks source.entry.calls.now.race.calls.items
         asked.entry.limit (details_of asked.entry) told.old.bytes.items told.new.bytes.items) }
+    ensures not_recent { asked.entry.form ≡ Text → asked.entry.ends ≡ false → IfErr result (λ stop. stop ≡ TooMany → ¬ IsRecent core) }
 {
     let (plan, details) = (plan_of(asked), details_of(asked));
     let shape = match asked.form {
@@ -308,24 +333,29 @@ fn list_race<W: Observer>(
 }
 
 /// Saves a schedule of each outcome, if that is asked for.
+///
+/// # Errors
+///
+/// That one wasn't saved: why is told on the writer of faults.
 fn save<R: Files + Alloc<A = Global>, E: Write>(
     rt: &R,
     source: RaceSource<'_>,
     listing: &RaceListing,
     asked: Outcomes<'_>,
     errors: &mut E,
-) -> Result<(), ProgramEnding>
+) -> Result<(), Unlisted>
     requires table { IsTable (next_by listing.now.method source.calls.now.race.calls.items source.calls.now.race.tasks)
         source.calls.now.race.tasks listing.now.all.found.states listing.now.all.found.origins.items listing.now.all.found.edges.items }
     requires rows { length listing.now.all.found.edges.items ≡ listing.now.all.found.expanded * source.calls.now.race.tasks }
     requires expanded { listing.now.all.found.expanded ≤ length listing.now.all.found.states }
     requires within { All (λ outcome. outcome.end < length listing.now.all.found.states) listing.now.outcomes.items }
-    ensures { IfErr result (λ ending. ending ≡ Refused) }
+    ensures { IfErr result (λ why. (why ≡ Unsaved) × (is_some asked.entry.save ≡ true)) }
 {
     match asked.save {
         Some(folder) => {
             let style = details_of(asked).style;
-            save_outcomes(rt, source, listing, style, folder, errors)
+            let saved = save_outcomes(rt, source, listing, style, folder, errors);
+            saved.map_err(|_| Unlisted::Unsaved)
         }
         None => Ok(()),
     }
@@ -342,39 +372,6 @@ fn tell_verdicts(asked: Outcomes<'_>, verdicts: &Output, told: &mut Output)
                 html::print_text(told, verdicts.bytes.as_slice());
             }
             html::print_end(told);
-        }
-    }
-}
-
-/// Tells the fault of a race in these bytes, with its line and how to mend it.
-fn tell_fault<E: Write>(
-    alloc: Global,
-    bytes: &[u8],
-    fault: ReplayFault,
-    file: Option<&str>,
-    errors: &mut E,
-) -> ProgramEnding
-    ensures { result ≡ Refused }
-{
-    let (context, rest) = Context::find(bytes, fault.line);
-    let faulty = Faulty {
-        file,
-        fault,
-        context,
-        rest,
-    };
-    tell_faulty(alloc, faulty, errors)
-}
-
-/// Tells why the outcomes aren't told.
-fn stopped<E: Write>(stop: Stop, asked: Outcomes<'_>, errors: &mut E) -> ProgramEnding
-    ensures { result ≡ Refused }
-{
-    match stop {
-        Stop::NoMemory => refused_of(GateError::NoMemory, asked.file, errors),
-        Stop::TooMany => {
-            let limit = asked.limit;
-            why_told_of(format_args!("more than {limit} states"), asked.file, errors)
         }
     }
 }

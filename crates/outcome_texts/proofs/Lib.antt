@@ -2,3 +2,8 @@ pub mod Mapped
 pub mod Complete
 pub mod Ordered
 pub mod OutcomeLines
+pub mod Replies
+pub mod Fitting
+pub mod Tails
+pub mod Heard
+pub mod Apart

@@ -1,8 +1,8 @@
 //! The text of an outcome.
 
-ghost use Rattle.std.specs.Prelude.{◌≡◌, IfOk, slice_get};
+ghost use Rattle.std.specs.Prelude.{◌≡◌, All, IfOk, slice_get, take};
 ghost use Rattle.schedule_lines.specs.Printed.{Prints};
-ghost use Rattle.outcome_texts.specs.Texts.{answer_part, told_answer, course_text, outcome_text};
+ghost use Rattle.outcome_texts.specs.Texts.{NumberFits, NumbersFit, answer_part, told_answer, course_text, outcome_text};
 
 use access_model::{GateError, Reply};
 use races::{CALLS, CallAnswers, Race};
@@ -10,14 +10,15 @@ use schedule_text::Output;
 use std::alloc::{AllocError, Global};
 
 /// The text of an outcome: what the calls of each task have answered, task by task, `T skipped` for each that was skipped, and `T waits` for
-/// each task that has calls left; all joined by `; `.
+/// each task that has calls left; all joined by `; `. Each number in it can be read back.
 #[tactic(auto, unfolding(crate::specs::Texts::outcome_text))]
 pub fn outcome_text(
     alloc: Global,
     race: &Race,
     courses: &[CallAnswers],
 ) -> Result<Vec<u8>, AllocError>
-    ensures { IfOk result (λ text. text.items ≡ outcome_text race.now.tasks race.now.calls.items courses.now) }
+    ensures text { IfOk result (λ text. text.items ≡ outcome_text race.now.tasks race.now.calls.items courses.now) }
+    ensures numbers { IfOk result (λ text. NumbersFit race.now.tasks courses.now) }
 {
     let mut out = Output::new(alloc);
     for task in 0..race.tasks {
@@ -40,7 +41,8 @@ fn course_of(courses: &[CallAnswers], task: u8) -> Option<CallAnswers>
 /// Prints what the calls of a task have answered, or that they were skipped, each behind `; `, and that it waits, where it has calls left.
 #[tactic(auto, unfolding(crate::specs::Texts::course_text))]
 fn print_course(out: &mut Output, race: &Race, task: u8, course: CallAnswers)
-    ensures { Prints out.old out.new (course_text race.now.calls.items task course) }
+    ensures printed { Prints out.old out.new (course_text race.now.calls.items task course) }
+    ensures numbers { All NumberFits (take course.turn course.answers) }
 {
     let behind = usize::from(course.turn).min(CALLS);
     for turn in 0..behind {
@@ -54,7 +56,8 @@ fn print_course(out: &mut Output, race: &Race, task: u8, course: CallAnswers)
 
 /// Prints what a call of a task has answered, or that it was skipped, behind `; `.
 fn print_answer(out: &mut Output, task: u8, answer: Option<Result<Reply, GateError>>)
-    ensures { Prints out.old out.new (answer_part task answer) }
+    ensures printed { Prints out.old out.new (answer_part task answer) }
+    ensures numbers { NumberFits answer }
 {
     match answer {
         Some(answer) => {

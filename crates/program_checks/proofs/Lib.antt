@@ -1,4 +1,5 @@
 mod Marks
 mod Put
 mod SaidSoFar
+mod Verdicts
 mod Written

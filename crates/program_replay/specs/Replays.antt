@@ -22,13 +22,24 @@ abbrev pub ending_of : Result (Unit {0}) ReplayFault → ProgramEnding
 ending_of (Ok done) = Done
 ending_of (Err fault) = Refused
 
+-- the same over the gates that threads use
+abbrev pub over_gates_ending_of : Result (Unit {0}) ReplayFault → ProgramEnding
+over_gates_ending_of (Ok done) = DoneOverGates
+over_gates_ending_of (Err fault) = Refused
+
 -- A plain replay of standard input: what it read, wrote and answered is a replay's, and the ending says which answer it was.
 pub record EndsReplayed (input left held holds : Option (List ℕ)) (ending : ProgramEnding) : Type 0 where
   pub answer : Result (Unit {0}) ReplayFault
   pub replayed : Replayed input left held holds answer
   pub ends : ending ≡ ending_of answer
 
--- The same of a file, whose bytes no contract tells.
+-- The same over the gates that threads use.
+pub record EndsReplayedOverGates (input left held holds : Option (List ℕ)) (ending : ProgramEnding) : Type 0 where
+  pub answer : Result (Unit {0}) ReplayFault
+  pub replayed : Replayed input left held holds answer
+  pub ends : ending ≡ over_gates_ending_of answer
+
+-- A plain replay of a file, whose bytes no contract tells.
 pub record EndsReplayedFile (held holds : Option (List ℕ)) (ending : ProgramEnding) : Type 0 where
   pub input : Option (List ℕ)
   pub left : Option (List ℕ)

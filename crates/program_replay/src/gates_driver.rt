@@ -1,13 +1,19 @@
 //! The gates that threads use, driven by one thread.
 
-ghost use Rattle.std.specs.Prelude.{◌≡◌, ◌≢◌, ◌<◌, ◌≤◌, ◌+◌, ℕ, [], All, IfErr, IfOk, OnErr, OnOk, vec_len};
+ghost use Rattle.std.specs.Prelude.{◌≡◌, ◌≢◌, ◌<◌, ◌≤◌, ◌+◌, ℕ, [], All, List, Some, Err, IfErr, IfOk, OnErr, OnOk, length, slice_index_or, vec_len};
 ghost use Rattle.access_model.specs.declared.errors.GateError.TheVariants.{Invalid, NoMemory};
-ghost use Rattle.cpu_words.specs.Lists.{AreOpening};
 ghost use Rattle.cpu_words.specs.Names.{words_in_all};
-ghost use Rattle.gate_schedules.specs.Answers.{asked_by, idle_step, unless_refused};
+ghost use Rattle.gate_schedules.specs.Answers.{asked_by, begin_answer, idle_step, step_answer, unless_refused, wanted_hook};
 ghost use Rattle.gate_world.specs.Configs.{IsWithin};
+ghost use Rattle.gate_world.specs.Worlds.{World, happens, opening};
+ghost use Rattle.gate_world.specs.declared.config.Config.{Config as ConfigType};
+ghost use Rattle.gate_world.specs.declared.entries.Entry.{Entry, TheVariants.{Begins, Steps}};
 ghost use Rattle.gate_world.specs.declared.work.Phase.{Phase};
+ghost use Rattle.gate_steps.specs.call_events.Grown.{HasSeen};
+ghost use Rattle.line_players.specs.Replayed.{Replayed};
 ghost use Rattle.program_replay.specs.Noted.{words_after};
+ghost use Rattle.program_replay.specs.Shown.{IsNew};
+ghost use Rattle.program_replay.specs.Standing.{AreGathered, HasMet, HasOnlySeen, with_begun};
 ghost use Rattle.vfs_gates.specs.Splitting.{AreNumbered, Gives};
 ghost use Rattle.gate_core.specs.Drivers.{listed_word};
 ghost use Rattle.transcripts.specs.Limits.{IsLineNumber};
@@ -25,48 +31,96 @@ use std::io::{Read, Write};
 use vfs_gates::{Gates, Task};
 
 /// The gates with a task for each number, none of which is ever joined, and the words as the events of all steps have left them.
-/// Gates that are open tell no word: another thread might change it. Here there is none.
+/// Gates that are open tell no word: another thread might change it. Here there is none. That shows after each step, when all tasks meet.
 #[derive(Drop)]
 pub struct GatesDriver {
     config: Config,
     gates: Gates,
-    /// Each at the index that is its number.
-    tasks: Vec<Task>,
+    /// The task with number 0.
+    first: Task,
+    /// The others, in the order of their numbers.
+    others: Vec<Task>,
     /// Each at its place.
     words: Vec<u64>,
-    ghost from: { All (λ task. IsFrom task gates) tasks.items },
+    ghost first_from: { IsFrom first gates },
+    ghost others_from: { All (λ task. IsFrom task gates) others.items },
     ghost whole: { vec_len words ≡ words_in_all },
 }
 
 impl GatesDriver {
+    ghost use Rattle.program_replay.specs.Driven.{AreOthersKept, GatesShow, task_in, tasks_of};
+
     /// All words as they begin, and every task idle with nothing held. Refused as `Gates::new` is, then as `Task::split` is, and at
     /// last where there is no memory for the words.
     pub fn new(alloc: Global, config: Config) -> Result<GatesDriver, GateError>
-        ensures config { IfOk result (λ driver. driver.config ≡ config) }
-        ensures tasks { IfOk result (λ driver. vec_len driver.tasks ≡ config.tasks) }
-        ensures numbers { IfOk result (λ driver. AreNumbered 0 driver.tasks.items) }
-        ensures words { IfOk result (λ driver. AreOpening (λ place. place) words_in_all driver.words.items) }
+        ensures opens { IfOk result (λ driver. GatesShow driver config opening) }
         ensures within { OnOk result (IsWithin config) }
         ensures invalid { ¬ IsWithin config → result ≡ Err Invalid }
         ensures memory { IsWithin config → IfErr result (λ e. e ≡ NoMemory) }
     {
-        let (gates, first) = Gates::new(alloc, config)?;
-        let tasks = all_tasks(alloc, &gates, first, config.tasks)?;
+        let (gates, mut first) = Gates::new(alloc, config)?;
+        let others = split_all(alloc, &gates, &mut first, config.tasks)?;
         let words = words_at_start(alloc)?;
         Ok(GatesDriver {
             config,
             gates,
-            tasks,
+            first,
+            others,
             words,
         })
+    }
+
+    /// Begins an operation of a task that there is.
+    fn begin_there(&mut self, number: usize, op: Op) -> Result<(), GateError>
+        requires there { number ≤ vec_len self.old.others }
+        ensures answer { (t : SeatedTask) → result ≡ unless_refused (refusal_at op (task_in self.old number t)) }
+        ensures begun { (t : SeatedTask) → OnOk result (task_in self.new number t ≡ with_begun op (task_in self.old number t)) }
+        ensures refused { (t : SeatedTask) → OnErr result (task_in self.new number t ≡ task_in self.old number t) }
+        ensures others { AreOthersKept number self.old self.new }
+        ensures words { self.new.words ≡ self.old.words }
+    {
+        if number == 0 {
+            self.first.begin(op)
+        } else {
+            self.others[number - 1].begin(op)
+        }
+    }
+
+    /// Does the next event of a task that there is; none of an idle one.
+    fn step_there(&mut self, number: usize, hook: Result<(), u16>) -> Step
+        requires there { number ≤ vec_len self.old.others }
+        ensures event { (t : SeatedTask) (phase : Phase) → (task_in self.old number t).phase ≡ Some phase →
+            Stepped phase hook (task_in self.old number t) result (task_in self.new number t) }
+        ensures idle { (t : SeatedTask) → IsIdle (task_in self.old number t) →
+            (result ≡ idle_step) × (task_in self.new number t ≡ task_in self.old number t) }
+        ensures others { AreOthersKept number self.old self.new }
+        ensures words { self.new.words ≡ self.old.words }
+    {
+        if number == 0 {
+            self.first.step(&self.gates, hook)
+        } else {
+            self.others[number - 1].step(&self.gates, hook)
+        }
+    }
+
+    /// Lets all tasks meet after a step of one: the first meets that one, and then each other. So each knows that all stand where they stood.
+    fn gather(&mut self, number: usize)
+        requires there { number ≤ vec_len self.old.others }
+        ensures gathered { AreGathered number (tasks_of self.old) (tasks_of self.new) }
+        ensures config { self.new.config ≡ self.old.config }
+        ensures words { self.new.words ≡ self.old.words }
+    {
+        if number > 0 {
+            self.first.meet(&self.gates, &mut self.others[number - 1]);
+        }
+        meet_each(&self.gates, &mut self.first, self.others.as_mut_slice());
     }
 
     /// Notes what an event left of its word.
     fn note(&mut self, event: Event)
         ensures words { self.new.words.items ≡ words_after (Some event) self.old.words.items }
         ensures config { self.new.config ≡ self.old.config }
-        ensures gates { self.new.gates ≡ self.old.gates }
-        ensures tasks { self.new.tasks ≡ self.old.tasks }
+        ensures tasks { tasks_of self.new ≡ tasks_of self.old }
     {
         let place = event.word.place();
         if place < self.words.len() {
@@ -75,21 +129,20 @@ impl GatesDriver {
     }
 }
 
-/// Each call says what it does to the tasks and to the list of words. Nothing is said of which world they show: what one task finds there was
-/// so at that moment, and that no other thread moves them is known to whoever made them, and to no contract. So what is proved of the text of
-/// a schedule is proved of a replay over the core; that a replay over these gates prints the same is tested. Their words, which `words` and
-/// `tree` print, are those of the list.
+/// The gates that threads use show the same worlds as the core, since no other thread moves them. Their words, which `words` and `tree` print, are
+/// those of a list that each step moves by its event.
 impl Driver for GatesDriver {
-    ghost use Rattle.std.specs.Prelude.{false};
-    ghost use Rattle.program_replay.specs.Driven.{AreOthersKept, task_in, with_begun};
+    ghost use Rattle.std.specs.Prelude.{true};
+    ghost use Rattle.program_replay.specs.Driven.{GatesShow};
+    ghost use Rattle.program_replay.specs.Tells.{gates_tell};
 
-    ghost is_known = { false };
+    ghost is_known = { true };
 
-    ghost shows = { λ _ _ _. ⊥ };
+    ghost shows = { GatesShow };
 
     ghost word_of = { λ driver. listed_word driver.config driver.words.items };
 
-    ghost tells = { λ _ _ _ _ none. absurd none };
+    ghost tells = { gates_tell };
 
     fn new(alloc: Global, config: Config) -> Result<GatesDriver, GateError> {
         GatesDriver::new(alloc, config)
@@ -100,50 +153,36 @@ impl Driver for GatesDriver {
     /// # Errors
     ///
     /// Invalid where there is no such task; else as `Task::begin` is. Then nothing is changed.
-    fn begin(&mut self, task: u8, op: Op) -> Result<(), GateError>
-        ensures answer { (t : SeatedTask) → task < vec_len self.old.tasks → result ≡ unless_refused (refusal_at op (task_in self.old task t)) }
-        ensures not_there { vec_len self.old.tasks ≤ task → result ≡ Err Invalid }
-        ensures begun { (t : SeatedTask) → OnOk result (task_in self.new task t ≡ with_begun op (task_in self.old task t)) }
-        ensures refused { (t : SeatedTask) → OnErr result (task_in self.new task t ≡ task_in self.old task t) }
-        ensures others { AreOthersKept task self.old self.new }
-        ensures words { self.new.words ≡ self.old.words }
-    {
+    fn begin(&mut self, task: u8, op: Op) -> Result<(), GateError> {
         let number = task as usize;
-        if number >= self.tasks.len() {
+        if number > self.others.len() {
             return Err(GateError::Invalid);
         }
-        self.tasks[number].begin(op)
+        self.begin_there(number, op)
     }
 
     /// Does the next event of a task's operation, and notes what it left of its word; none of a task that is idle or that there isn't.
-    fn step(&mut self, task: u8, hook: Result<(), u16>) -> Step
-        ensures event { (t : SeatedTask) (phase : Phase) → task < vec_len self.old.tasks → (task_in self.old task t).phase ≡ Some phase →
-            Stepped phase hook (task_in self.old task t) result (task_in self.new task t) }
-        ensures idle { (t : SeatedTask) → task < vec_len self.old.tasks → IsIdle (task_in self.old task t) →
-            (result ≡ idle_step) × (task_in self.new task t ≡ task_in self.old task t) }
-        ensures not_there { (t : SeatedTask) → vec_len self.old.tasks ≤ task →
-            (result ≡ idle_step) × (task_in self.new task t ≡ task_in self.old task t) }
-        ensures others { AreOthersKept task self.old self.new }
-        ensures words { self.new.words.items ≡ words_after result.event self.old.words.items }
-    {
+    fn step(&mut self, task: u8, hook: Result<(), u16>) -> Step {
         let number = task as usize;
-        if number >= self.tasks.len() {
+        if number > self.others.len() {
             return Step::idle();
         }
-        let step = self.tasks[number].step(&self.gates, hook);
+        let step = self.step_there(number, hook);
         if let Some(event) = step.event {
             self.note(event);
+            self.gather(number);
         }
         step
     }
 
     /// The hook whose answer a task's next step reads; None where that is the same whatever a hook answers, and where there is no such
     /// task.
-    fn wants_hook(&self, task: u8) -> Option<HookKind>
-        ensures there { (t : SeatedTask) → task < vec_len self.now.tasks → result ≡ asked_by (task_in self.now task t).phase }
-        ensures not_there { vec_len self.now.tasks ≤ task → result ≡ None }
-    {
-        self.tasks.get(task as usize)?.wants_hook()
+    fn wants_hook(&self, task: u8) -> Option<HookKind> {
+        if task == 0 {
+            self.first.wants_hook()
+        } else {
+            self.others.get(task as usize - 1)?.wants_hook()
+        }
     }
 
     /// The value of a word, as the events so far have left it; None where the configuration has no such word.
@@ -156,9 +195,9 @@ impl Driver for GatesDriver {
     }
 }
 
-/// Reads a schedule and replays it over the gates that threads use, driven by this one thread: in the language of `line_replays`' `replay`,
-/// with the same text, as tests show, and the same faults. A task is made for each number by splits, and none is joined. Words and trees are
-/// printed from a list that each step moves by its event, since gates tell their words only once they are closed.
+/// Reads a schedule and replays it over the gates that threads use, driven by this one thread: it prints what `line_replays`' `replay` prints of the
+/// same bytes, and ends by the same faults. A task is made for each number by splits, and none is joined. Words and trees are printed from a list
+/// that each step moves by its event, since gates tell their words only once they are closed.
 ///
 /// # Errors
 ///
@@ -170,54 +209,51 @@ pub fn replay_gates<R: Read, W: Write>(
     reader: &mut R,
     writer: &mut W,
 ) -> Result<(), ReplayFault>
+    ensures replayed { Replayed (R.remaining reader.old) (R.remaining reader.new) (W.contents writer.old) (W.contents writer.new) result }
     ensures line { IfErr result (λ fault. IsLineNumber fault.line) }
 {
     replay_over::<GatesDriver, R, W>(alloc, reader, writer)
 }
 
-/// The first task and those that it gives its numbers to, so many in all, by their numbers.
-fn all_tasks(
-    alloc: Global,
-    gates: &Gates,
-    mut first: Task,
-    count: u8,
-) -> Result<Vec<Task>, GateError>
-    requires from { IsFrom first gates.now }
-    requires gives { Gives first 1 count }
-    ensures from { IfOk result (λ tasks. All (λ task. IsFrom task gates.now) tasks.items) }
-    ensures count { IfOk result (λ tasks. 1 ≤ count → vec_len tasks ≡ count) }
-    ensures numbers { IfOk result (λ tasks. AreNumbered 0 tasks.items) }
-    ensures memory { IfErr result (λ e. e ≡ NoMemory) }
+/// Lets the first task meet each other one.
+fn meet_each(gates: &Gates, first: &mut Task, others: &mut [Task])
+    requires first { IsFrom first.old gates.now }
+    requires others { All (λ task. IsFrom task gates.now) others.old }
+    ensures same { HasOnlySeen first.old first.new }
+    ensures seen { (entries : List Entry) → HasSeen entries first.old.seen → HasSeen entries first.new.seen }
+    ensures met { (k : ℕ) (t : SeatedTask) → k < length others.old →
+        HasMet first.old (slice_index_or others.old k t) (slice_index_or others.new k t) }
 {
-    let mut tasks = Vec::new(alloc);
-    split_all(alloc, gates, &mut first, count, &mut tasks)?;
-    tasks.insert(0, first).map_err(|_| GateError::NoMemory)?;
-    Ok(tasks)
+    for other in others.iter_mut() {
+        first.meet(gates, other);
+    }
 }
 
-/// Puts the tasks to which the first one gives its numbers, from 1 on, behind none.
+/// Makes a task for each number from 1 on, to which the first one gives it.
 fn split_all(
     alloc: Global,
     gates: &Gates,
     first: &mut Task,
     count: u8,
-    others: &mut Vec<Task>,
-) -> Result<(), GateError>
+) -> Result<Vec<Task>, GateError>
     requires from { IsFrom first.old gates.now }
     requires gives { Gives first.old 1 count }
-    requires none { others.old.items ≡ [] }
+    requires new { IsNew first.old }
     ensures first { OnOk result (IsFrom first.new gates.now) }
     ensures own { OnOk result (own_number first.new.items ≡ 0) }
-    ensures others { OnOk result (All (λ task. IsFrom task gates.now) others.new.items) }
-    ensures count { OnOk result (1 ≤ count → vec_len others.new + 1 ≡ count) }
-    ensures numbers { OnOk result (AreNumbered 1 others.new.items) }
+    ensures stays { OnOk result (IsNew first.new) }
+    ensures others { IfOk result (λ others. All (λ task. IsFrom task gates.now) others.items) }
+    ensures count { IfOk result (λ others. 1 ≤ count → vec_len others + 1 ≡ count) }
+    ensures numbers { IfOk result (λ others. AreNumbered 1 others.items) }
+    ensures new { IfOk result (λ others. All IsNew others.items) }
     ensures memory { IfErr result (λ e. e ≡ NoMemory) }
 {
+    let mut others = Vec::new(alloc);
     for _number in 1..count {
         let other = first.split(alloc, gates)?;
         let Ok(()) = others.push(other) else {
             return Err(GateError::NoMemory);
         };
     }
-    Ok(())
+    Ok(others)
 }

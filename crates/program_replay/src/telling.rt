@@ -57,6 +57,7 @@ pub fn replay_gates_told<R: Read, W: Write, E: Write>(
     writer: &mut W,
     errors: &mut E,
 ) -> Result<(), ReplayFault>
+    ensures replayed { Replayed (R.remaining reader.old) (R.remaining reader.new) (W.contents writer.old) (W.contents writer.new) result }
     ensures line { IfErr result (λ fault. IsLineNumber fault.line) }
 {
     if telling.explains {

@@ -48,7 +48,7 @@ starts_small w (Phase.Writes (WritePhase.Takes m r)) = start_few (w.block r.leve
 starts_small w (Phase.Closes (ClosePhase.Enters f node r)) = start_few (w.block r.level) r.wait r.step
 starts_small w phase = omega arith
 
-exchange_few : (sync : ℕ) (x : Transition) → exchange_rank sync x ≤ 2
+pub exchange_few : (sync : ℕ) (x : Transition) → exchange_rank sync x ≤ 2
 exchange_few sync x = grind arith
 
 module _ (c : Config) (w : Words) where
@@ -59,10 +59,10 @@ module _ (c : Config) (w : Words) where
   tries_small t held (Phase.Freezes x) f = freeze_few x x.step f.5
   tries_small t held phase f = grind (arith, exchange_few)
 
-grace_few : (g : Grace) → grace_left g ≤ 2 * g.tasks + 1
+pub grace_few : (g : Grace) → grace_left g ≤ 2 * g.tasks + 1
 grace_few g = grind arith
 
-callback_few : (tasks : ℕ) (s : CallbackStep) → GraceFits tasks s → callback_left tasks s ≤ 2 * tasks + 3
+pub callback_few : (tasks : ℕ) (s : CallbackStep) → GraceFits tasks s → callback_left tasks s ≤ 2 * tasks + 3
 callback_few tasks (CallbackStep.Claims x) f = omega arith
 callback_few tasks (CallbackStep.AwaitsSections g) f = omega (arith, grace_few g, f.0)
 callback_few tasks (CallbackStep.CallsBack x) f = omega arith
@@ -86,25 +86,25 @@ opening_few : (level : ℕ) (s : UpWriteStep) → opening_left level s ≤ 2 * l
 opening_few level UpWriteStep.ClearsBlock = omega arith
 opening_few level (UpWriteStep.Exits x) = omega arith
 
-freeze_steps : (c : Config) (x : Freeze) (s : FreezeStep) → x.tasks ≡ c.tasks → x.nodes ≡ c.nodes → FreezeFits c x.holder s →
+pub freeze_steps : (c : Config) (x : Freeze) (s : FreezeStep) → x.tasks ≡ c.tasks → x.nodes ≡ c.nodes → FreezeFits c x.holder s →
     freeze_left x s ≤ 6 * c.tasks + c.nodes + 33
 freeze_steps c x (FreezeStep.Closes d) tasks nodes f = omega (arith, closing_few c d.tasks d.step f.2 f.4, closed_few x d.level, tasks, nodes)
 freeze_steps c x (FreezeStep.Cleans marks) tasks nodes f = omega (arith, f.0, tasks)
 freeze_steps c x (FreezeStep.Reopens u code) tasks nodes f = omega (arith, opening_few u.level u.step, f.1)
 freeze_steps c x s tasks nodes f = omega (arith, tasks, nodes)
 
-thaw_steps : (x : Holder) (s : ThawStep) → ThawFits x s → thaw_left s ≤ 14
+pub thaw_steps : (x : Holder) (s : ThawStep) → ThawFits x s → thaw_left s ≤ 14
 thaw_steps x (ThawStep.Reopens u) f = omega (arith, opening_few u.level u.step, f.1)
 thaw_steps x s f = omega arith
 
-want_few : (s : WantStep) → want_rank s ≤ 5
+pub want_few : (s : WantStep) → want_rank s ≤ 5
 want_few s = grind arith
 
-write_steps : (x : WritePhase) → write_left x ≤ 8
+pub write_steps : (x : WritePhase) → write_left x ≤ 8
 write_steps (WritePhase.Wants x) = omega (arith, want_few x.step)
 write_steps x = omega arith
 
-close_steps : (x : ClosePhase) → close_left x ≤ 5
+pub close_steps : (x : ClosePhase) → close_left x ≤ 5
 close_steps x = grind arith
 
 pub steps_small : (c : Config) → IsWithin c → (w : Words) (t : ℕ) (held : Holdings) (phase : Phase) → PhaseFits c t held phase →

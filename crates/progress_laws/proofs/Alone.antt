@@ -54,7 +54,7 @@ module _ (starts tries : ℕ) (w after : Words) (phase : Phase) where
 
 module _ (c : Config) (lim : IsWithin c) (t : ℕ) (lt : t < c.tasks) where
   -- what it is at, and what comes after, has no more room than this
-  abbrev HasRoom : (starts tries : ℕ) → Option Phase → Type 0
+  abbrev pub HasRoom : (starts tries : ℕ) → Option Phase → Type 0
   HasRoom starts tries p = (start_room_of p ≤ starts) × (try_room_of c.processors p ≤ tries)
 
   few_at : (starts tries : ℕ) (w : World) → IsGood c w → (p : Option Phase) → (w.views t).phase ≡ p → HasRoom starts tries p →
@@ -71,7 +71,7 @@ module _ (c : Config) (lim : IsWithin c) (t : ℕ) (lt : t < c.tasks) where
   room_after starts tries phase (Next.Wait q) h room = (omega (arith, h.0, room.0), omega (arith, h.1, room.1))
   room_after starts tries phase (Next.Done answer) h room = (omega arith, omega arith)
 
-  step_alone : (starts tries : ℕ) (w : World) → IsGood c w → (phase : Phase) → (w.views t).phase ≡ Some phase → must_wait w.words phase ≡ false →
+  pub step_alone : (starts tries : ℕ) (w : World) → IsGood c w → (phase : Phase) → (w.views t).phase ≡ Some phase → must_wait w.words phase ≡ false →
       HasRoom starts tries (Some phase) → (hook : HookAnswer) →
       (alone_left starts tries (after_step w t phase hook).words ((after_step w t phase hook).views t).phase < alone_left starts tries w.words (Some phase)) ×
       HasRoom starts tries ((after_step w t phase hook).views t).phase

@@ -310,12 +310,6 @@ want_phase c x = record {
     waiting w a (Next.Wait q) h = h
     waiting w a (Next.Done answer) h = absurd h
 
-drop_phase : (c : Config) (m p : ℕ) → NearsPhase c (Phase.Mounts (MountPhase.Drop m p))
-drop_phase c m p = record {
-  nears = λ lim w good t lt hook at free. tt;
-  stays = λ lim w good t lt hook at waits out. absurd (true≢false (sym waits));
-}
-
 change_phase : (c : Config) (x : Change) → NearsPhase c (Phase.Mounts (MountPhase.Change x))
 change_phase c x = record {
   nears = λ lim w good t lt hook at free.
@@ -343,8 +337,11 @@ change_phase c x = record {
 
 pub mount_phase : (c : Config) (x : MountPhase) → NearsPhase c (Phase.Mounts x)
 mount_phase c (MountPhase.Want x) = want_phase c x
-mount_phase c (MountPhase.Drop m p) = drop_phase c m p
 mount_phase c (MountPhase.Change x) = change_phase c x
+mount_phase c x = record {
+  nears = λ lim w good t lt hook at free. tt;
+  stays = λ lim w good t lt hook at waits out. absurd (true≢false (sym waits));
+}
 
 pub remount_phase : (c : Config) (x : Remount) → NearsPhase c (Phase.Remounts x)
 remount_phase c x = record {

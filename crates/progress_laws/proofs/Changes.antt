@@ -665,7 +665,7 @@ freeze_few turn c x (FreezeStep.Closes d) f = omega (arith, closing_few turn d.s
 freeze_few turn c x (FreezeStep.Reopens u code) f = omega (arith, opening_few turn u.level u.step f.0 f.1)
 freeze_few turn c x s f = omega arith
 
-thaw_few : (turn : ℕ) (x : Thaw) (s : ThawStep) → ThawFits x.holder s → thaw_changes turn s ≤ 3 * turn + 3
+pub thaw_few : (turn : ℕ) (x : Thaw) (s : ThawStep) → ThawFits x.holder s → thaw_changes turn s ≤ 3 * turn + 3
 thaw_few turn x (ThawStep.Reopens u) f = omega (arith, opening_few turn u.level u.step f.0 f.1)
 thaw_few turn x s f = omega arith
 

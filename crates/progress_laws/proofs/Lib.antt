@@ -7,6 +7,11 @@ pub mod AllNearer
 pub mod Changes
 pub mod Settling
 pub mod Alone
+pub mod RunAlone
+pub mod WaitKinds
+pub mod FreezeAlone
+pub mod Sweeps
+pub mod FirstReply
 pub mod Rounds
 pub mod WaitFree
 pub mod Blame

@@ -63,7 +63,7 @@ waits_of w (Some phase) = must_wait w phase
 abbrev pub waits_at : World → ℕ → Bool
 waits_at w t = waits_of w.words (w.views t).phase
 
-start_room_few : (p : Option Phase) → start_room_of p ≤ 7
+pub start_room_few : (p : Option Phase) → start_room_of p ≤ 7
 start_room_few p = grind arith
 
 try_room_few : (processors : ℕ) (p : Option Phase) → try_room_of processors p ≤ 2 * processors + 2

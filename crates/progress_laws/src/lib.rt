@@ -3,6 +3,7 @@
 
 ghost use Rattle.progress_laws.specs.Alone.{SettlesAlone};
 ghost use Rattle.progress_laws.specs.FairRounds.{BlockedAfterRounds, RoundsExist, SettlesFairly, StaysSettled};
+ghost use Rattle.progress_laws.specs.FirstReply.{RepliesOrWaits, most_to_reply};
 ghost use Rattle.progress_laws.specs.LostForEver.{NeverReplies, RemainsForEver};
 ghost use Rattle.progress_laws.specs.LostTasks.{EachIsBlockedBy, NobodyReplies, SettlesAmong, WaitsForRemains};
 ghost use Rattle.progress_laws.specs.StepsLeft.{most_turns, turns_left};
@@ -23,6 +24,12 @@ pub fn calls_that_wait_for_nobody_are_wait_free()
 /// reply or has to wait. Does nothing: its contract is the law.
 pub fn the_others_settle_without_lost_tasks()
     ensures { (c : Config) → IsWithin c → (lost : ℕ → Bool) (entries : List Entry) → SettlesAmong c lost (turns_left c (world_after c entries)) (world_after c entries) }
+{}
+
+/// The first reply: whichever tasks never step again, a scheduler of the others comes to a reply of one of them within so many steps, or to where
+/// each of them that is under way has to wait. Does nothing: its contract is the law.
+pub fn the_first_reply_is_near_beside_lost_tasks()
+    ensures { (c : Config) → IsWithin c → (lost : ℕ → Bool) (entries : List Entry) → RepliesOrWaits c lost (most_to_reply c) (world_after c entries) }
 {}
 
 /// Obstruction-freedom: each task, stepped alone from whatever state, has its reply or has to wait after so many steps, of which there is a bound in

@@ -14,21 +14,21 @@ use Rattle.transcripts.specs.{Limits.{is_config}, Transcript.{ReplayState, confi
 
 -- no line follows
 pub at_end : (from play : Option ReplayState) (all left : Left) (end : Option Fault) (fault : RaceFault) → SetsUp from play all left →
-    left ≡ none_left end → fault ≡ fault_at_end play end → FailsBeforeRace from all fault ⊎ IsMemory fault
+    left ≡ none_left end → fault ≡ fault_at_end play end → FailsBeforeRace from all left fault ⊎ IsMemory fault
 at_end from play all left end fault so_far none is =
-    inl (AtEnd left play so_far (ap (λ (x : Left). x.lines) none) (is ∙ ap (λ (x : Left). fault_at_end play x.fault) (sym none)))
+    inl (AtEnd play so_far (ap (λ (x : Left). x.lines) none) (is ∙ ap (λ (x : Left). fault_at_end play x.fault) (sym none)))
 
 -- a line isn't understood, before the configuration
 pub no_line : (from : Option ReplayState) (all left : Left) (text : List ℕ) (of_line : Fault) (fault : RaceFault) → SetsUp from None all left →
-    left.lines ≡ text ∷ (behind left).lines → parsed text None ≡ Err of_line → fault ≡ Schedule of_line → FailsBeforeRace from all fault ⊎ IsMemory fault
-no_line from all left text of_line fault so_far first e is = inl (AtLine left None text of_line so_far first (ap (fault_of_line None) e) is)
+    left.lines ≡ text ∷ (behind left).lines → parsed text None ≡ Err of_line → fault ≡ Schedule of_line → FailsBeforeRace from all left fault ⊎ IsMemory fault
+no_line from all left text of_line fault so_far first e is = inl (AtLine None text of_line so_far first (ap (fault_of_line None) e) is)
 
 -- a configuration that isn't within the limits
 bad_config : (from : Option ReplayState) (all left : Left) (text : List ℕ) (c : Config) (fault : RaceFault) → SetsUp from None all left →
     left.lines ≡ text ∷ (behind left).lines → parsed text None ≡ Ok (ConfigLine c) → is_config c ≡ false → fault ≡ Schedule (Refused Invalid) →
-    FailsBeforeRace from all fault ⊎ IsMemory fault
+    FailsBeforeRace from all left fault ⊎ IsMemory fault
 bad_config from all left text c fault so_far first understood bad is =
-    inl (AtLine left None text (Refused Invalid) so_far first (ap (fault_of_line None) understood ∙ ap (λ b. (config_effect c b).fault) bad) is)
+    inl (AtLine None text (Refused Invalid) so_far first (ap (fault_of_line None) understood ∙ ap (λ b. (config_effect c b).fault) bad) is)
 
 -- an answer has one error
 err_same : {A E : Type 0} (r : Result A E) (a b : E) → r ≡ Err a → r ≡ Err b → a ≡ b
@@ -38,7 +38,7 @@ err_same r a b h k = cc
 pub not_opened : {A : Type 0} (from : Option ReplayState) (all left : Left) (text : List ℕ) (c : Config) (answer : Result A Fault) (told : Fault) (fault : RaceFault) →
     SetsUp from None all left → left.lines ≡ text ∷ (behind left).lines → parsed text None ≡ Ok (ConfigLine c) → answer ≡ Err told →
     (is_config c ≡ false → answer ≡ Err (Refused Invalid)) → (is_config c ≡ true → IfErr answer (λ f. f ≡ Refused NoMemory)) →
-    fault ≡ Schedule told → FailsBeforeRace from all fault ⊎ IsMemory fault
+    fault ≡ Schedule told → FailsBeforeRace from all left fault ⊎ IsMemory fault
 not_opened {A} from all left text c answer told fault so_far first understood was invalid memory is = elim (cases_Bool (is_config c)) [
   | inl good ↦ inr (is ∙ ap Schedule (subst (λ (r : Result A Fault). IfErr r (λ f. f ≡ Refused NoMemory)) was (memory good)))
   | inr bad ↦ bad_config from all left text c fault so_far first understood bad
@@ -48,25 +48,25 @@ not_opened {A} from all left text c answer told fault so_far first understood wa
 -- it isn't told whether a line behind the configuration is `race`
 pub no_word : (from : Option ReplayState) (play : ReplayState) (all left : Left) (text : List ℕ) (of_line : Fault) (fault : RaceFault) →
     SetsUp from (Some play) all left → left.lines ≡ text ∷ (behind left).lines → is_race text ≡ Err of_line → fault ≡ Schedule of_line →
-    FailsBeforeRace from all fault ⊎ IsMemory fault
+    FailsBeforeRace from all left fault ⊎ IsMemory fault
 no_word from play all left text of_line fault so_far first e is =
-    inl (AtLine left (Some play) text of_line so_far first (ap (fault_unless_race play text) e) is)
+    inl (AtLine (Some play) text of_line so_far first (ap (fault_unless_race play text) e) is)
 
 -- a line behind it isn't understood
 pub no_request_line : (from : Option ReplayState) (play : ReplayState) (all left : Left) (text : List ℕ) (of_line : Fault) (fault : RaceFault) →
     SetsUp from (Some play) all left → left.lines ≡ text ∷ (behind left).lines → is_race text ≡ Ok false →
-    parsed text (Some play.config.tasks) ≡ Err of_line → fault ≡ Schedule of_line → FailsBeforeRace from all fault ⊎ IsMemory fault
+    parsed text (Some play.config.tasks) ≡ Err of_line → fault ≡ Schedule of_line → FailsBeforeRace from all left fault ⊎ IsMemory fault
 no_request_line from play all left text of_line fault so_far first other e is =
-    inl (AtLine left (Some play) text of_line so_far first (ap (fault_unless_race play text) other ∙ ap (fault_of_line (Some play)) e) is)
+    inl (AtLine (Some play) text of_line so_far first (ap (fault_unless_race play text) other ∙ ap (fault_of_line (Some play)) e) is)
 
 -- lines that come behind others have the fault of all
-pub behind_others : (from mid : Option ReplayState) (all left : Left) (fault : RaceFault) → SetsUp from mid all left →
-    FailsBeforeRace mid left fault ⊎ IsMemory fault → FailsBeforeRace from all fault ⊎ IsMemory fault
-behind_others from mid all left fault so_far (inr memory) = inr memory
-behind_others from mid all left fault so_far (inl (AtLine now play text of_line done first e is)) =
-    inl (AtLine now play text of_line (and_more from mid play all left now so_far done) first e is)
-behind_others from mid all left fault so_far (inl (AtEnd now play done none is)) =
-    inl (AtEnd now play (and_more from mid play all left now so_far done) none is)
+pub behind_others : (from mid : Option ReplayState) (all left now : Left) (fault : RaceFault) → SetsUp from mid all left →
+    FailsBeforeRace mid left now fault ⊎ IsMemory fault → FailsBeforeRace from all now fault ⊎ IsMemory fault
+behind_others from mid all left now fault so_far (inr memory) = inr memory
+behind_others from mid all left now fault so_far (inl (AtLine play text of_line done first e is)) =
+    inl (AtLine play text of_line (and_more from mid play all left now so_far done) first e is)
+behind_others from mid all left now fault so_far (inl (AtEnd play done none is)) =
+    inl (AtEnd play (and_more from mid play all left now so_far done) none is)
 
 -- the fault of an answer, of another that is given in its place
 pub and_fault : {T U E : Type 0} (r : Result T E) (x : U) (P Q : E → Type 0) → ((e : E) → P e → Q e) → IfErr r P → IfErr (result_and r (Ok x)) Q

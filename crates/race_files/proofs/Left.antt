@@ -51,6 +51,14 @@ pub first_of : (left others : Left) (line : List ℕ) → left ≡ line_before l
 first_of left others line e =
     ap (λ (x : Left). x.lines) e ∙ ap (λ (x : Left). line ∷ (behind x).lines) (sym e)
 
+-- where one is taken there are as many as before
+pub one_taken : (done : ℕ) (left now : Left) (line : List ℕ) → left.lines ≡ line ∷ (behind left).lines → now ≡ behind left →
+    (done + 1) + length now.lines ≡ done + length left.lines
+one_taken done left now line first e =
+    let n : length left.lines ≡ suc (length (behind left).lines) = ap length first in
+    let m : length now.lines ≡ length (behind left).lines = ap (λ (x : Left). length x.lines) e in
+    omega (arith, n, m)
+
 -- a part has no line
 pub part_lines : (fault : Fault) (bytes : List ℕ) → behind (part_left fault bytes) ≡ part_left fault bytes
 part_lines fault [] = refl

@@ -19,7 +19,7 @@ done_more from mid to (text ∷ texts) after first more = (first.0, first.1, don
 
 -- no line yet
 pub none_yet : (p : Option ReplayState) (all : Left) → SetsUp p p all all
-none_yet p all = record { before = []; lines = refl; done = refl }
+none_yet p all = record { before = []; lines = refl; end = refl; done = refl }
 
 -- one more
 pub one_more : (from to next : Option ReplayState) (all left now : Left) (line : List ℕ) → SetsUp from to all left →
@@ -28,6 +28,7 @@ one_more from to next all left now line so_far first rest is = record {
   before = so_far.before ++ line ∷ [];
   lines = so_far.lines ∙ (ap (λ (l : List (List ℕ)). so_far.before ++ l) (first ∙ ap (λ (x : Left). line ∷ x.lines) (sym rest)) ∙
       sym (append_assoc so_far.before (line ∷ []) now.lines));
+  end = ap (λ (x : Left). x.fault) rest ∙ so_far.end;
   done = done_more from to next so_far.before (line ∷ []) so_far.done (next, is, refl);
 }
 
@@ -37,6 +38,7 @@ and_more from mid to all left now first second = record {
   before = first.before ++ second.before;
   lines = first.lines ∙ (ap (λ (l : List (List ℕ)). first.before ++ l) second.lines ∙
       sym (append_assoc first.before second.before now.lines));
+  end = second.end ∙ first.end;
   done = done_more from mid to first.before second.before first.done second.done;
 }
 

@@ -1,7 +1,7 @@
 -- The first fault of a race's text.
-use Rattle.std.specs.Prelude.{◌≡◌, ◌⊎◌, ℕ, Bool, true, false, List, [], ◌∷◌, Option, Some, None, Result, Ok, Err}
+use Rattle.std.specs.Prelude.{◌≡◌, ◌⊎◌, ℕ, ◌+◌, Bool, true, false, List, [], ◌∷◌, ◌++◌, length, Option, Some, None, Result, Ok, Err}
 use Rattle.access_model.specs.declared.errors.GateError.TheVariants.{NoMemory}
-use Rattle.race_files.specs.{Calls.{is_race}, Faults.{IsFaultAfter}, Left.{BeginRace, Left, behind, calls_left}, Races.{AllAreIdle}, SettingUp.{SetsUp}}
+use Rattle.race_files.specs.{Calls.{TaskCalls, calls_after, calls_of, ended, is_race, no_calls}, Faults.{IsFaultAfter}, Left.{BeginRace, Left, behind}, Races.{AllAreIdle}, SettingUp.{SetsUp}}
 use Rattle.race_files.specs.declared.faults.RaceFault.{RaceFault, TheVariants.{Schedule, RaceExpected, UnderWay}}
 use Rattle.schedule_lines.specs.declared.bytes.replay_faults.ReplayFault.{ReplayFault}
 use Rattle.schedule_lines.specs.declared.faults.Fault.{Fault, TheVariants.{ConfigExpected, Refused}}
@@ -30,31 +30,53 @@ fault_at_end play (Some fault) = Schedule fault
 fault_at_end None None = Schedule ConfigExpected
 fault_at_end (Some play) None = RaceExpected
 
--- The lines before a race have this fault: some of them are done, and the next one has it, or none follows.
-pub data FailsBeforeRace (from : Option ReplayState) (all : Left) (fault : RaceFault) : Type 0 where
-  AtLine : (left : Left) (play : Option ReplayState) (text : List ℕ) (of_line : Fault) → SetsUp from play all left →
-      left.lines ≡ text ∷ (behind left).lines → fault_at play text ≡ Some of_line → fault ≡ Schedule of_line → FailsBeforeRace from all fault
-  AtEnd : (left : Left) (play : Option ReplayState) → SetsUp from play all left → left.lines ≡ [] → fault ≡ fault_at_end play left.fault →
-      FailsBeforeRace from all fault
+-- The lines before a race have this fault at the first of those that are left: the others are done, and this one has it, or none follows.
+pub data FailsBeforeRace (from : Option ReplayState) (all left : Left) (fault : RaceFault) : Type 0 where
+  AtLine : (play : Option ReplayState) (text : List ℕ) (of_line : Fault) → SetsUp from play all left →
+      left.lines ≡ text ∷ (behind left).lines → fault_at play text ≡ Some of_line → fault ≡ Schedule of_line → FailsBeforeRace from all left fault
+  AtEnd : (play : Option ReplayState) → SetsUp from play all left → left.lines ≡ [] → fault ≡ fault_at_end play left.fault →
+      FailsBeforeRace from all left fault
 
--- The line `race` and those behind it have this fault, where there is this play: a task is not idle, or it is the first of what the tasks call.
-pub data FailsFromRace (play : ReplayState) (left : Left) (fault : RaceFault) : Type 0 where
-  NotIdle : (AllAreIdle play → ⊥) → fault ≡ UnderWay → FailsFromRace play left fault
-  InCalls : AllAreIdle play → calls_left play.config.tasks (behind left) ≡ Err fault → FailsFromRace play left fault
+-- Of all lines behind `race` some come before those that are left, and what the tasks call in them is this, where there are so many tasks.
+pub record AreCalled (tasks : ℕ) (all left : Left) (calls : List TaskCalls) : Type 0 where
+  pub before : List (List ℕ)
+  pub lines : all.lines ≡ before ++ left.lines
+  pub end : left.fault ≡ all.fault
+  pub called : calls_of tasks None before (no_calls tasks) ≡ Ok calls
 
--- The first fault of a race's text.
-pub data IsFirstFault (all : Left) (fault : RaceFault) : Type 0 where
-  BeforeRace : FailsBeforeRace None all fault → IsFirstFault all fault
-  FromRace : (left : Left) (play : ReplayState) → BeginRace all left → SetsUp None (Some play) all left → FailsFromRace play left fault →
-      IsFirstFault all fault
+-- the calls after the next line, or after the last one, or the fault there
+abbrev pub calls_with_next : ℕ → Option Fault → List (List ℕ) → List TaskCalls → Result (List TaskCalls) RaceFault
+calls_with_next tasks end [] calls = ended end calls
+calls_with_next tasks end (line ∷ others) calls = calls_after tasks calls line
+
+-- The lines behind `race` have this fault at the first of those that are left.
+pub record FailsInCalls (tasks : ℕ) (all left : Left) (fault : RaceFault) : Type 0 where
+  pub calls : List TaskCalls
+  pub before : AreCalled tasks all left calls
+  pub fails : calls_with_next tasks left.fault left.lines calls ≡ Err fault
+
+-- The line `race` and those behind it have this fault at the first of those that are left, where there is this play: a task is not idle at the
+-- line `race`, or a line behind it has the fault.
+pub data FailsFromRace (play : ReplayState) (all left : Left) (fault : RaceFault) : Type 0 where
+  NotIdle : (AllAreIdle play → ⊥) → left ≡ all → fault ≡ UnderWay → FailsFromRace play all left fault
+  InCalls : AllAreIdle play → FailsInCalls play.config.tasks (behind all) left fault → FailsFromRace play all left fault
+
+-- The first fault of a race's text, which stands at the first of the lines that are left.
+pub data IsFirstFault (all left : Left) (fault : RaceFault) : Type 0 where
+  BeforeRace : FailsBeforeRace None all left fault → IsFirstFault all left fault
+  FromRace : (race : Left) (play : ReplayState) → BeginRace all race → SetsUp None (Some play) all race → FailsFromRace play race left fault →
+      IsFirstFault all left fault
 
 -- memory was refused
 abbrev pub IsMemory : RaceFault → Type 0
 IsMemory fault = fault ≡ Schedule (Refused NoMemory)
 
--- The first fault of a race's text is told, at a line, or that memory was refused.
+-- The first fault of a race's text is told, at its line, or that memory was refused. The number of the line is one more than that of the lines
+-- before it.
 pub record IsFaultTold (all : Left) (told : ReplayFault) : Type 0 where
   pub fault : RaceFault
-  pub first : IsFirstFault all fault ⊎ IsMemory fault
+  pub left : Left
+  pub first : IsFirstFault all left fault ⊎ IsMemory fault
   pub done : ℕ
+  pub before : done + length left.lines ≡ length all.lines
   pub at : IsFaultAfter done fault told

@@ -1,5 +1,5 @@
 -- The lines of a text.
-use Rattle.std.specs.Prelude.{◌≡◌, ℕ, zero, suc, ◌+◌, ◌-◌, List, [], ◌∷◌, take, drop, Option, Some, None, Result, Ok, true}
+use Rattle.std.specs.Prelude.{◌≡◌, ℕ, zero, suc, ◌+◌, ◌-◌, List, [], ◌∷◌, length, take, drop, Option, Some, None, Result, Ok, true}
 use Rattle.race_files.specs.{Calls.{calls_of, is_race, no_calls}, declared.{faults.RaceFault.{RaceFault}, lines.Lines.{Lines}}}
 use Rattle.race_programs.specs.declared.calls.Call.{Call}
 use Rattle.schedule_lines.specs.{Lines.{front_of}, declared.faults.Fault.{Fault, TheVariants.{TooManyLines, LineTooLong, CutOff}}}
@@ -40,6 +40,10 @@ lines_in (suc more) bytes =
 -- those that are left
 abbrev pub left_in : Lines → Left
 left_in lines = lines_in (1048576 - lines.done) lines.rest.now
+
+-- how many lines there are, with those that were taken
+abbrev pub line_count : Lines → ℕ
+line_count lines = lines.done + length (left_in lines).lines
 
 -- without so many lines
 unfoldable pub after_lines : ℕ → Left → Left

@@ -21,4 +21,5 @@ AreDone from (text ∷ texts) to = (mid : Option ReplayState) × IsDone from tex
 pub record SetsUp (from to : Option ReplayState) (all left : Left) : Type 0 where
   pub before : List (List ℕ)
   pub lines : all.lines ≡ before ++ left.lines
+  pub end : left.fault ≡ all.fault
   pub done : AreDone from before to

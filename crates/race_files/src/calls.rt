@@ -5,7 +5,8 @@ ghost use Rattle.std.specs.List.{position};
 ghost use Rattle.race_files.specs.Calls.{no_calls, count_of, is_unconditional, with_call, with_failure, added, failing, as_run, begin_line, hook_line, prefixed_line, calls_after};
 ghost use Rattle.race_files.specs.Prefixes.{without_prefix};
 ghost use Rattle.race_files.specs.Faults.{IsToldOrMemory};
-ghost use Rattle.race_files.specs.Left.{calls_left, left_in};
+ghost use Rattle.race_files.specs.Left.{calls_left, left_in, line_count};
+ghost use Rattle.race_files.specs.FirstFaults.{FailsInCalls, IsMemory};
 ghost use Rattle.schedule_text.specs.Parsing.{parsed};
 ghost use Rattle.schedule_lines.specs.Printed.{Prints};
 ghost use Rattle.schedule_lines.specs.declared.faults.Fault.TheVariants.{Refused};
@@ -42,7 +43,8 @@ impl Calls {
     pub fn read(alloc: Global, tasks: u8, lines: &mut Lines<'_>) -> Result<Calls, RaceFault>
         ensures tasks { IfOk result (λ calls. calls.race.tasks ≡ tasks) }
         ensures read { IfOk result (λ calls. calls_left tasks (left_in lines.old) ≡ Ok calls.race.calls.items) }
-        ensures fault { IfErr result (IsToldOrMemory (calls_left tasks (left_in lines.old))) }
+        ensures count { line_count lines.new ≡ line_count lines.old }
+        ensures fault { IfErr result (λ fault. FailsInCalls tasks (left_in lines.old) (left_in lines.new) fault ⊎ IsMemory fault) }
     {
         let mut calls = Calls::new(alloc, tasks).map_err(no_memory)?;
         while let Some(line) = lines.line()? {

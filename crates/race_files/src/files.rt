@@ -4,7 +4,7 @@ ghost use Rattle.std.specs.Prelude.{◌≡◌, ◌<◌, ◌⊎◌, ℕ, IfErr, I
 ghost use Rattle.gate_core.specs.Drivers.{CoreShows};
 ghost use Rattle.gate_core.specs.Moves.{phase_in};
 ghost use Rattle.race_files.specs.FirstFaults.{FailsFromRace, IsFaultTold, IsFirstFault, IsMemory};
-ghost use Rattle.race_files.specs.Left.{behind, calls_left, left_in, lines_in};
+ghost use Rattle.race_files.specs.Left.{behind, calls_left, left_in, line_count, lines_in};
 ghost use Rattle.race_files.specs.Races.{AllAreIdle, IsRaceIn, IsRecent};
 ghost use Rattle.race_files.specs.declared.faults.RaceFault.TheVariants.{UnderWay};
 ghost use Rattle.transcripts.specs.Sessions.{ShowsPlay};
@@ -39,7 +39,8 @@ impl RaceFile {
         ensures calls { IfOk result (λ file. calls_left file.core.config.tasks (behind (left_in lines.old)) ≡ Ok file.calls.race.calls.items) }
         ensures recent { (p : ReplayState) → ShowsPlay CoreShows session.now p → IfOk result (λ file. IsRecent file.core) }
         ensures fault { (p : ReplayState) → ShowsPlay CoreShows session.now p →
-            IfErr result (λ fault. FailsFromRace p (left_in lines.old) fault ⊎ IsMemory fault) }
+            IfErr result (λ fault. FailsFromRace p (left_in lines.old) (left_in lines.new) fault ⊎ IsMemory fault) }
+        ensures count { line_count lines.new ≡ line_count lines.old }
     {
         expect_idle(session.gates())?;
         let core = session.gates().twin().map_err(no_memory)?;
@@ -83,7 +84,8 @@ pub fn read_race(alloc: Global, bytes: &[u8]) -> Result<RaceFile, ReplayFault>
 fn read_lines(alloc: Global, lines: &mut Lines<'_>) -> Result<RaceFile, RaceFault>
     ensures race { IfOk result (λ file. IsRaceIn (left_in lines.old) file.core file.calls.race.calls.items) }
     ensures recent { IfOk result (λ file. IsRecent file.core) }
-    ensures fault { IfErr result (λ fault. IsFirstFault (left_in lines.old) fault ⊎ IsMemory fault) }
+    ensures count { line_count lines.new ≡ line_count lines.old }
+    ensures fault { IfErr result (λ fault. IsFirstFault (left_in lines.old) (left_in lines.new) fault ⊎ IsMemory fault) }
 {
     let session = set_up(alloc, lines)?;
     RaceFile::read(alloc, &session, lines)

@@ -18,9 +18,9 @@ pub struct Lines<'a> {
 }
 
 impl<'a> Lines<'a> {
-    ghost use Rattle.std.specs.Prelude.{List, ℕ, ◌∷◌, None, Some, Ok, IfOk, IfErr, IfSome};
+    ghost use Rattle.std.specs.Prelude.{List, ℕ, [], ◌∷◌, None, Some, Ok, IfOk, IfErr, IfSome};
     ghost use Rattle.race_files.specs.Faults.{IsFaultAfter};
-    ghost use Rattle.race_files.specs.Left.{lines_in, left_in, none_left, behind};
+    ghost use Rattle.race_files.specs.Left.{lines_in, left_in, line_count, none_left, behind};
 
     /// All lines of these bytes.
     pub fn new(bytes: &'a [u8]) -> Lines<'a>
@@ -71,6 +71,7 @@ impl<'a> Lines<'a> {
     /// Takes the next line, where there is one.
     pub fn take(&mut self)
         ensures left { left_in self.new ≡ behind (left_in self.old) }
+        ensures count { line_count self.new ≡ line_count self.old }
         ensures done { (line : List ℕ) → (left_in self.old).lines ≡ line ∷ (behind (left_in self.old)).lines →
             self.new.done ≡ self.old.done + 1 }
     {
@@ -91,6 +92,7 @@ impl<'a> Lines<'a> {
     pub fn next(&mut self) -> Option<&'a [u8]>
         ensures left { left_in self.new ≡ behind (left_in self.old) }
         ensures some { IfSome result (λ line. (left_in self.old).lines ≡ line.now ∷ (behind (left_in self.old)).lines) }
+        ensures none { result ≡ None → (left_in self.old).lines ≡ [] }
     {
         let line = match self.line() {
             Ok(line) => line,

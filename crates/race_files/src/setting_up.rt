@@ -1,9 +1,9 @@
 //! What comes before a race.
 
-ghost use Rattle.std.specs.Prelude.{◌⊎◌, IfErr, IfOk, None, OnOk, Some};
+ghost use Rattle.std.specs.Prelude.{◌≡◌, ◌⊎◌, IfErr, IfOk, None, OnOk, Some};
 ghost use Rattle.gate_core.specs.Drivers.{CoreShows};
 ghost use Rattle.race_files.specs.FirstFaults.{FailsBeforeRace, IsMemory};
-ghost use Rattle.race_files.specs.Left.{AreLeftOf, BeginRace, left_in};
+ghost use Rattle.race_files.specs.Left.{AreLeftOf, BeginRace, left_in, line_count};
 ghost use Rattle.race_files.specs.SettingUp.{SetsUp};
 ghost use Rattle.transcripts.specs.Sessions.{ShowsPlay};
 ghost use Rattle.transcripts.specs.Transcript.{ReplayState};
@@ -34,9 +34,10 @@ impl SetUpObserver for Unobserved {
 /// Takes the lines of a schedule before the first line `race`, and does them: the session shows the play that they make of the opening. What
 /// they print is dropped.
 pub fn set_up(alloc: Global, lines: &mut Lines<'_>) -> Result<Session<Core>, RaceFault>
+    ensures count { line_count lines.new ≡ line_count lines.old }
     ensures begin { IfOk result (λ _. BeginRace (left_in lines.old) (left_in lines.new)) }
     ensures made { IfOk result (λ session. (p : ReplayState) × SetsUp None (Some p) (left_in lines.old) (left_in lines.new) × ShowsPlay CoreShows session p) }
-    ensures fault { IfErr result (λ fault. FailsBeforeRace None (left_in lines.old) fault ⊎ IsMemory fault) }
+    ensures fault { IfErr result (λ fault. FailsBeforeRace None (left_in lines.old) (left_in lines.new) fault ⊎ IsMemory fault) }
 {
     do_setting(alloc, lines, &mut Output::new(alloc), &mut Unobserved)
 }
@@ -48,9 +49,10 @@ pub fn do_setting<W: SetUpObserver>(
     printed: &mut Output,
     watch: &mut W,
 ) -> Result<Session<Core>, RaceFault>
+    ensures count { line_count lines.new ≡ line_count lines.old }
     ensures begin { IfOk result (λ _. BeginRace (left_in lines.old) (left_in lines.new)) }
     ensures made { IfOk result (λ session. (p : ReplayState) × SetsUp None (Some p) (left_in lines.old) (left_in lines.new) × ShowsPlay CoreShows session p) }
-    ensures fault { IfErr result (λ fault. FailsBeforeRace None (left_in lines.old) fault ⊎ IsMemory fault) }
+    ensures fault { IfErr result (λ fault. FailsBeforeRace None (left_in lines.old) (left_in lines.new) fault ⊎ IsMemory fault) }
 {
     let mut session = open(alloc, lines)?;
     let done = do_lines(&mut session, lines, printed, watch);
@@ -59,9 +61,10 @@ pub fn do_setting<W: SetUpObserver>(
 
 /// Takes the lines up to the configuration.
 fn open(alloc: Global, lines: &mut Lines<'_>) -> Result<Session<Core>, RaceFault>
+    ensures count { line_count lines.new ≡ line_count lines.old }
     ensures left { IfOk result (λ _. AreLeftOf (left_in lines.old) (left_in lines.new)) }
     ensures made { IfOk result (λ session. (p : ReplayState) × SetsUp None (Some p) (left_in lines.old) (left_in lines.new) × ShowsPlay CoreShows session p) }
-    ensures fault { IfErr result (λ fault. FailsBeforeRace None (left_in lines.old) fault ⊎ IsMemory fault) }
+    ensures fault { IfErr result (λ fault. FailsBeforeRace None (left_in lines.old) (left_in lines.new) fault ⊎ IsMemory fault) }
 {
     while let Some(line) = lines.line()? {
         if let Line::Config(config) = parse(line, None)? {
@@ -81,11 +84,12 @@ fn do_lines<W: SetUpObserver>(
     printed: &mut Output,
     watch: &mut W,
 ) -> Result<(), RaceFault>
+    ensures count { line_count lines.new ≡ line_count lines.old }
     ensures begin { IfOk result (λ _. BeginRace (left_in lines.old) (left_in lines.new)) }
     ensures made { (p : ReplayState) → ShowsPlay CoreShows session.old p → OnOk result (
         (q : ReplayState) × SetsUp (Some p) (Some q) (left_in lines.old) (left_in lines.new) × ShowsPlay CoreShows session.new q) }
     ensures fault { (p : ReplayState) → ShowsPlay CoreShows session.old p →
-        IfErr result (λ fault. FailsBeforeRace (Some p) (left_in lines.old) fault ⊎ IsMemory fault) }
+        IfErr result (λ fault. FailsBeforeRace (Some p) (left_in lines.old) (left_in lines.new) fault ⊎ IsMemory fault) }
 {
     while let Some(line) = lines.line()? {
         if is_race(line)? {

@@ -6,25 +6,28 @@ use std::alloc::Global;
 
 /// The calls that no command of a schedule begins, on a line each, by their names.
 pub(crate) const OTHERS: &str = "\
-Gates::new
-split Task::split
-join Task::join
-Gates::close
+Gates::new mntgate_open
+split Task::split mntgate_split
+join Task::join mntgate_join
+Gates::close mntgate_close mntgate_close_words
 run run_with
 ";
 
-/// Returns the first name of the call that has this name: that of a schedule's command, or else the library's.
+/// Returns the first name of the call that has this name: that of a schedule's command, or else the library's. A call from C has the library's
+/// name behind `mntgate_`, unless a line of OTHERS has it.
 pub(crate) fn call_named(word: &str) -> Option<&'static str> {
-    for verb in &Verb::ALL {
-        if let Some(names) = verb.call_names()
-            && (verb.name() == word || is_named(names, word))
-        {
-            return Some(verb.name());
-        }
-    }
     for call in OTHERS.lines() {
         if is_named(call, word) {
             return Some(first_name(call));
+        }
+    }
+    let name = word.strip_prefix("mntgate_").unwrap_or(word);
+    let name = name.strip_suffix("_at_once").unwrap_or(name);
+    for verb in &Verb::ALL {
+        if let Some(names) = verb.call_names()
+            && (verb.name() == word || is_named(names, name))
+        {
+            return Some(verb.name());
         }
     }
     None

@@ -14,17 +14,19 @@ use std::alloc::{AllocError, Global};
 
 /// The letters and the colours of a picture, which it has with it, so that it stands alone.
 static STYLE: &str =
-    ".trace{--paper:#fff;--ink:#1f2328;--dim:#656d76;--line:#e4e8ec;--call:#f6f8fa;--edge:#b6bdc5;--ok:#1a7f37;--no:#cf222e;\
---wait:#9a6700;--bar:#e0a100;--act:#0a54b5;--s1:#b6e3ff;--s2:#80ccff;--s3:#4aa3f0;--s4:#0a54b5;--ro:#8250df}\
-@media screen and (prefers-color-scheme:dark){.trace{--paper:#0d1117;--ink:#e6edf3;--dim:#9198a1;--line:#21262d;--call:#161b22;--edge:#484f58;\
---ok:#56d364;--no:#ff7b72;--wait:#e3b341;--bar:#bb8009;--act:#79c0ff;--s1:#0c2d6b;--s2:#1158c7;--s3:#388bfd;--s4:#a5d6ff;--ro:#bc8cff}}\
-.trace text{font:12px ui-monospace,SFMono-Regular,Menlo,Consolas,'DejaVu Sans Mono',monospace;fill:var(--ink);white-space:pre}\
-.trace .paper{fill:var(--paper)}.trace .rule{stroke:var(--line);shape-rendering:crispEdges}.trace .call{fill:var(--call);stroke:var(--edge)}\
-.trace .head,.trace .begins{font-weight:700}.trace .dim,.trace .code{fill:var(--dim)}.trace .code{font-size:11px}\
-.trace .ok{fill:var(--ok);font-weight:700}.trace .no{fill:var(--no);font-weight:700}.trace .wait{fill:var(--wait)}.trace .act{fill:var(--act)}\
-.trace .bar{fill:var(--bar)}.trace .link{stroke:var(--bar);stroke-dasharray:3 3}.trace .s1{fill:var(--s1)}.trace .s2{fill:var(--s2)}\
-.trace .s3{fill:var(--s3)}.trace .s4{fill:var(--s4)}.trace .ro{fill:var(--ro)}\
-.trace rect{-webkit-print-color-adjust:exact;print-color-adjust:exact}";
+    ".trace{--paper:#fff;--ink:#1f2328;--dim:#656d76;--line:#e4e8ec;--call:#f6f8fa;--edge:#b6bdc5;--ok:#1a7f37;--no:#cf222e;--wait:#9a6700;\
+--bar:#e0a100;--act:#0a54b5;--s1:#b6e3ff;--s2:#80ccff;--s3:#4aa3f0;--s4:#0a54b5;--ro:#8250df}\
+@media screen and (prefers-color-scheme:dark){.trace{--paper:#0d1117;--ink:#e6edf3;--dim:#9198a1;--line:#21262d;--call:#161b22;\
+--edge:#484f58;--ok:#56d364;--no:#ff7b72;--wait:#e3b341;--bar:#bb8009;--act:#79c0ff;--s1:#0c2d6b;--s2:#1158c7;--s3:#388bfd;--s4:#a5d6ff;\
+--ro:#bc8cff}}\
+.trace text{font:12px ui-monospace,SFMono-Regular,Menlo,Consolas,'DejaVu Sans Mono',monospace;fill:#1f2328;fill:var(--ink);white-space:pre}\
+.trace .paper{fill:#fff;fill:var(--paper)}.trace .rule{stroke:#e4e8ec;stroke:var(--line);shape-rendering:crispEdges}\
+.trace .call{fill:#f6f8fa;fill:var(--call);stroke:#b6bdc5;stroke:var(--edge)}.trace .head,.trace .begins{font-weight:700}\
+.trace .dim,.trace .code{fill:#656d76;fill:var(--dim)}.trace .code{font-size:11px}.trace .ok{fill:#1a7f37;fill:var(--ok);font-weight:700}\
+.trace .no{fill:#cf222e;fill:var(--no);font-weight:700}.trace .wait{fill:#9a6700;fill:var(--wait)}.trace .act{fill:#0a54b5;fill:var(--act)}\
+.trace .bar{fill:#e0a100;fill:var(--bar)}.trace .link{stroke:#e0a100;stroke:var(--bar);stroke-dasharray:3 3}\
+.trace .s1{fill:#b6e3ff;fill:var(--s1)}.trace .s2{fill:#80ccff;fill:var(--s2)}.trace .s3{fill:#4aa3f0;fill:var(--s3)}\
+.trace .s4{fill:#0a54b5;fill:var(--s4)}.trace .ro{fill:#8250df;fill:var(--ro)}.trace rect{-webkit-print-color-adjust:exact;print-color-adjust:exact}";
 
 /// The class of each stage.
 static STAGES: [&str; 5] = ["", "s1", "s2", "s3", "s4"];

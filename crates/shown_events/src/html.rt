@@ -7,10 +7,11 @@ use schedule_text::Output;
 static STYLE: &str =
     ":root{color-scheme:light dark}body{font:16px/1.5 system-ui,sans-serif;margin:2rem auto;padding:0 1rem;max-width:75rem}\
 h1{font-size:1.5rem}h2{font-size:1.1rem;margin-top:2.5rem;break-after:avoid}h3{font-size:1rem}p{max-width:44rem}\
-figure{margin:1rem 0;overflow-x:auto}code,pre{font:14px/1.5 ui-monospace,SFMono-Regular,Menlo,Consolas,'DejaVu Sans Mono',monospace}\
+figure{margin:1rem 0;overflow-x:auto;width:fit-content;max-width:calc(100vw - 3rem)}\
+code,pre{font:14px/1.5 ui-monospace,SFMono-Regular,Menlo,Consolas,'DejaVu Sans Mono',monospace}\
 pre{overflow-x:auto;padding:.75rem 1rem;border:1px solid #8884;border-radius:6px}li{margin:.25rem 0}a{color:inherit}\
 @media screen and (prefers-color-scheme:dark){body{background:#0d1117;color:#e6edf3}}\
-@media print{body{margin:0;max-width:none;font-size:11pt}figure{overflow:visible}.trace{max-width:100%;height:auto}}";
+@media print{body{margin:0;max-width:none;font-size:11pt}figure{overflow:visible;max-width:none;break-before:avoid}.trace{max-width:100%;height:auto}}";
 
 /// How a picture is read.
 static READING: &str =

@@ -43,8 +43,8 @@ fn lock_code(call: Option<Op>, event: Event) -> &'static str {
     let takes = matches!(event.touch, Touch::Cas { .. });
     match call {
         Some(Op::Snapshot { .. }) => "none: a snapshot takes no lock of the superblock",
-        Some(Op::ChangeMount { .. }) if takes => "down_write(&sb->s_umount); lock_mount_hash()",
-        Some(Op::ChangeMount { .. }) => "unlock_mount_hash(); up_write(&sb->s_umount)",
+        Some(Op::ChangeMount { .. }) if takes => "down_read(&sb->s_umount); lock_mount_hash()",
+        Some(Op::ChangeMount { .. }) => "unlock_mount_hash(); up_read(&sb->s_umount)",
         _ if takes => "down_write(&sb->s_umount)",
         _ => "up_write(&sb->s_umount)",
     }

@@ -2,4 +2,5 @@
 pub mod NothingAdded
 pub mod Blocked
 pub mod WaitFree
+pub mod Dropped
 pub mod TreeStays

@@ -3,6 +3,7 @@ pub mod FreezesBeside
 pub mod Enclosed
 pub mod Keeping
 pub mod Begun
+pub mod GoingOn
 pub mod Heard
 pub mod Told
 pub mod Shut

@@ -25,6 +25,7 @@ pub mod Taken
 pub mod Handed
 pub mod FoundSo
 pub mod Blockers
+pub mod Dropped
 pub mod Meetings
 pub mod Rounds
 pub mod AtOnce

@@ -60,7 +60,7 @@ impl Task {
     ghost use Rattle.vfs_gates.specs.Meetings.{IsOf, Meets};
 
     /// Lets two tasks meet: all that either has done stands in one world, which both have seen from then on. Nothing else of them changes, and no
-    /// word is written. They may hold what they hold, and have operations under way. Four loads, of which nothing is used.
+    /// word is written. They may hold what they hold. An operation under way stays one operation. Four loads, of which nothing is used.
     ///
     /// A call's contract speaks of its own task. What the other task holds before the call and after it, it held at each moment of the call: that
     /// follows if the two meet before the call and after it. One meeting serves as the end of one call and the beginning of the next.
@@ -82,7 +82,8 @@ impl Task {
         Receipt { seat }
     }
 
-    /// Takes a receipt in: what the task that made it had seen, this one has seen from then on. Nothing else of it changes. One load.
+    /// Takes a receipt in: what the task that made it had seen, this one has seen from then on. Nothing else of it changes, and an operation under way
+    /// stays one operation. One load.
     pub fn take_in(&mut self, gates: &Gates, receipt: Receipt)
         requires this { IsFrom self.old gates.now }
         requires that { IsOf receipt gates.now }

@@ -20,7 +20,7 @@ use Rattle.gate_steps.specs.call_events.{SeatedTasks.{SeatedTask, own_number, ow
 use Rattle.gate_steps.specs.call_events.Asking.{Ask, asks_of, asks_with, call_at, next_call, OpUnderWayWith, OpAfterStepWith}
 use Rattle.gate_steps.specs.call_events.{Waited.{is_wait, waits_in}, Refused.{IsUnchanged, IsUnchangedBy, IsHonestWait}}
 use Rattle.gate_steps.specs.call_events.Runs.{events_onto, completed_by, ran_snapshot, ran_view, ran_items, begins_at, items_at, IsMoveOf, IsNextMove, AreMoves, IsBounded, IsRanReply, told_as, the_reply, OpUnderWay, OpAfterStep, ProgressMatches, Called, Replies}
-use Rattle.gate_steps.proofs.call_events.Refused.{is_unchanged, waits_honestly}
+use Rattle.gate_steps.proofs.call_events.{Grown.{same_stays_seen}, Refused.{is_unchanged, waits_honestly}}
 
 -- the numbers of a task whose own number has begun the operation
 abbrev pub entered_items : Option Op → Option Phase → DealtNumbers → DealtNumbers
@@ -151,7 +151,7 @@ starts_asking_none op start now admitted is = subst (OpUnderWayWith [] 0 op star
     going = (first_phase start.config (own_number start.items) op, refl);
     begins = refl;
     items = refl;
-    moves = refl;
+    moves = (start.seen, refl, refl);
   },
   refl,
   refl,
@@ -264,7 +264,8 @@ module _ (op : Op) (start now left : SeatedTask) (step : Step) (h : HookAnswer) 
       let P : Config × Option Op × DealtNumbers → Type 0 = λ z. HasWitness z.0 z.1 p h z.2 found now.seen left.seen in
       let moved : HasWitness c (begins_at op goes.trace) p h (items_at c op goes.trace start.items) found now.seen left.seen =
       subst P (λ j. (goes.config j, goes.begins j, goes.items j)) did.moves in
-      (now.seen, move_is c op start.items goes.trace e now.seen left.seen (state_of_trace c n op goes.trace).comes p stands_there (found, refl, moved), goes.moves)
+      let next = move_is c op start.items goes.trace e now.seen left.seen (state_of_trace c n op goes.trace).comes p stands_there (found, refl, moved) in
+      (now.seen, next, goes.moves.0, goes.moves.1, goes.moves.2)
 
   -- what it leaves has one history
   history_then : HaveHistory c left.items left.seen
@@ -285,7 +286,7 @@ module _ (op : Op) (start now left : SeatedTask) (step : Step) (h : HookAnswer) 
           (g.0, ap (λ (s : SeatedTask). s.phase) did.new ∙ g.1);
       begins = begins_then;
       items = items_then;
-      moves = moves_then;
+      moves = (left.seen, same_stays_seen left.seen, moves_then);
     },
     refl,
   )

@@ -10,7 +10,7 @@ use Rattle.gate_world.specs.traces.TraceStates.{state_of_trace, IsTrace}
 use Rattle.gate_world.specs.traces.Traces.{actions_of, IsHonestAnswer, most_events, IsShort, MayWait}
 use Rattle.gated_tree.specs.declared.trees.TreeWords.{TreeWords}
 use Rattle.gate_steps.specs.Seating.{DealtNumbers, numbered, HaveHistory, done_by, HasWitness}
-use Rattle.gate_steps.specs.call_events.{Refused.{IsUnchangedBy, WaitsHonestly}, SeatedTasks.{SeatedTask, own_number, own_view, refusal_at}}
+use Rattle.gate_steps.specs.call_events.{Grown.{StaySeen}, Refused.{IsUnchangedBy, WaitsHonestly}, SeatedTasks.{SeatedTask, own_number, own_view, refusal_at}}
 use Rattle.gate_schedules.specs.declared.steps.Progress.{Progress, TheVariants.{Idle, Going, Waiting, Done as Ended}}
 
 -- the events of a trace before earlier ones, the newest first
@@ -72,12 +72,24 @@ IsNextMove c op items earlier e seen left (Go phase) = IsMoveOf c op items earli
 IsNextMove c op items earlier e seen left (Wait phase) = IsMoveOf c op items earlier e seen left phase
 IsNextMove c op items earlier e seen left (Done answer) = ⊥
 
--- Each event was such a move of the phase that came next before it, from what the one before has seen: so each one's schedule goes on from
--- that of the one before, and the first from what the task had seen.
+-- After an event a task may see more before the next one: it met another task, or took in a receipt. What it had seen stays seen. Before its
+-- first event an operation begins from just what was seen.
+abbrev pub SeesOn : List Traced → List (List Entry) → List (List Entry) → Type 0
+SeesOn [] before now = now ≡ before
+SeesOn (e ∷ earlier) before now = StaySeen before now
+
+-- Each event was such a move of the phase that came next before it, from what the task had seen then. That goes on from what the event before
+-- left, and the first from what the task had seen: so each one's schedule goes on from that of the one before.
 abbrev pub AreMoves : Config → Op → DealtNumbers → List (List Entry) → List Traced → List (List Entry) → Type 0
 AreMoves c op items seen [] left = left ≡ seen
-AreMoves c op items seen (e ∷ earlier) left = (before : List (List Entry)) ×
-    IsNextMove c op items earlier e before left (state_of_trace c (own_number items) op earlier).comes × AreMoves c op items seen earlier before
+AreMoves c op items seen (e ∷ earlier) left = (saw : List (List Entry)) ×
+    IsNextMove c op items earlier e saw left (state_of_trace c (own_number items) op earlier).comes ×
+    (before : List (List Entry)) × SeesOn earlier before saw × AreMoves c op items seen earlier before
+
+-- the same up to now, when this is seen
+abbrev pub AreMovesSoFar : Config → Op → DealtNumbers → List (List Entry) → List Traced → List (List Entry) → Type 0
+AreMovesSoFar c op items seen trace now =
+    (before : List (List Entry)) × SeesOn trace before now × AreMoves c op items seen trace before
 
 -- an operation that has a most number of events
 abbrev pub IsBounded : Option ℕ → Type 0
@@ -151,7 +163,7 @@ pub record OpUnderWay (op : Op) (start now : SeatedTask) : Type 0 where
   pub going : (q : Phase) × (now.phase ≡ Some q)
   pub begins : now.begins ≡ begins_at op trace
   pub items : now.items ≡ items_at start.config op trace start.items
-  pub moves : AreMoves start.config op start.items start.seen trace now.seen
+  pub moves : AreMovesSoFar start.config op start.items start.seen trace now.seen
 
 -- what comes after the last event: it goes on, or it was done whole
 abbrev pub OpAfterStep : Op → SeatedTask → Next Phase → SeatedTask → Type 0

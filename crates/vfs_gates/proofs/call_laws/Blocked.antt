@@ -30,12 +30,12 @@ same_words c w t None = refl
 same_words c w t (Some op) = refl
 
 -- the own number is at the phase
-at_it : (c : Config) (begins : Option Op) (phase : Phase) (x : Numbered) → NumberMayStep c begins phase x → (entered x.view begins phase).phase ≡ Some phase
+pub at_it : (c : Config) (begins : Option Op) (phase : Phase) (x : Numbered) → NumberMayStep c begins phase x → (entered x.view begins phase).phase ≡ Some phase
 at_it c None phase x may = may
 at_it c (Some op) phase x may = refl
 
 -- a schedule with a beginning goes on from what it went on from
-on_begins : (t : ℕ) (begins : Option Op) (earlier past es : List Entry) → es ≡ then_begins t begins past → IsPrefix earlier past → IsPrefix earlier es
+pub on_begins : (t : ℕ) (begins : Option Op) (earlier past es : List Entry) → es ≡ then_begins t begins past → IsPrefix earlier past → IsPrefix earlier es
 on_begins t None earlier past es is on = (on.0, is ∙ on.1)
 on_begins t (Some op) earlier past es is on =
     (on.0 ++ Begins t op ∷ [], is ∙ (ap (λ (l : List Entry). l ++ Begins t op ∷ []) on.1 ∙ append_assoc earlier on.0 (Begins t op ∷ [])))

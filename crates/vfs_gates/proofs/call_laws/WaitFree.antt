@@ -71,7 +71,7 @@ step_most c op items seen gone (e ∷ earlier) most q bound follows moves at =
 pub step_free : (op : Op) (start now : SeatedTask) (most : ℕ) → most_events start.config op ≡ Some most → (goes : OpUnderWay op start now) →
     length goes.trace < most
 step_free op start now most bound goes =
-    step_most start.config op start.items start.seen now.seen goes.trace most goes.going.0 bound goes.follows goes.moves
+    step_most start.config op start.items start.seen goes.moves.0 goes.trace most goes.going.0 bound goes.follows goes.moves.2
     (sym goes.phase ∙ goes.going.1)
 
 pub call_free : (op : Op) (old left : SeatedTask) (answer : Result Reply GateError) (most : ℕ) → most_events old.config op ≡ Some most →

@@ -47,14 +47,14 @@ by_first c op items e seen gone (Done answer) m = absurd m
 moves_begin : (c : Config) (op : Op) (items : DealtNumbers) (seen : List (List Entry)) (e : Traced) (earlier : List Traced)
     (gone : List (List Entry)) → AreMoves c op items seen (e ∷ earlier) gone → BeginsIn c items seen gone
 moves_begin c op items seen e [] gone m =
-    subst (λ s. BeginsIn c items s gone) m.2 (by_first c op items e m.0 gone (state_of_trace c (own_number items) op []).comes m.1)
+    subst (λ s. BeginsIn c items s gone) (m.3 ∙ m.4) (by_first c op items e m.0 gone (state_of_trace c (own_number items) op []).comes m.1)
 moves_begin c op items seen e (d ∷ ds) gone m =
-    let r : BeginsIn c items seen m.0 = moves_begin c op items seen d ds m.0 m.2 in
+    let r : BeginsIn c items seen m.2 = moves_begin c op items seen d ds m.2 m.4 in
     let next = next_on c op items (d ∷ ds) e m.0 gone (state_of_trace c (own_number items) op (d ∷ ds)).comes m.1 in record {
       began = r.began;
       all = r.all;
       from = r.from;
-      on = stays_seen_on (r.began ∷ []) m.0 gone r.on (λ k earlier at. (0, next.1.0, next.1.1, next.0 k earlier at 0 next.1.0 next.1.1));
+      on = stays_seen_on (r.began ∷ []) m.0 gone (stays_seen_on (r.began ∷ []) m.2 m.0 r.on m.3) (λ k earlier at. (0, next.1.0, next.1.1, next.0 k earlier at 0 next.1.0 next.1.1));
     }
 
 trace_begins : (c : Config) (op : Op) (items : DealtNumbers) (seen gone : List (List Entry)) (answer : Result Reply GateError) (trace : List Traced) →

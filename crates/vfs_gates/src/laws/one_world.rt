@@ -1,7 +1,7 @@
 //! Laws of several tasks in one world. Where two tasks meet, one world has what both have done. What stands the same in a world before a call and in
 //! one after it stood so at each moment of the call. The functions do nothing: their contracts are the laws.
 
-ghost use Rattle.std.specs.Prelude.{◌≡◌, ◌≤◌, ◌<◌, ◌++◌, ◌⊎◌, ℕ, Bool, true, false, None, Ok, Err, Result, List};
+ghost use Rattle.std.specs.Prelude.{◌≡◌, ◌≤◌, ◌<◌, ◌++◌, ◌⊎◌, ℕ, Bool, true, false, None, Some, Ok, Err, Result, List};
 ghost use Rattle.access_model.specs.Histories.{mounts_of};
 ghost use Rattle.access_model.specs.Laws.{IsFrozenFor};
 ghost use Rattle.access_model.specs.declared.actions.Action.{Action};
@@ -15,7 +15,7 @@ ghost use Rattle.gate_world.specs.declared.operations.Op.TheVariants.{ChangeMoun
 ghost use Rattle.gate_world.specs.Shown.{shown};
 ghost use Rattle.gate_steps.specs.Seating.{DealtNumbers, HaveHistory};
 ghost use Rattle.gate_steps.specs.call_events.Grown.{StaySeen};
-ghost use Rattle.gate_steps.specs.call_events.Runs.{Called, Performs};
+ghost use Rattle.gate_steps.specs.call_events.Runs.{Called, OpUnderWay, Performs};
 ghost use Rattle.vfs_gates.specs.Held.{Rests, own_actions};
 ghost use Rattle.vfs_gates.specs.Meetings.{BeginsIn, ComesAfterList, Encloses, HasDone, HaveAll, HoldsAt, IsWritable, Meets};
 ghost use Rattle.vfs_gates.specs.Meetings.{NoneDone, NoneSince, Reopens, SawList, Seals, SeenState, TakesMount, Thaws};
@@ -30,6 +30,18 @@ pub fn what_is_sent_is_seen()
         StaySeen one.seen first.seen × StaySeen two.seen first.seen × StaySeen one.seen second.seen × StaySeen two.seen second.seen }
     ensures receipts { (old left : SeatedTask) (receipt : SeenState) → left.seen ≡ old.seen ++ receipt.seen →
         StaySeen old.seen left.seen × StaySeen receipt.seen left.seen }
+{}
+
+/// An operation under way goes on when its task meets another or takes a receipt in. So what a caller drives by steps is one operation, whatever the
+/// task is told between two of them: the clause `told` of `Task::step` says of the last step that it was done whole.
+///
+/// - `further`: it goes on as it began, if it has had a step.
+/// - `first`: before its first step it begins anew, after all that the task has been told since.
+pub fn an_operation_goes_on_across_a_meeting()
+    ensures further { (op : Op) (start now later : SeatedTask) → OpUnderWay op start now → now.begins ≡ None →
+        later ≡ record now { seen = later.seen } → StaySeen now.seen later.seen → OpUnderWay op start later }
+    ensures first { (op of : Op) (start now later : SeatedTask) → OpUnderWay op start now → now.begins ≡ Some of →
+        later ≡ record now { seen = later.seen } → OpUnderWay op (record start { seen = later.seen }) later }
 {}
 
 /// A call comes after all that its task was told: by a receipt, a meeting, a join or a split. If a number had this list in a world that the task had

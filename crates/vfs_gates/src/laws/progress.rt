@@ -15,6 +15,7 @@ ghost use Rattle.gate_steps.specs.call_events.Runs.{Called, OpUnderWay, Progress
 ghost use Rattle.gate_steps.specs.call_events.Stepped.{Stepped};
 ghost use Rattle.gate_steps.specs.call_events.Waited.{is_wait};
 ghost use Rattle.vfs_gates.specs.Blockers.{WasBlocked, WasBlockedDuring};
+ghost use Rattle.vfs_gates.specs.Dropped.{MeetsDropped};
 ghost use Rattle.vfs_gates.specs.TaskStates.{SeatedTask, own_number};
 
 /// **Wait-freedom.** A call that waits for nobody, which is one that has a most number of steps (`most_events`), ends after so many steps of its own
@@ -46,4 +47,15 @@ pub fn a_step_that_waits_is_blocked()
         (later earlier : List Traced) (e : Traced) → called.trace ≡ later ++ e ∷ earlier →
         is_wait (state_of_trace old.config (own_number old.items) op (e ∷ earlier)).comes ≡ 1 →
         WasBlockedDuring old.config old.items op earlier e old.seen left.seen }
+{}
+
+/// **Dropped tasks.** A task that is dropped while its operation is under way takes no further step. What it has left may hold up a step of another
+/// task: HOLD at its mount, `umount`, a closed level, a read-side section, or an access at a level that a freeze sums (`MeetsLost`). Then that other
+/// task's operation has no reply, in any schedule that goes on from there, whatever all others do and begin, until one of the tasks that it
+/// meets does something.
+///
+/// That a dropped task does nothing more is what dropping its handle means: no contract speaks of a task that isn't there.
+pub fn who_meets_a_dropped_task_has_no_reply()
+    ensures { (phase : Phase) (hook : HookAnswer) (step : Step) (old left : SeatedTask) → Stepped phase hook old step left →
+        MeetsDropped old.config old.items phase hook old.seen left.seen }
 {}

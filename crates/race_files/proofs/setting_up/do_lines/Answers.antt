@@ -9,7 +9,7 @@ use Rattle.transcripts.specs.Transcript.{ReplayState, request_outcome}
 use Rattle.race_files.proofs.setting_up.do_lines.Goals as goal
 
 pub loop-line-init : goal.loop-line-init
-loop-line-init g c = record { left = all_left _; made = λ p shows. (p, none_yet _ _, shows) }
+loop-line-init g c = record { left = all_left _; count = refl; made = λ p shows. (p, none_yet _ _, shows) }
 
 pub loop-line-preserved : goal.loop-line-preserved
 loop-line-preserved g c =
@@ -20,6 +20,7 @@ loop-line-preserved g c =
     let no_race : is_race line ≡ Ok false = sym c.in_ok-is_race.ensures ∙ ap Ok c.if-branch.false in
     record {
       left = one_less _ _ _ c.loop-line.invariant.left c.take-in-Some.ensures.left;
+      count = c.take-in-Some.ensures.count ∙ c.loop-line.invariant.count;
       made = λ p shows.
           let so_far = c.loop-line.invariant.made p shows in
           let q : ReplayState = so_far.0 in

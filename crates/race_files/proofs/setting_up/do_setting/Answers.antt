@@ -26,6 +26,7 @@ pub returns-clause-fault : goal.returns-clause-fault
 returns-clause-fault g c =
     let all = left_in c.args.lines.now in
     let left = left_in c.open.new.lines in
+    let now = left_in c.do_lines-done.new.lines in
     let first = c.in_ok-session.ensures.made in
-    rw c.and.ensures (and_fault c.do_lines-done.result _ _ _ (λ fault then. behind_others None (Some first.0) all left fault first.1 then)
+    rw c.and.ensures (and_fault c.do_lines-done.result _ _ _ (λ fault then. behind_others None (Some first.0) all left now fault first.1 then)
     (c.do_lines-done.ensures.fault first.0 first.2))

@@ -9,7 +9,7 @@ use Rattle.transcripts.specs.Transcript.{opening_play}
 use Rattle.race_files.proofs.setting_up.open.Goals as goal
 
 pub loop-line-init : goal.loop-line-init
-loop-line-init c = record { left = all_left _; made = none_yet None _ }
+loop-line-init c = record { left = all_left _; count = refl; made = none_yet None _ }
 
 pub loop-line-preserved : goal.loop-line-preserved
 loop-line-preserved c =
@@ -20,6 +20,7 @@ loop-line-preserved c =
     let understood : parsed line None ≡ Ok c.in_ok-config.field-0 = sym c.parse.ensures ∙ c.in_ok-config.was in
     record {
       left = one_less _ _ _ c.loop-line.invariant.left c.take-in-Some.ensures.left;
+      count = c.take-in-Some.ensures.count ∙ c.loop-line.invariant.count;
       made = one_more None None None (left_in c.args.lines.now) left (left_in c.take-in-Some.new.self) line c.loop-line.invariant.made first
           c.take-in-Some.ensures.left (no_config line c.in_ok-config.field-0 understood c.in_default-2.not-Config);
     }

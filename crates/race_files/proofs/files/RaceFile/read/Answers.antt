@@ -1,13 +1,13 @@
 -- The core is a twin of the gates that were set up.
 use Rattle.exploration.proofs.Lists.{err_from}
-use Rattle.std.proofs.{Common.{◌≡◌, ◌∙◌, ◌⊎◌, inl, inr, ℕ, ◌<◌, None, IfErr, ap, subst, sym}, lemmas.Result.IfOk-weaker}
+use Rattle.std.proofs.{Common.{◌≡◌, ◌∙◌, ◌⊎◌, inl, inr, ℕ, ◌<◌, None, IfErr, ap, refl, subst, sym}, lemmas.Result.IfOk-weaker}
 use Rattle.gate_core.specs.{Drivers.{CoreShows}, Memory.{Memory}, Moves.{phase_in}}
 use Rattle.access_model.specs.declared.errors.GateError.TheVariants.{NoMemory}
 use Rattle.schedule_lines.specs.declared.faults.Fault.TheVariants.{Refused}
 use Rattle.gate_world.specs.declared.config.Config.{Config}
 use Rattle.race_files.specs.Races.{AllAreIdle}
-use Rattle.race_files.specs.{Faults.{IsToldOrMemory}, FirstFaults.{FailsFromRace, FailsFromRace.{InCalls, NotIdle}, IsMemory}}
-use Rattle.race_files.specs.{Left.{Left, behind, calls_left}, declared.faults.RaceFault.{RaceFault, TheVariants.{Schedule}}}
+use Rattle.race_files.specs.FirstFaults.{FailsFromRace, FailsFromRace.{InCalls, NotIdle}, FailsInCalls, IsMemory}
+use Rattle.race_files.specs.{Left.{Left, behind}, declared.faults.RaceFault.{RaceFault, TheVariants.{Schedule}}}
 use Rattle.race_files.proofs.FirstFaults.{any_fault, fault_mapped}
 use Rattle.race_files.proofs.Idle.{idle_recent, phase_there}
 use Rattle.transcripts.proofs.Opening.{answer_mapped}
@@ -44,14 +44,14 @@ idle_here core p shows idle t less =
 pub returns-in_err-expect_idle-clause-fault : goal.returns-in_err-expect_idle-clause-fault
 returns-in_err-expect_idle-clause-fault c = λ p shows.
     err_from _ c.in_err-expect_idle.field-0.0 _ c.from_residual.ensures.1
-    (inl (NotIdle (λ idle. c.in_err-expect_idle.ensures.busy (idle_here _ p (c.gates.ensures p shows) idle)) c.in_err-expect_idle.ensures.fault))
+    (inl (NotIdle (λ idle. c.in_err-expect_idle.ensures.busy (idle_here _ p (c.gates.ensures p shows) idle)) refl c.in_err-expect_idle.ensures.fault))
 
 -- the calls' fault is that of the race
-calls_fail : (p : ReplayState) (left now : Left) (tasks : ℕ) (fault : RaceFault) → AllAreIdle p → tasks ≡ p.config.tasks → now ≡ behind left →
-    IsToldOrMemory (calls_left tasks now) fault → FailsFromRace p left fault ⊎ IsMemory fault
-calls_fail p left now tasks fault idle same is (inl memory) = inr memory
-calls_fail p left now tasks fault idle same is (inr told) =
-    inl (InCalls idle (ap (λ (n : ℕ). calls_left n (behind left)) (sym same) ∙ (ap (calls_left tasks) (sym is) ∙ told)))
+calls_fail : (p : ReplayState) (left all now : Left) (tasks : ℕ) (fault : RaceFault) → AllAreIdle p → tasks ≡ p.config.tasks → all ≡ behind left →
+    FailsInCalls tasks all now fault ⊎ IsMemory fault → FailsFromRace p left now fault ⊎ IsMemory fault
+calls_fail p left all now tasks fault idle same is (inr memory) = inr memory
+calls_fail p left all now tasks fault idle same is (inl fails) =
+    inl (InCalls idle (subst (λ (x : Left). FailsInCalls p.config.tasks x now fault) is (subst (λ (n : ℕ). FailsInCalls n all now fault) same fails)))
 
 pub returns-in_err-core-clause-fault : goal.returns-in_err-core-clause-fault
 returns-in_err-core-clause-fault c = λ p shows.
@@ -67,6 +67,6 @@ returns-in_err-calls-clause-fault c = λ p shows.
     (IfOk-weaker c.twin.result _ Is (λ core is. subst Is (sym is) (c.gates-2.ensures p shows)) c.twin.ensures)
     c.map_err.ensures.cases c.map_err.ensures.variant c.in_ok-core.was in
     err_from _ c.in_err-calls.field-0.0 _ c.from_residual-in_err-calls.ensures.1
-    (calls_fail p _ _ _ _ (idle_there _ p (c.gates.ensures p shows) c.in_ok-expect_idle.ensures.idle)
+    (calls_fail p _ _ _ _ _ (idle_there _ p (c.gates.ensures p shows) c.in_ok-expect_idle.ensures.idle)
     (ap (λ (d : Config). d.tasks) (c.config.ensures.is ∙ core_is.config)) c.take.ensures.left
     c.in_err-calls.ensures.fault)

@@ -1,6 +1,6 @@
 use Rattle.std.proofs.Common.{◌∙◌, refl, sym, ap, ◌+◌, ◌-◌}
-use Rattle.race_files.proofs.Left.{of_front, none_behind, front_behind, no_first, part_lines}
-use Rattle.race_files.specs.Left.{behind, lines_in}
+use Rattle.race_files.proofs.Left.{first_of, front_behind, no_first, none_behind, of_front, one_taken, part_lines}
+use Rattle.race_files.specs.Left.{behind, left_in, lines_in}
 use Rattle.race_files.proofs.lines.Lines.take.Goals as goal
 use Rattle.schedule_lines.specs.declared.faults.Fault.TheVariants.{CutOff}
 
@@ -16,6 +16,13 @@ returns-in-Line-clause-left c =
     let lines = c.args.self.now in
     ap (lines_in (1048576 - (lines.done + 1))) c.behind_line-self.ensures
     ∙ sym (ap behind (of_front lines.done lines.rest.now _ c.if-self-ge-LINES.false (sym c.front_of.ensures.front ∙ c.in-Line.is)))
+
+pub returns-in-Line-clause-count : goal.returns-in-Line-clause-count
+returns-in-Line-clause-count c =
+    let lines = c.args.self.now in
+    one_taken lines.done (left_in lines) _ _
+    (first_of _ _ _ (of_front lines.done lines.rest.now _ c.if-self-ge-LINES.false (sym c.front_of.ensures.front ∙ c.in-Line.is)))
+    (returns-in-Line-clause-left c)
 
 pub returns-in-TooLong-clause-left : goal.returns-in-TooLong-clause-left
 returns-in-TooLong-clause-left c =

@@ -1,0 +1,93 @@
+//! Why the outcomes of a race aren't told, or not written whole.
+
+ghost use Rattle.std.specs.Prelude.{◌≡◌};
+ghost use Rattle.exit_status.specs.declared.ends.ProgramEnding.TheVariants.{Refused};
+
+use access_model::GateError;
+use command_line::Outcomes;
+use diagnostics::{Context, Faulty, tell_faulty};
+use exit_status::{ProgramEnding, refused_of, why_told, why_told_of};
+use exploration::Stop;
+use schedule_lines::Fault;
+use schedule_lines::bytes::ReplayFault;
+use std::alloc::Global;
+use std::io::Write;
+
+/// Why the outcomes of a race aren't told, or not written whole.
+#[derive(Drop)]
+pub enum Unlisted {
+    /// The race's text has this fault.
+    Faulty(ReplayFault),
+    /// A line claims something by what is no condition. This is told of it.
+    BadClaim(String),
+    /// The search was stopped.
+    Stopped(Stop),
+    /// A schedule was not saved. Why is told already.
+    Unsaved,
+    /// A write failed, with this fault.
+    Unwritten(Fault),
+}
+
+impl From<Stop> for Unlisted {
+    ghost use Rattle.mntgate.specs.declared.unlisted.Unlisted.TheVariants.{Stopped};
+
+    ghost from_gives = { λ stop why. why ≡ Stopped stop };
+
+    fn from(stop: Stop) -> Unlisted {
+        Unlisted::Stopped(stop)
+    }
+}
+
+impl Unlisted {
+    /// Tells why on the writer of faults, and returns how the program ends. The race is that of these bytes.
+    pub fn told<E: Write>(
+        self,
+        alloc: Global,
+        asked: Outcomes<'_>,
+        bytes: &[u8],
+        errors: &mut E,
+    ) -> ProgramEnding
+        ensures { result ≡ Refused }
+    {
+        match self {
+            Unlisted::Faulty(fault) => tell_fault(alloc, bytes, fault, asked.file, errors),
+            Unlisted::BadClaim(text) => why_told(text.as_str(), errors),
+            Unlisted::Stopped(stop) => stopped(stop, asked, errors),
+            Unlisted::Unsaved => ProgramEnding::Refused,
+            Unlisted::Unwritten(fault) => why_told(fault.text(), errors),
+        }
+    }
+}
+
+/// Tells the fault of a race in these bytes, with its line and how to mend it.
+fn tell_fault<E: Write>(
+    alloc: Global,
+    bytes: &[u8],
+    fault: ReplayFault,
+    file: Option<&str>,
+    errors: &mut E,
+) -> ProgramEnding
+    ensures { result ≡ Refused }
+{
+    let (context, rest) = Context::find(bytes, fault.line);
+    let faulty = Faulty {
+        file,
+        fault,
+        context,
+        rest,
+    };
+    tell_faulty(alloc, faulty, errors)
+}
+
+/// Tells why a search was stopped.
+fn stopped<E: Write>(stop: Stop, asked: Outcomes<'_>, errors: &mut E) -> ProgramEnding
+    ensures { result ≡ Refused }
+{
+    match stop {
+        Stop::NoMemory => refused_of(GateError::NoMemory, asked.file, errors),
+        Stop::TooMany => {
+            let limit = asked.limit;
+            why_told_of(format_args!("more than {limit} states"), asked.file, errors)
+        }
+    }
+}

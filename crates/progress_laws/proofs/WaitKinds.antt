@@ -1,0 +1,322 @@
+-- Four kinds of phases, by what they may wait for; and which waits a step of each leaves.
+use Rattle.std.proofs.Common.{◌≡◌, ℕ, ◌≤◌, Bool, true, false, true≢false, refl, sym, ap, ◌∙◌, inl, inr, subst, arith}
+use Rattle.std.proofs.lemmas.{Bool.{Decides.eqb_tells}, Grind.common_steps}
+use Rattle.std.specs.Prelude.{Ok, Err, ◌-◌, ◌==◌, ◌&&◌, not}
+use Rattle.finite_sums.specs.Sums.{update}
+use Rattle.access_model.specs.{Replies.map_next, declared.replies.Next.Next}
+use Rattle.cpu_words.specs.{Hooks.HookAnswer, Touches.found_by, Words.{Words, put, read}, declared.{events.Touch.Touch, names.WordName.WordName}}
+use Rattle.composite_ops.specs.write_access.Phases.{next as write_next}
+use Rattle.composite_ops.specs.file_closes.Phases.{next as close_next}
+use Rattle.composite_ops.specs.declared.{file_closes.phases.ClosePhase.ClosePhase, write_access.phases.WritePhase.WritePhase}
+use Rattle.freeze_levels.specs.{Freezes.{after_clearing, after_closing, after_reopening, freeze_after, freeze_fails, freeze_next, level_closed}, Thaws.{thaw_after, thaw_next}}
+use Rattle.freeze_levels.specs.declared.{freezes.{Freeze.Freeze, FreezeStep.FreezeStep}, thaws.{Thaw.Thaw, ThawStep.ThawStep}}
+use Rattle.gated_tree.specs.{Phases.{after as tree_after, next as tree_next, snapshot_after, snapshot_next}, declared.{phases.TreePhase.TreePhase, snapshots.{Snapshot.Snapshot, SnapshotStep.SnapshotStep}}}
+use Rattle.mount_counts.specs.{Phases.{has_flag, want_next, change_after, change_next}, Remounts.{remount_after, remount_next}}
+use Rattle.mount_counts.specs.declared.{phases.{Change.Change, ChangeStep.ChangeStep, MountPhase.MountPhase, Want.Want, WantStep.WantStep}, remounts.{Remount.Remount, RemountStep.RemountStep}}
+use Rattle.percpu_rwsem.specs.{Callbacks.{callback_after, callback_next}, Readers.{down_read_next}, Writers.{down_write_next}}
+use Rattle.percpu_rwsem.specs.declared.{callbacks.{Callback.Callback, CallbackStep.CallbackStep}, readers.{DownRead.DownRead, DownReadStep.DownReadStep}}
+use Rattle.percpu_rwsem.specs.declared.{transitions.Transition.Transition, writers.{DownWrite.DownWrite, DownWriteStep.DownWriteStep, UpWrite.UpWrite}}
+use Rattle.percpu_rwsem.specs.Transitions.{transition_next}
+use Rattle.gate_world.specs.{Work.{after_of}, Worlds.{found_at, words_after}, declared.work.Phase.Phase}
+use Rattle.gate_schedules.specs.operations.Progress.{is_first_lock}
+use Rattle.gate_schedules.proofs.{frames.Words.load_same, operations.deadlocks.RankDecreases.after_event}
+use Rattle.node_words.specs.declared.marks.ClearMarks.{ClearMarks}
+use Rattle.progress_laws.proofs.Calls.{lock_free}
+use Rattle.progress_laws.specs.Waiting.{callback_waits, change_waits, freeze_waits, grace_waits, must_wait, remount_waits, snapshot_waits, start_waits, thaw_waits, tree_waits, want_waits}
+
+abbrev pub callback_kind : CallbackStep → ℕ
+callback_kind (CallbackStep.Claims x) = 0
+callback_kind s = 1
+
+-- 0 of those that wait for HOLD or for a level; 1 of a callback once it is claimed; 2 of a freeze; 3 of those that wait for `umount` alone, or never
+abbrev pub kind : Phase → ℕ
+kind (Phase.Mounts (MountPhase.Want x)) = 0
+kind (Phase.DownReads r) = 0
+kind (Phase.Writes x) = 0
+kind (Phase.Closes x) = 0
+kind (Phase.Callbacks b) = callback_kind b.step
+kind (Phase.Freezes x) = 2
+kind phase = 3
+
+-- one of this kind need not wait
+abbrev pub goes_of : ℕ → Words → Phase → Bool
+goes_of k w phase = (kind phase == k) && not (must_wait w phase)
+
+-- of the second there are callbacks alone
+pub is_callback : (phase : Phase) → kind phase ≡ 1 → (b : Callback) × (phase ≡ Phase.Callbacks b)
+is_callback (Phase.Callbacks b) is = (b, refl)
+is_callback (Phase.Mounts (MountPhase.Change x)) is = absurd (omega (arith, is))
+is_callback phase is = absurd (omega (arith, is))
+
+pub goes_is : (k : ℕ) (w : Words) (phase : Phase) → goes_of k w phase ≡ true → (kind phase ≡ k) × (must_wait w phase ≡ false)
+goes_is k w phase h = grind arith
+
+pub goes_not : (k : ℕ) (w : Words) (phase : Phase) → goes_of k w phase ≡ false → kind phase ≡ k → must_wait w phase ≡ true
+goes_not k w phase h is = grind arith
+
+-- the words of waits but `umount`: no HOLD is cleared, no level opened
+pub record KeepsClosed (w after : Words) : Type 0 where
+  pub flags : after.flags ≡ w.flags
+  pub blocks : (i : ℕ) → (w.block i == 0) ≡ false → (after.block i == 0) ≡ false
+
+want_kept : (w after : Words) → KeepsClosed w after → (x : Want) (s : WantStep) → want_waits w x s ≡ true → want_waits after x s ≡ true
+want_kept w after keeps x WantStep.LoadsHold h = ap (λ (f : ℕ → ℕ). x.wait && has_flag (f x.mount) 2) keeps.flags ∙ h
+want_kept w after keeps x s h = absurd (true≢false (sym h))
+
+start_kept : (w after : Words) → KeepsClosed w after → (r : DownRead) (s : DownReadStep) → start_waits w r s ≡ true → start_waits after r s ≡ true
+start_kept w after keeps r DownReadStep.EntersSection h =
+    let k : (w.block r.level == 0) ≡ false → (after.block r.level == 0) ≡ false = keeps.blocks r.level in grind arith
+start_kept w after keeps r s h = absurd (true≢false (sym h))
+
+grace_kept : (w after : Words) → after.section ≡ w.section → (s : CallbackStep) → callback_waits w s ≡ true → callback_waits after s ≡ true
+grace_kept w after same (CallbackStep.AwaitsSections g) h =
+    ap (λ (f : ℕ → ℕ). grace_waits (record w { section = f }) g) same ∙ h
+grace_kept w after same s h = absurd (true≢false (sym h))
+
+-- who waits for HOLD or a level goes on waiting
+pub waits_kept : (w after : Words) → KeepsClosed w after → (q : Phase) → kind q ≡ 0 → must_wait w q ≡ true → must_wait after q ≡ true
+waits_kept w after keeps (Phase.Mounts (MountPhase.Want x)) is h = want_kept w after keeps x x.step h
+waits_kept w after keeps (Phase.DownReads r) is h = start_kept w after keeps r r.step h
+waits_kept w after keeps (Phase.Writes (WritePhase.Takes m r)) is h = start_kept w after keeps r r.step h
+waits_kept w after keeps (Phase.Writes (WritePhase.Wants x)) is h = want_kept w after keeps x x.step h
+waits_kept w after keeps (Phase.Closes (ClosePhase.Enters f node r)) is h = start_kept w after keeps r r.step h
+waits_kept w after keeps (Phase.Callbacks b) is h = claims b.step is h
+  where
+    claims : (s : CallbackStep) → callback_kind s ≡ 0 → callback_waits w s ≡ true → callback_waits after s ≡ true
+    claims (CallbackStep.Claims x) is h = absurd (true≢false (sym h))
+    claims s is h = absurd (omega (arith, is))
+waits_kept w after keeps (Phase.Mounts (MountPhase.Change x)) is h = absurd (omega (arith, is))
+waits_kept w after keeps (Phase.Remounts x) is h = absurd (omega (arith, is))
+waits_kept w after keeps (Phase.UpReads u) is h = absurd (omega (arith, is))
+waits_kept w after keeps (Phase.Freezes x) is h = absurd (omega (arith, is))
+waits_kept w after keeps (Phase.Thaws x) is h = absurd (omega (arith, is))
+waits_kept w after keeps (Phase.Trees x) is h = absurd (omega (arith, is))
+waits_kept w after keeps phase is h = absurd (true≢false (sym h))
+
+-- and who waits for a section, if none has changed
+pub graces_kept : (w after : Words) → KeepsClosed w after → after.section ≡ w.section → (q : Phase) → kind q ≤ 1 → must_wait w q ≡ true →
+    must_wait after q ≡ true
+graces_kept w after keeps same (Phase.Callbacks b) is h = grace_kept w after same b.step h
+graces_kept w after keeps same (Phase.Mounts (MountPhase.Want x)) is h = waits_kept w after keeps (Phase.Mounts (MountPhase.Want x)) refl h
+graces_kept w after keeps same (Phase.DownReads r) is h = waits_kept w after keeps (Phase.DownReads r) refl h
+graces_kept w after keeps same (Phase.Writes x) is h = waits_kept w after keeps (Phase.Writes x) refl h
+graces_kept w after keeps same (Phase.Closes x) is h = waits_kept w after keeps (Phase.Closes x) refl h
+graces_kept w after keeps same (Phase.Freezes x) is h = absurd (omega (arith, is))
+graces_kept w after keeps same (Phase.Mounts (MountPhase.Change x)) is h = absurd (omega (arith, is))
+graces_kept w after keeps same (Phase.Remounts x) is h = absurd (omega (arith, is))
+graces_kept w after keeps same (Phase.Thaws x) is h = absurd (omega (arith, is))
+graces_kept w after keeps same (Phase.Trees x) is h = absurd (omega (arith, is))
+graces_kept w after keeps same phase is h = absurd (true≢false (sym h))
+
+-- words that are no HOLD and open no level
+abbrev turns_waits : WordName → Bool
+turns_waits (WordName.Block i) = true
+turns_waits (WordName.MountFlags m) = true
+turns_waits name = false
+
+beside_waits : (w : Words) (name : WordName) (v : ℕ) → turns_waits name ≡ false → KeepsClosed w (put w name v)
+beside_waits w (WordName.Block i) v h = absurd (true≢false h)
+beside_waits w (WordName.MountFlags m) v h = absurd (true≢false h)
+beside_waits w name v h = record { flags = refl; blocks = λ i z. z }
+
+load_keeps : (w : Words) (name : WordName) → KeepsClosed w (put w name (read w name))
+load_keeps w name = subst (KeepsClosed w) (sym (load_same w name)) (record { flags = refl; blocks = λ i z. z })
+
+want_keeps : (w : Words) (x : Want) (s : WantStep) → KeepsClosed w (after_event w (want_next x s))
+want_keeps w x WantStep.LoadsHold = load_keeps w (WordName.MountFlags x.mount)
+want_keeps w x WantStep.LoadsReadOnly = load_keeps w (WordName.MountFlags x.mount)
+want_keeps w x s = beside_waits w (want_next x s).0 _ refl
+
+start_keeps : (w : Words) (r : DownRead) (s : DownReadStep) → KeepsClosed w (after_event w (down_read_next r s))
+start_keeps w r DownReadStep.LoadsBlock = load_keeps w (WordName.Block r.level)
+start_keeps w r s = beside_waits w (down_read_next r s).0 _ refl
+
+write_keeps : (w : Words) (x : WritePhase) → KeepsClosed w (after_event w (write_next x))
+write_keeps w (WritePhase.Takes m r) = start_keeps w r r.step
+write_keeps w (WritePhase.Wants x) = want_keeps w x x.step
+write_keeps w x = beside_waits w (write_next x).0 _ refl
+
+close_keeps : (w : Words) (x : ClosePhase) → KeepsClosed w (after_event w (close_next x))
+close_keeps w (ClosePhase.Enters f node r) = start_keeps w r r.step
+close_keeps w x = beside_waits w (close_next x).0 _ refl
+
+transition_keeps : (w : Words) (level : ℕ) (x : Transition) →
+    KeepsClosed w (after_event w (transition_next level x)) × ((after_event w (transition_next level x)).section ≡ w.section)
+transition_keeps w level Transition.Loads = (beside_waits w (WordName.Sync level) _ refl, refl)
+transition_keeps w level (Transition.Exchanges from to) = (beside_waits w (WordName.Sync level) _ refl, refl)
+
+looks_keep : (w : Words) (t : ℕ) →
+    KeepsClosed w (after_event w (WordName.Section t, Touch.Load)) × ((after_event w (WordName.Section t, Touch.Load)).section ≡ w.section)
+looks_keep w t = (load_keeps w (WordName.Section t), ap (λ (v : Words). v.section) (load_same w (WordName.Section t)))
+
+callback_keeps : (w : Words) (b : Callback) (s : CallbackStep) →
+    KeepsClosed w (after_event w (callback_next b s)) × ((after_event w (callback_next b s)).section ≡ w.section)
+callback_keeps w b (CallbackStep.Claims x) = transition_keeps w b.level x
+callback_keeps w b (CallbackStep.AwaitsSections g) = looks_keep w g.task
+callback_keeps w b (CallbackStep.CallsBack x) = transition_keeps w b.level x
+
+-- a step of the first kind clears no HOLD and opens no level
+pub quick_keeps : (w : Words) (phase : Phase) (hook : HookAnswer) → kind phase ≡ 0 → KeepsClosed w (words_after w phase hook)
+quick_keeps w (Phase.Mounts (MountPhase.Want x)) hook is = want_keeps w x x.step
+quick_keeps w (Phase.DownReads r) hook is = start_keeps w r r.step
+quick_keeps w (Phase.Writes x) hook is = write_keeps w x
+quick_keeps w (Phase.Closes x) hook is = close_keeps w x
+quick_keeps w (Phase.Callbacks b) hook is = (callback_keeps w b b.step).0
+quick_keeps w phase hook is = absurd (omega (arith, is))
+
+-- what comes next is such
+abbrev pub NextIs : {P : Type 0} → (P → Type 0) → Next P → Type 0
+NextIs holds (Next.Go q) = holds q
+NextIs holds (Next.Wait q) = holds q
+NextIs holds (Next.Done answer) = Unit {0}
+
+next_in : {A B : Type 0} (to : A → B) (holds : B → Type 0) (next : Next A) → NextIs (λ x. holds (to x)) next → NextIs holds (map_next to next)
+next_in to holds (Next.Go x) h = h
+next_in to holds (Next.Wait x) h = h
+next_in to holds (Next.Done answer) h = tt
+
+pub next_all : {P : Type 0} (holds : P → Type 0) → ((x : P) → holds x) → (next : Next P) → NextIs holds next
+next_all holds h (Next.Go x) = h x
+next_all holds h (Next.Wait x) = h x
+next_all holds h (Next.Done answer) = tt
+
+pub next_map : {P : Type 0} (one other : P → Type 0) → ((x : P) → one x → other x) → (next : Next P) → NextIs one next → NextIs other next
+next_map one other h (Next.Go x) i = h x i
+next_map one other h (Next.Wait x) i = h x i
+next_map one other h (Next.Done answer) i = tt
+
+-- a callback that is claimed changes no section either, and stays so to its end
+claimed_next : (b : Callback) (s : CallbackStep) (found : ℕ) → callback_kind s ≡ 1 → NextIs (λ (y : Callback). callback_kind y.step ≡ 1) (callback_after b s found).0
+claimed_next b s found is = grind (arith, common_steps)
+
+pub claimed_keeps : (w : Words) (phase : Phase) (hook : HookAnswer) → kind phase ≡ 1 →
+    KeepsClosed w (words_after w phase hook) × ((words_after w phase hook).section ≡ w.section) ×
+    NextIs (λ q. kind q ≡ 1) (after_of phase (found_at w phase hook) hook).0
+claimed_keeps w (Phase.Callbacks b) hook is =
+    let k = callback_keeps w b b.step in
+    (k.0, k.1, next_in Phase.Callbacks (λ q. kind q ≡ 1) _ (claimed_next b b.step (found_at w (Phase.Callbacks b) hook) is))
+claimed_keeps w (Phase.Mounts (MountPhase.Change x)) hook is = absurd (omega (arith, is))
+claimed_keeps w phase hook is = absurd (omega (arith, is))
+
+-- An operation that waits for nobody but the owner of `umount` never waits after a step.
+abbrev pub NeverWaits : Phase → Type 0
+NeverWaits q = (kind q ≡ 3) × ((w : Words) → must_wait w q ≡ false)
+
+change_goes : (w : Words) (x : Change) (s : ChangeStep) → change_waits w x.wait s ≡ false →
+    NextIs (λ (y : Change). (w : Words) → change_waits w y.wait y.step ≡ false) (change_after x s (found_by (change_next x s).1 (read w (change_next x s).0))).0
+change_goes w x s free = grind (arith, common_steps)
+
+remount_goes : (w : Words) (x : Remount) (s : RemountStep) (hook : HookAnswer) → remount_waits w s ≡ false →
+    NextIs (λ (y : Remount). (w : Words) → remount_waits w y.step ≡ false)
+    (remount_after x s (found_by (remount_next x s hook).1 (read w (remount_next x s hook).0)) hook).0
+remount_goes w x s hook free = grind (arith, common_steps)
+
+thaw_goes : (w : Words) (x : Thaw) (s : ThawStep) (hook : HookAnswer) → thaw_waits w s ≡ false →
+    NextIs (λ (y : Thaw). (w : Words) → thaw_waits w y.step ≡ false)
+    (thaw_after x s (found_by (thaw_next x s hook).1 (read w (thaw_next x s hook).0)) hook).0
+thaw_goes w x s hook free = grind (arith, common_steps)
+
+snapshot_goes : (w : Words) (x : Snapshot) (s : SnapshotStep) → snapshot_waits w x.wait s ≡ false →
+    NextIs (λ (y : Snapshot). (w : Words) → snapshot_waits w y.wait y.step ≡ false)
+    (snapshot_after x s (found_by (snapshot_next x s).1 (read w (snapshot_next x s).0))).0
+snapshot_goes w x s free = grind (arith, common_steps)
+
+tree_goes : (w : Words) (x : TreePhase) (hook : HookAnswer) → tree_waits w x ≡ false →
+    NextIs (λ (y : TreePhase). (w : Words) → tree_waits w y ≡ false) (tree_after x (found_by (tree_next x hook).1 (read w (tree_next x hook).0)) hook).0
+tree_goes w (TreePhase.Snapshot x) hook free =
+    next_in TreePhase.Snapshot (λ (y : TreePhase). (w : Words) → tree_waits w y ≡ false) _ (snapshot_goes w x x.step free)
+tree_goes w x hook free = grind (arith, common_steps)
+
+pub never_next : (w : Words) (phase : Phase) (hook : HookAnswer) → kind phase ≡ 3 → must_wait w phase ≡ false →
+    NextIs NeverWaits (after_of phase (found_at w phase hook) hook).0
+never_next w (Phase.Mounts (MountPhase.Change x)) hook is free =
+    next_in Phase.Mounts NeverWaits _ (next_in MountPhase.Change (λ (y : MountPhase). NeverWaits (Phase.Mounts y)) _
+    (next_map (λ (y : Change). (v : Words) → change_waits v y.wait y.step ≡ false) (λ (y : Change). NeverWaits (Phase.Mounts (MountPhase.Change y))) (λ y h. (refl, h)) _
+    (change_goes w x x.step free)))
+never_next w (Phase.Mounts (MountPhase.Want x)) hook is free = absurd (omega (arith, is))
+never_next w (Phase.Mounts x) hook is free = tt
+never_next w (Phase.Remounts x) hook is free =
+    next_in Phase.Remounts NeverWaits _ (next_map (λ (y : Remount). (v : Words) → remount_waits v y.step ≡ false) (λ (y : Remount). NeverWaits (Phase.Remounts y)) (λ y h. (refl, h)) _
+    (remount_goes w x x.step hook free))
+never_next w (Phase.Thaws x) hook is free =
+    next_in Phase.Thaws NeverWaits _ (next_map (λ (y : Thaw). (v : Words) → thaw_waits v y.step ≡ false) (λ (y : Thaw). NeverWaits (Phase.Thaws y)) (λ y h. (refl, h)) _
+    (thaw_goes w x x.step hook free))
+never_next w (Phase.Trees x) hook is free = next_in Phase.Trees NeverWaits _ (next_map (λ (y : TreePhase). (v : Words) → tree_waits v y ≡ false) (λ (y : TreePhase). NeverWaits (Phase.Trees y)) (λ y h. (refl, h)) _
+    (tree_goes w x hook free))
+never_next w (Phase.UpReads u) hook is free = tt
+never_next w (Phase.Callbacks b) hook is free = claims b.step is
+  where
+    claims : {A : Type 0} (s : CallbackStep) → callback_kind s ≡ 3 → A
+    claims (CallbackStep.Claims x) is = absurd (omega (arith, is))
+    claims s is = absurd (omega (arith, is))
+never_next w phase hook is free = absurd (omega (arith, is))
+
+-- A freeze: once a hook has failed it opens its levels, and waits no more.
+abbrev pub is_failing : FreezeStep → Bool
+is_failing (FreezeStep.Reopens u code) = true
+is_failing (FreezeStep.Releases answer) = true
+is_failing s = false
+
+-- it comes to its first lock only by waiting there, and one that fails goes on failing
+abbrev pub FreezeGoes : FreezeStep → Next Freeze → Type 0
+FreezeGoes s next = NextIs (λ (y : Freeze). (is_first_lock y.step ≡ false) × (is_failing s ≡ true → is_failing y.step ≡ true)) next
+
+closed_is : (level nodes : ℕ) → is_first_lock (level_closed level nodes) ≡ false
+closed_is level nodes = grind arith
+
+fails_is : (level code : ℕ) → (is_first_lock (freeze_fails level code) ≡ false) × (is_failing (freeze_fails level code) ≡ true)
+fails_is level code = grind arith
+
+closing_goes : (x : Freeze) (level : ℕ) (d : DownWrite) (next : Next DownWrite) → FreezeGoes (FreezeStep.Closes d) (after_closing x level next)
+closing_goes x level d (Next.Go y) = (refl, λ h. absurd (true≢false (sym h)))
+closing_goes x level d (Next.Wait y) = (refl, λ h. absurd (true≢false (sym h)))
+closing_goes x level d (Next.Done answer) = (closed_is level x.nodes, λ h. absurd (true≢false (sym h)))
+
+clearing_goes : (x : Freeze) (marks : ClearMarks) (next : Next ClearMarks) → FreezeGoes (FreezeStep.Cleans marks) (after_clearing x next)
+clearing_goes x marks (Next.Go y) = (refl, λ h. absurd (true≢false (sym h)))
+clearing_goes x marks (Next.Wait y) = (refl, λ h. absurd (true≢false (sym h)))
+clearing_goes x marks (Next.Done answer) = (refl, λ h. absurd (true≢false (sym h)))
+
+reopening_goes : (x : Freeze) (u : UpWrite) (level code : ℕ) (next : Next UpWrite) → FreezeGoes (FreezeStep.Reopens u code) (after_reopening x level code next)
+reopening_goes x u level code (Next.Go y) = (refl, λ h. refl)
+reopening_goes x u level code (Next.Wait y) = (refl, λ h. refl)
+reopening_goes x u level code (Next.Done answer) = ((fails_is (level - 1) code).0, λ h. (fails_is (level - 1) code).1)
+
+pub freeze_goes : (w : Words) (x : Freeze) (s : FreezeStep) (hook : HookAnswer) → freeze_waits w s ≡ false →
+    FreezeGoes s (freeze_after x s (found_by (freeze_next x s hook).1 (read w (freeze_next x s hook).0)) hook).0
+freeze_goes w x (FreezeStep.Closes d) hook free = closing_goes x d.level d _
+freeze_goes w x (FreezeStep.Reopens u code) hook free = reopening_goes x u u.level code _
+freeze_goes w x (FreezeStep.Cleans marks) hook free = clearing_goes x marks _
+freeze_goes w x FreezeStep.Locks hook free = rw (lock_free w free) (refl, λ h. absurd (true≢false (sym h)))
+freeze_goes w x FreezeStep.LocksAgain hook free = rw (lock_free w free) (refl, λ h. absurd (true≢false (sym h)))
+freeze_goes w x s hook free = grind (arith, common_steps)
+
+closing_keeps : (w : Words) (d : DownWrite) (s : DownWriteStep) →
+    KeepsClosed w (after_event w (down_write_next d s)) × ((after_event w (down_write_next d s)).section ≡ w.section)
+closing_keeps w d (DownWriteStep.Enters x) = transition_keeps w d.level x
+closing_keeps w d (DownWriteStep.AwaitsSections g) = looks_keep w g.task
+closing_keeps w d (DownWriteStep.CallsBack x) = transition_keeps w d.level x
+closing_keeps w d DownWriteStep.AwaitsPassed = (beside_waits w (WordName.Sync d.level) _ refl, refl)
+closing_keeps w d DownWriteStep.SetsBlock = (
+  record {
+    flags = refl;
+    blocks = λ i h. elim (eqb_tells i d.level) [
+      | inl e ↦ rw (e.0, update) refl
+      | inr e ↦ rw (e.0, update) h
+    ];
+  },
+  refl,
+)
+closing_keeps w d (DownWriteStep.Sums sum) = (beside_waits w (WordName.LevelCount d.level sum.words) _ refl, refl)
+
+-- a step of one that doesn't fail opens no level, and changes no section
+pub freeze_keeps : (w : Words) (x : Freeze) (s : FreezeStep) (hook : HookAnswer) → is_failing s ≡ false →
+    KeepsClosed w (after_event w (freeze_next x s hook)) × ((after_event w (freeze_next x s hook)).section ≡ w.section)
+freeze_keeps w x (FreezeStep.Closes d) hook on = closing_keeps w d d.step
+freeze_keeps w x (FreezeStep.Reopens u code) hook on = absurd (true≢false on)
+freeze_keeps w x (FreezeStep.Releases answer) hook on = absurd (true≢false on)
+freeze_keeps w x FreezeStep.SetsFs (Ok answer) on = (beside_waits w WordName.Stage _ refl, refl)
+freeze_keeps w x FreezeStep.SetsFs (Err code) on = (beside_waits w WordName.Stage _ refl, refl)
+freeze_keeps w x FreezeStep.SetsComplete (Ok answer) on = (beside_waits w WordName.Stage _ refl, refl)
+freeze_keeps w x FreezeStep.SetsComplete (Err code) on = (beside_waits w WordName.Stage _ refl, refl)
+freeze_keeps w x s hook on = (beside_waits w (freeze_next x s hook).0 _ refl, refl)

@@ -1,0 +1,7 @@
+use Rattle.gate_schedules.proofs.schedules.HeadlineProof.{whole_rule}
+use Rattle.gate_world.specs.Headline.{world_after}
+use Rattle.progress_laws.proofs.FirstReply.{first_reply}
+use Rattle.progress_laws.proofs.the_first_reply_is_near_beside_lost_tasks.Goals as goal
+
+pub returns : goal.returns
+returns start c lim lost entries = first_reply c lim lost (world_after c entries) (whole_rule c lim entries)

@@ -1,0 +1,28 @@
+#!/usr/bin/env -S python3 -B
+"""Compiles the module of module/ against the headers of Debian's kernels, 6.1 and 6.12, with every warning as an error. Where these headers can't be
+had, one line says so, and that is no failure."""
+
+import sys
+
+import machine
+
+
+def main():
+    status = 0
+    for release in machine.RELEASES:
+        try:
+            headers = machine.fetch_headers(machine.newest_image(release))
+        except (machine.Failed, OSError) as cause:
+            print(f"kernel/module isn't compiled for {release}, as its headers can't be had: {str(cause).splitlines()[0]}")
+            continue
+        try:
+            machine.build_module(headers, "KCFLAGS=-Werror", "W=1")
+            print(f"kernel/module compiles for {release}")
+        except machine.Failed as cause:
+            print(f"kernel/module doesn't compile for {release}: {cause}")
+            status = 1
+    return status
+
+
+if __name__ == "__main__":
+    sys.exit(main())

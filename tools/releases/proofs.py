@@ -1,0 +1,64 @@
+"""PROOF.txt of a release: what CI said of each crate, and the sums of what it built."""
+
+import hashlib
+import os
+import re
+import time
+
+from files import ROOT, read, said, stop, text
+
+
+def verdicts_in(log):
+    """Returns the last line of the prover on each crate, by name. Behind `rt: ok` the log has that on the archive."""
+    verdicts, name = {}, None
+    for line in log.splitlines():
+        if line.startswith("== "):
+            name = line[3:].split()[0]
+        elif line.startswith("rt: ok"):
+            name = "libmntgate_c.a"
+        elif line.startswith("logic="):
+            verdicts.setdefault(name, line)
+    return verdicts
+
+
+def tools():
+    """Returns a line for each tool whose version decides the bytes of a release."""
+    asked = (("gcc", "--version"), ("ld", "--version"), ("dpkg-deb", "--version"), ("cmark-gfm", "--version"), ("python3", "--version"))
+    return [said(*words).splitlines()[0] for words in asked]
+
+
+def evidence(log, epoch, built):
+    """Returns the text of PROOF.txt. Stops unless the log has a proof of each crate, by one kit, and ends with no failure."""
+    verdicts = verdicts_in(log)
+    crates = re.findall(r"^([a-z_]+)[^:#\n]*:", text("crates.txt"), re.M) + ["libmntgate_c.a"]
+    if missing := [crate for crate in crates if not verdicts.get(crate, "").startswith("logic=proved")]:
+        stop(f"the log has no proof of {' '.join(missing)}")
+    ends = re.findall(r"^rt: ok; .*", log, re.M)[-1:] + re.findall(r"^\d+ passed, 0 failed$", log, re.M)[-1:]
+    if len(ends) != 2:
+        stop("the log doesn't end with 'N passed, 0 failed'")
+    kit = re.search(r"`(rattle-kit-\S+ logic \S+)`", text("README.md"))[1]
+    if {line.split("sum=")[1].split()[0] for line in verdicts.values()} != {kit.split()[-1]}:
+        stop(f"the log is of another logic than {kit}, which README.md names")
+    commit = said("git", "-C", ROOT, "rev-parse", "HEAD")
+    sums = [f"{hashlib.sha256(read(path)).hexdigest()}  {os.path.relpath(path, ROOT)}" for path in built]
+    fits = {f"commit {commit}", *sums} <= set(log.splitlines())
+    width = max(map(len, crates))
+    lines = [
+        f"commit {commit}",
+        time.strftime("date   %Y-%m-%dT%H:%M:%SZ", time.gmtime(epoch)),
+        f"kit    {kit}",
+        "",
+        "What .ci/run said at its end:",
+        *ends,
+        "",
+        "Its verdict on each crate. The words behind it are explained in docs/testing.md, \"What a verdict says\".",
+        *(f"{crate:{width}} {verdicts[crate]}" for crate in crates),
+        "",
+        "SHA-256 of what it built. The release has them stripped, and the library linked with the kit's lines of C:",
+        *sums,
+        "The output of .ci/run names this commit and these sums." if fits else "The output of .ci/run names another commit or other sums: that it is of these is the word of whoever made the release.",
+        "",
+        "Made with:",
+        *tools(),
+    ]
+    return "\n".join(lines) + "\n"
