@@ -9,11 +9,14 @@ from files import ROOT, read, said, stop, text
 
 
 def verdicts_in(log):
-    """Returns the last line of the prover on each crate, by name. Behind `rt: ok` the log has that on the archive."""
+    """Returns the last line of the prover on each crate, by name; or that an earlier run on this machine proved the same files, which `rt ci` then
+    doesn't prove again. Behind `rt: ok` the log has the line on the archive."""
     verdicts, name = {}, None
     for line in log.splitlines():
         if line.startswith("== "):
             name = line[3:].split()[0]
+        elif kept := re.match(r"rt: (\w+) is (kept: .*)", line):
+            verdicts.setdefault(kept[1], kept[2])
         elif line.startswith("rt: ok"):
             name = "libmntgate_c.a"
         elif line.startswith("logic="):
@@ -31,13 +34,13 @@ def evidence(log, epoch, built):
     """Returns the text of PROOF.txt. Stops unless the log has a proof of each crate, by one kit, and ends with no failure."""
     verdicts = verdicts_in(log)
     crates = re.findall(r"^([a-z_]+)[^:#\n]*:", text("crates.txt"), re.M) + ["libmntgate_c.a"]
-    if missing := [crate for crate in crates if not verdicts.get(crate, "").startswith("logic=proved")]:
+    if missing := [crate for crate in crates if not verdicts.get(crate, "").startswith(("logic=proved", "kept: "))]:
         stop(f"the log has no proof of {' '.join(missing)}")
     ends = re.findall(r"^rt: ok; .*", log, re.M)[-1:] + re.findall(r"^\d+ passed, 0 failed$", log, re.M)[-1:]
     if len(ends) != 2:
         stop("the log doesn't end with 'N passed, 0 failed'")
     kit = re.search(r"`(rattle-kit-\S+ logic \S+)`", text("README.md"))[1]
-    if {line.split("sum=")[1].split()[0] for line in verdicts.values()} != {kit.split()[-1]}:
+    if {line.split("sum=")[1].split()[0] for line in verdicts.values() if "sum=" in line} != {kit.split()[-1]}:
         stop(f"the log is of another logic than {kit}, which README.md names")
     commit = said("git", "-C", ROOT, "rev-parse", "HEAD")
     sums = [f"{hashlib.sha256(read(path)).hexdigest()}  {os.path.relpath(path, ROOT)}" for path in built]
