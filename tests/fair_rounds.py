@@ -1,16 +1,19 @@
 #!/usr/bin/env -S python3 -B
 """Measures how many fair rounds random states need until each call has its reply or has to wait, beside the number that is proved of them.
 
-    tests/fair_rounds.py [--states N] [--seed N] [--against PROGRAM]
+    tests/fair_rounds.py [--states N] [--seed N] [--impatient] [--against PROGRAM]
 
 From the opening state of a configuration random calls begin and take random steps; hooks may fail. In the state that is reached nothing begins any
 more, and random rounds follow: in each of them every task takes a step at least once, but for a start that stands outside a closed level. The state's own
 number is `turns_left` (crates/progress_laws/specs/StepsLeft.antt), which is written anew here. Prints a row for each configuration; the exit status is
 1 if a state needed more rounds than its number.
 
-The orders of events are written anew here too. With --against each execution is also replayed by a program, such as crates/mntgate/out/mntgate, and has
-to have the same events: the first that differs is printed, and the exit status is 1. Calls at the tree and closes are not played; of the calls at the
-tree a snapshot is, since it alone waits."""
+With --impatient each freeze gives up that asks whether to wait. Then rounds follow until each call has its reply, or all is frozen and it waits outside
+a level. The number is `turns_to_give_up` (GivingUp.antt, beside it).
+
+The orders of events are written anew here too. With --against each execution is also replayed by a program, such as crates/mntgate/out/mntgate, over the
+core and over the gates, and has to have the same events and waits, and the same calls granted: the first that differs is printed, and the exit status is
+1. Calls at the tree and closes are not played; of the calls at the tree a snapshot is, since it alone waits."""
 
 import argparse
 import collections
@@ -19,13 +22,18 @@ import subprocess
 import sys
 
 # What a task does next, and the numbers of `turns_left`: the steps left, the changes of `block` and the others, the start that it is at, what it tries,
-# its room for starts and for tries; and what it waits for. `fails` is the event of a hook that fails.
+# its room for starts and for tries; and what it waits for. `fails` is the store of a hook that fails, and that hook.
 Step = collections.namedtuple("Step", "left word touch arg blocks others start tries rooms waits fails", defaults=(0, 0, 0, None, 0, (0, 0), None, None))
 Config = collections.namedtuple("Config", "tasks cpus mounts nodes")
 LOAD, STORE, ADD, OR, AND, SWAP, CAS = "load", "store", "add", "or", "and", "swap", "cas"
 IDLE, ENTER, PASSED, EXIT, REPLAY = range(5)
 MODULUS = 2**64
 STATES = 10000
+HOOKS = ("sync", "freeze", "unfreeze", "reconfigure", "wait")
+# How often a task takes many steps at once where a program replays them too.
+RUNS = 0.1
+# What a step has found whose hook has failed.
+FAILED = object()
 
 
 def entered(word):
@@ -111,7 +119,7 @@ def remount(config, task, read_only):
         return False
     is_read_only = yield Step(loop + nodes + 14, "sb", LOAD)
     if is_read_only and not read_only:
-        if (yield Step(1, "sb", STORE, 0, fails=("umount", 0))):
+        if (yield Step(1, "sb", STORE, 0, fails=("umount", 0, "reconfigure"))) is FAILED:
             return False
     elif read_only and not is_read_only:
         yield Step(loop + nodes + 13, "removed", LOAD)
@@ -134,7 +142,7 @@ def remount(config, task, read_only):
         yield from clear_holds(held, len(held) + nodes + 1)
         for node in range(1, nodes):
             yield Step(nodes - node + 2, f"node{node}", AND, ~4)
-        if (yield Step(2, "sb", STORE, 1, fails=("remount", 0))):
+        if (yield Step(2, "sb", STORE, 1, fails=("remount", 0, "reconfigure"))) is FAILED:
             yield Step(0, "umount", STORE, 0)
             return False
         yield Step(1, "remount", STORE, 0)
@@ -215,7 +223,7 @@ def callback(config, level):
 
 
 def down_write(config, level, steps, blocks, others):
-    """With so many steps, and changes of `block` and others, after it."""
+    """With so many steps, and changes of `block` and others, after it. Whether it has passed the level: at a wait its hook may give it up."""
     rooms = (0, 2 * config.cpus + 2)
 
     def changes(more_blocks, more):
@@ -228,12 +236,18 @@ def down_write(config, level, steps, blocks, others):
     elif state == ENTER:
         yield Step(steps + 2, f"sync{level}", LOAD, tries=1, **changes(1, 0))
     yield Step(steps + 1, f"block{level}", SWAP, 1, tries=1, **changes(1, 0))
-    total = 1
+    total, fails = 1, None
     while total:
         total = 0
         for cpu in range(config.cpus):
-            word = yield Step(steps, f"level{level}.cpu{cpu}", LOAD, tries=("sums", level, cpu, total), waits=("sum", level, cpu, total), **changes(0, 0))
-            total = (total + word) % MODULUS
+            tries, waits = ("sums", level, cpu, total), ("sum", level, cpu, total)
+            word = yield Step(steps, f"level{level}.cpu{cpu}", LOAD, tries=tries, waits=waits, fails=fails, **changes(0, 0))
+            if word is FAILED:
+                return False
+            total, fails = (total + word) % MODULUS, None
+        # After a sum that has found somebody it asks whether to wait.
+        fails = (f"block{level}", 0, "wait")
+    return True
 
 
 def up_write(level, rooms):
@@ -265,24 +279,43 @@ def freeze(config, task, holder):
     else:
         yield at(3 * one + nodes + 12, "stage", STORE, 1, 6, 9)
         yield at(3 * one + nodes + 11, "umount", STORE, 0, 6, 9)
-        yield from down_write(config, 1, 2 * one + nodes + 11, 5, 7)
-        yield from lock(task, 2 * one + nodes + 10, blocks=5, others=7, tries=1, rooms=rooms)
-        yield at(2 * one + nodes + 9, "stage", STORE, 2, 5, 7)
-        yield from down_write(config, 2, one + nodes + 9, 4, 5)
-        for node in range(1, nodes):
-            yield at(one + nodes - node + 9, f"node{node}", AND, ~4, 4, 5)
-        opens = 2 if (yield at(one + 9, "stage", STORE, 3, 4, 5, fails=("stage", 0))) else 0
-        if not opens:
-            yield from down_write(config, 3, 9, 3, 3)
-            opens = 3 if (yield at(8, "stage", STORE, 4, 3, 3, fails=("stage", 0))) else 0
-        if opens:
-            for level in range(opens, 0, -1):
+        left_closed = yield from close_levels(config, task, at, rooms)
+        if left_closed is not None:
+            for level in range(left_closed, 0, -1):
                 yield from up_write(level, rooms)
             yield at(0, "umount", STORE, 0)
             return False
     yield at(1, "holders", STORE, holder)
     yield at(0, "umount", STORE, 0)
     return True
+
+
+def close_levels(config, task, at, rooms):
+    """Closes the three levels. None, or how many are left closed, at stage 0, as a hook has failed."""
+    one, nodes = 2 * config.tasks + 6, config.nodes
+    if not (yield from down_write(config, 1, 2 * one + nodes + 11, 5, 7)):
+        return (yield from give_up(1, task, at, rooms))
+    yield from lock(task, 2 * one + nodes + 10, blocks=5, others=7, tries=1, rooms=rooms)
+    yield at(2 * one + nodes + 9, "stage", STORE, 2, 5, 7)
+    if not (yield from down_write(config, 2, one + nodes + 9, 4, 5)):
+        return (yield from give_up(2, task, at, rooms))
+    for node in range(1, nodes):
+        yield at(one + nodes - node + 9, f"node{node}", AND, ~4, 4, 5)
+    if (yield at(one + 9, "stage", STORE, 3, 4, 5, fails=("stage", 0, "sync"))) is FAILED:
+        return 2
+    if not (yield from down_write(config, 3, 9, 3, 3)):
+        return (yield from give_up(3, task, at, rooms))
+    return 3 if (yield at(8, "stage", STORE, 4, 3, 3, fails=("stage", 0, "freeze"))) is FAILED else None
+
+
+def give_up(level, task, at, rooms):
+    """Gives a level up whose `block` is cleared. How many levels are left closed."""
+    below = level - 1
+    yield from transition(level, left, 2 * level + 2, blocks=below, others=below + 1, rooms=rooms)
+    if level == 1:
+        yield from lock(task, 3, tries=1, rooms=rooms)
+    yield at(2 * level, "stage", STORE, 0, below, below)
+    return below
 
 
 def thaw(task, holder):
@@ -306,7 +339,7 @@ def thaw(task, holder):
         yield at(2, "holders", STORE, 0)
         yield at(1, "stage", STORE, 0)
     else:
-        if (yield at(10, "holders", STORE, 0, fails=("umount", 0))):
+        if (yield at(10, "holders", STORE, 0, fails=("umount", 0, "unfreeze"))) is FAILED:
             return False
         yield at(9, "stage", STORE, 0)
         for level in (3, 2, 1):
@@ -341,7 +374,7 @@ class World:
         self.levels = [set() for _ in range(config.tasks)]
         self.mounts = [collections.Counter() for _ in range(config.tasks)]
         self.lines = [f"config {config.tasks} {config.cpus} {config.mounts} {config.nodes} 8"]
-        self.events = []
+        self.told = []
 
     def begin(self, task, line, steps, effect=None):
         self.lines.append(f"{task} {line}")
@@ -349,8 +382,25 @@ class World:
         self.at[task] = next(steps)
 
     def step(self, task, fails=False):
+        """A step, and what a replay tells of it: what it begins with, and whether it is a wait."""
+        fails = fails and self.at[task].fails is not None
+        self.lines.append(f"{task} step" + (" 5" if fails else ""))
+        self.told += [told for told in self.go_on(task, fails) if told]
+
+    def run(self, task, hook):
+        """Steps up to the answer or to a wait, where this hook fails."""
+        self.lines.append(f"{task} run" + (f" {hook} 5" if hook else ""))
+        for _ in range(1000):
+            fails = self.at[task].fails is not None and self.at[task].fails[2] == hook
+            (_, waits), answer = self.go_on(task, fails)
+            if answer or waits:
+                self.told.append(answer or (f"{task}", True))
+                return
+        raise AssertionError("a run without an end")
+
+    def go_on(self, task, fails):
+        """Does a step. What is told of it, and of its call, if that has its answer."""
         step = self.at[task]
-        fails = fails and step.fails is not None
         word, touch, arg = (step.fails[0], STORE, step.fails[1]) if fails else step[1:4]
         found = self.words[word]
         after = {
@@ -364,15 +414,30 @@ class World:
         }[touch]()
         self.words[word] = after
         kind = "sub" if touch == ADD and arg < 0 else touch
-        self.lines.append(f"{task} step" + (" 5" if fails else ""))
-        self.events.append(f"{task} {kind} {word} {found if touch != STORE else after}" + (f" {after}" if touch != STORE else ""))
+        text = f"{task} {kind} {word} {found if touch != STORE else after}" + (f" {after}" if touch != STORE else "")
         steps, effect = self.calls[task]
         try:
-            self.at[task] = steps.send(fails if step.fails is not None else found)
+            self.at[task] = steps.send(FAILED if fails else found)
         except StopIteration as stopped:
             self.at[task] = None
             if stopped.value and effect:
                 effect()
+            return (text, False), (f"{task} {'ok' if stopped.value else 'refused'}", False)
+        return (text, not fails and self.is_wait(step, found, self.at[task])), None
+
+    @staticmethod
+    def is_wait(step, found, then):
+        """Whether a step that found this was a wait, with this one to come."""
+        match step.waits:
+            case ("hold", _):
+                return found & 2 != 0
+            case ("lock",):
+                return found != 0
+            case ("section", task, _):
+                return then.waits is not None and then.waits[:2] == ("section", task)
+            case ("sum", level, _, _):
+                return then.fails is not None and then.fails[2] == "wait"
+        return step.start is not None and step.start[1:] == (True, "leaves blocked")
 
     def waits_for(self, waits):
         """Whether what a step waits for isn't there."""
@@ -397,6 +462,10 @@ class World:
     def rests(self, task):
         step = self.at[task]
         return step is None or (step.waits is not None and step.waits[0] == "outside" and self.waits_for(step.waits))
+
+    def asks_to_wait(self, task):
+        step = self.at[task]
+        return step is not None and step.fails is not None and step.fails[2] == "wait"
 
     def all_wait(self):
         return all(step is None or self.waits_for(step.waits) for step in self.at)
@@ -430,6 +499,14 @@ class World:
         room = sum(step.rooms[1] for step in steps)
         moves = sum(step.blocks * turn + step.others + self.start_steps(step.start) for step in steps)
         return sum(step.left + 1 for step in steps) + moves * (room + 1) + sum(self.tries(step.tries) for step in steps) + 1
+
+    def turns_to_give_up(self):
+        freezes = sum(steps is not None and steps[0].__name__ == "freeze" and step is not None for steps, step in zip(self.calls, self.at))
+        return self.turns_left() * (freezes * self.config.cpus + 1)
+
+    def all_reply(self):
+        """Whether each call has its reply, or all is frozen and it waits outside a level."""
+        return all(step is None or (self.words["stage"] == 4 and self.rests(task)) for task, step in enumerate(self.at))
 
 
 def begin_any(dice, world, task):
@@ -484,13 +561,15 @@ def begin_any(dice, world, task):
         world.begin(task, "snapshot" if waits else "trysnapshot", snapshot(config, task, waits))
 
 
-def reached(dice, config):
-    """A state after a random execution."""
+def reached(dice, config, runs):
+    """A state after a random execution, in which so often a task takes many steps at once."""
     world = World(config)
     begins = dice.choice([0.1, 0.3, 0.6])
     for _ in range(dice.randrange(10, 40 * config.tasks)):
         task = dice.randrange(config.tasks)
-        if world.at[task]:
+        if world.at[task] and runs and dice.random() < runs:
+            world.run(task, dice.choice([None, *HOOKS, "wait"]))
+        elif world.at[task]:
             world.step(task, dice.random() < 0.1)
         elif dice.random() < begins:
             begin_any(dice, world, task)
@@ -500,27 +579,30 @@ def reached(dice, config):
     return world
 
 
-def rounds_needed(dice, world):
+def rounds_needed(dice, world, impatient):
     """Random rounds until all calls have their reply or have to wait."""
     rounds, more = 0, dice.choice([0, 0, 1, 3, 8])
-    while not world.all_wait():
+    while not (world.all_reply() if impatient else world.all_wait()):
         rounds += 1
         to_serve = list(range(world.config.tasks))
         dice.shuffle(to_serve)
         for task in to_serve:
             for _ in range(1 + (dice.randint(0, more) if more else 0)):
                 if not world.rests(task):
-                    world.step(task, dice.random() < 0.1)
+                    world.step(task, dice.random() < 0.1 or (impatient and world.asks_to_wait(task)))
     return rounds
 
 
 def differs(program, world):
-    """The first event of a replay that isn't the one here; None if there is none."""
-    ran = subprocess.run([program, "replay"], input="\n".join(world.lines) + "\n", capture_output=True, text=True, check=False)
-    said = [line for line in ran.stdout.splitlines() if line.split()[1] not in ("ok", "refused")]
-    for number, event in enumerate(world.events):
-        if number >= len(said) or not f"{said[number]} ".startswith(f"{event} "):
-            return f"here `{event}`, there `{said[number] if number < len(said) else ran.stderr}`, in\n" + "\n".join(world.lines)
+    """The first line of a replay, over the core or over the gates, that doesn't tell what was done here; None if there is none."""
+    for words in (["replay"], ["replay", "--over-gates"]):
+        ran = subprocess.run([program, *words], input="\n".join(world.lines) + "\n", capture_output=True, text=True, check=False)
+        said = ran.stdout.splitlines()
+        for number, (begins, waits) in enumerate(world.told):
+            line = said[number] if number < len(said) else ran.stderr
+            if not f"{line} ".startswith(f"{begins} ") or line.endswith(" waiting") != waits:
+                here = f"{begins} .. waiting" if waits else begins
+                return f"here `{here}`, there `{line}`, by {' '.join(words)} of\n" + "\n".join(world.lines)
     return None
 
 
@@ -528,6 +610,7 @@ def main():
     parser = argparse.ArgumentParser(description=__doc__, formatter_class=argparse.RawDescriptionHelpFormatter)
     parser.add_argument("--states", type=int, default=STATES, help=f"how many states of each configuration ({STATES})")
     parser.add_argument("--seed", type=int, default=1)
+    parser.add_argument("--impatient", action="store_true", help="each freeze that asks whether to wait gives up")
     parser.add_argument("--against", metavar="PROGRAM", help="replay each execution by this program too")
     args = parser.parse_args()
     status = 0
@@ -536,9 +619,9 @@ def main():
         dice = random.Random(f"{args.seed} {config}")
         worst, nearest, largest = (0, 0), 0.0, 0
         for _ in range(args.states):
-            world = reached(dice, config)
-            number = world.turns_left()
-            needed = rounds_needed(dice, world)
+            world = reached(dice, config, RUNS if args.against else 0)
+            number = world.turns_to_give_up() if args.impatient else world.turns_left()
+            needed = rounds_needed(dice, world, args.impatient)
             if needed > number:
                 print("more rounds than its number:", needed, number, *world.lines, sep="\n")
                 status = 1

@@ -271,7 +271,7 @@ T tryclose N C
 T snapshot
 T trysnapshot
 T step [CODE]
-T run [sync|freeze|unfreeze|reconfigure CODE]""".splitlines()
+T run [sync|freeze|unfreeze|reconfigure|wait CODE]""".splitlines()
 
 
 def word_of(place, chosen):

@@ -49,6 +49,7 @@
 #include <stddef.h>
 #include <stdint.h>
 #include <sys/select.h>
+#include <time.h>
 
 /* The version of this header, and of the library that it comes with. The soname has its first number: see bin/install-c. */
 #define MNTGATE_VERSION "1.2.0"
@@ -371,15 +372,28 @@ void mntgate_step(struct mntgate_task *task, uint16_t hook, struct mntgate_step_
 /* Does a step, and up to `most` - 1 more, as long as the operation goes on and asks no hook. Writes how it stands then. */
 void mntgate_run(struct mntgate_task *task, uint16_t hook, uint32_t most, struct mntgate_outcome *outcome);
 
-/* The hook whose answer the next step reads: 0 none, 1 sync, 2 freeze_fs, 3 unfreeze_fs, 4 reconfigure. */
+enum mntgate_hook_kind {
+	MNTGATE_ASKS_NONE = 0,
+	MNTGATE_ASKS_SYNC = 1,
+	MNTGATE_ASKS_FREEZE_FS = 2,
+	MNTGATE_ASKS_UNFREEZE_FS = 3,
+	MNTGATE_ASKS_RECONFIGURE = 4,
+	MNTGATE_ASKS_KEEP_WAITING = 5
+};
+
+/* The hook whose answer the next step reads, as enum mntgate_hook_kind. A freeze asks keep_waiting after each sum that has found somebody inside a
+ * level. 0 lets it sum again. By any other answer it gives up: it opens the levels again, and answers MNTGATE_HOOK + that code. */
 uint32_t mntgate_wants_hook(struct mntgate_task *task);
+
+/* The level, 1 to 3, at which keep_waiting is asked; 0 where the next step doesn't read its answer. */
+uint8_t mntgate_level_waited(struct mntgate_task *task);
 
 /* Operations at once ------------------------------------------------------------------------------------------------------------------- */
 
 /* Each begins the operation of its name, and does its steps up to one that finds something in the way. It waits for nobody, and each hook
  * answers 0. The result is 0, or a refusal by which it was not begun: EDEADLK, EINVAL, EMFILE; nothing is written then. `outcome` says
- * whether it is done, with its answer, or goes on: then mntgate_run does the rest. An operation that goes on can't be given up. A freeze
- * may have closed levels. */
+ * whether it is done, with its answer, or goes on: then mntgate_run does the rest. A freeze that goes on may have closed levels. Of all operations
+ * it alone can be given up, where it waits for who is inside one (mntgate_wants_hook). */
 mntgate_result mntgate_want_write_at_once(struct mntgate_task *task, uint8_t mount, uint8_t processor, struct mntgate_outcome *outcome);
 mntgate_result mntgate_callback_at_once(struct mntgate_task *task, uint8_t level, struct mntgate_outcome *outcome);
 mntgate_result mntgate_remount_sb_at_once(struct mntgate_task *task, bool read_only, struct mntgate_outcome *outcome);
@@ -389,22 +403,27 @@ mntgate_result mntgate_thaw_at_once(struct mntgate_task *task, bool by_kernel, s
 /* Calls that wait ---------------------------------------------------------------------------------------------------------------------- */
 
 /* These are loops of C over the calls above. They try again and again, with pauses that grow (mntgate_pause): a wait of some microseconds spins,
- * a longer one leaves the processor each time, and a long one sleeps, for less than a millisecond each time. There is no wake-up.
+ * a longer one leaves the processor each time, and a long one sleeps, for less than a millisecond each time.
  *
- * There is no time limit either. A want, a start, a change, a close of a file and a snapshot need none: repeat their try form as long as you
- * like, and give up while it answers EAGAIN. Nothing gives up an operation that has begun. So a freeze, a thaw, a remount, a callback and
- * mntgate_want_write are done to their end, by mntgate_run, however long that takes. A freeze that has begun keeps its levels closed till then. */
+ * There is no wake-up, and no time limit but that of mntgate_freeze_until. A want, a start, a change, a close of a file and a snapshot need none:
+ * repeat their try form as long as you like, and give up while it answers EAGAIN. A thaw, a remount, a callback and mntgate_want_write are done to
+ * their end, by mntgate_run, however long that takes. So is a freeze, and it keeps its levels closed till then, unless keep_waiting gives it up. */
 
 /* The hooks of a file system. Each answers 0, or a code from 1 to 65535 by which it failed. NULL stands for a hook that answers 0. They
  * are called between two steps, while their task owns s_umount: a hook must not wait for another task, nor use the handle. It must return.
  * After an exception or a longjmp out of it the operation stays under way, and its levels stay closed. Then tell the library that the hook
- * has failed, by mntgate_run(task, EIO, 1, &outcome). mntgate_answer(task, 0, &outcome) does the rest, and answers MNTGATE_HOOK + EIO. */
+ * has failed, by mntgate_run(task, EIO, 1, &outcome). mntgate_answer(task, 0, &outcome) does the rest, and answers MNTGATE_HOOK + EIO.
+ *
+ * A freeze asks keep_waiting whenever it has found somebody inside this level. 0 lets it wait. By a code it gives up: it lets the writers of the level
+ * in at once, opens the levels below, and answers MNTGATE_HOOK + code. Level 1 is waited for without s_umount. Who was found may also be a task that
+ * was about to find the level closed: an answer at the first wait may give up though nobody was inside. */
 struct mntgate_hooks {
 	void *data;
 	uint16_t (*sync)(void *data);
 	uint16_t (*freeze_fs)(void *data);
 	uint16_t (*unfreeze_fs)(void *data);
 	uint16_t (*reconfigure)(void *data, bool read_only);
+	uint16_t (*keep_waiting)(void *data, uint8_t level);
 };
 
 /* Who holds a freeze. */
@@ -478,17 +497,32 @@ static inline void mntgate_pause(unsigned *round)
 /* Asks the hook that the next step wants. */
 static inline uint16_t mntgate_ask(struct mntgate_task *task, const struct mntgate_hooks *hooks, bool read_only)
 {
-	uint32_t wanted = mntgate_wants_hook(task);
-
-	if (hooks == NULL || wanted == 0)
+	if (hooks == NULL)
 		return 0;
-	if (wanted == 1)
+	switch (mntgate_wants_hook(task)) {
+	case MNTGATE_ASKS_SYNC:
 		return hooks->sync ? hooks->sync(hooks->data) : (uint16_t)0;
-	if (wanted == 2)
+	case MNTGATE_ASKS_FREEZE_FS:
 		return hooks->freeze_fs ? hooks->freeze_fs(hooks->data) : (uint16_t)0;
-	if (wanted == 3)
+	case MNTGATE_ASKS_UNFREEZE_FS:
 		return hooks->unfreeze_fs ? hooks->unfreeze_fs(hooks->data) : (uint16_t)0;
-	return hooks->reconfigure ? hooks->reconfigure(hooks->data, read_only) : (uint16_t)0;
+	case MNTGATE_ASKS_RECONFIGURE:
+		return hooks->reconfigure ? hooks->reconfigure(hooks->data, read_only) : (uint16_t)0;
+	case MNTGATE_ASKS_KEEP_WAITING:
+		return hooks->keep_waiting ? hooks->keep_waiting(hooks->data, mntgate_level_waited(task)) : (uint16_t)0;
+	default:
+		return 0;
+	}
+}
+
+/* Does the operation that has begun up to a hook that it asks, or up to a wait, and then pauses. `hook` is what the hook answers that the next step
+ * reads. Returns whether the operation has ended. */
+static inline bool mntgate_go_on(struct mntgate_task *task, uint16_t hook, unsigned *round, struct mntgate_outcome *outcome)
+{
+	mntgate_run(task, hook, 1024, outcome);
+	if (outcome->progress == MNTGATE_WAITING)
+		mntgate_pause(round);
+	return outcome->progress != MNTGATE_WAITING && outcome->progress != MNTGATE_GOING;
 }
 
 /* Does the operation that has begun to its end, however long it has to wait. */
@@ -496,15 +530,9 @@ static inline mntgate_result mntgate_finish(struct mntgate_task *task, const str
 {
 	unsigned round = 0;
 
-	for (;;) {
-		uint16_t hook = mntgate_ask(task, hooks, read_only);
-
-		mntgate_run(task, hook, 1024, outcome);
-		if (outcome->progress == MNTGATE_WAITING)
-			mntgate_pause(&round);
-		else if (outcome->progress != MNTGATE_GOING)
-			return outcome->answer;
-	}
+	while (!mntgate_go_on(task, mntgate_ask(task, hooks, read_only), &round, outcome))
+		;
+	return outcome->answer;
 }
 
 /* The rest of an operation that goes on, in a function of its own, so that the usual way stays short. */
@@ -609,7 +637,8 @@ static inline mntgate_result mntgate_remount_sb(struct mntgate_task *task, bool 
 /* Freezes the file system for a holder, MNTGATE_USER or MNTGATE_KERNEL (freeze_super): closes level 1, 2 and 3 and waits at each for who is
  * inside. The hook sync is asked with levels 1 and 2 closed, freeze_fs with all closed. Where the other holder has frozen all, it is held
  * for this one too. A read-only superblock is frozen at once: no level is closed and no hook is asked. EDEADLK inside a level.
- *   EBUSY  a freeze is under way, or this holder holds one.   MNTGATE_HOOK + code  a hook failed; the levels are open again. */
+ *   EBUSY  a freeze is under way, or this holder holds one.   MNTGATE_HOOK + code  a hook failed, or keep_waiting gave the freeze up; the levels
+ * are open again. */
 static inline mntgate_result mntgate_freeze(struct mntgate_task *task, bool by_kernel, const struct mntgate_hooks *hooks)
 {
 	const struct mntgate_op op = { MNTGATE_OP_FREEZE, 0, 0, by_kernel, true, 0 };
@@ -619,6 +648,64 @@ static inline mntgate_result mntgate_freeze(struct mntgate_task *task, bool by_k
 		return mntgate_perform(task, &op, hooks);
 	return mntgate_answer(task, mntgate_freeze_at_once(task, by_kernel, &outcome), &outcome);
 }
+
+/* Freezes as mntgate_freeze does. At a wait that the caller's own keep_waiting doesn't give up, `gives_up` does, unless it answers 0. */
+static inline mntgate_result mntgate_freeze_unless(struct mntgate_task *task, bool by_kernel, const struct mntgate_hooks *hooks,
+						   uint16_t (*gives_up)(const struct timespec *), const struct timespec *deadline)
+{
+	const struct mntgate_op op = { MNTGATE_OP_FREEZE, 0, 0, by_kernel, true, 0 };
+	struct mntgate_outcome outcome = { 0, 0, 0, 0 };
+	mntgate_result begun = hooks ? mntgate_begin(task, &op) : mntgate_freeze_at_once(task, by_kernel, &outcome);
+	bool ended = begun || outcome.progress == MNTGATE_DONE;
+	unsigned round = 0;
+
+	while (!ended) {
+		uint16_t hook = mntgate_ask(task, hooks, false);
+
+		if (hook == 0 && mntgate_wants_hook(task) == MNTGATE_ASKS_KEEP_WAITING)
+			hook = gives_up(deadline);
+		ended = mntgate_go_on(task, hook, &round, &outcome);
+	}
+	return begun ? begun : outcome.answer;
+}
+
+/* Gives up where it is asked. */
+static inline uint16_t mntgate_never_waits(const struct timespec *deadline)
+{
+	(void)deadline;
+	return EAGAIN;
+}
+
+/* Freezes, or gives up as soon as it has found somebody inside a level. It may still wait for s_umount, and for readers that are about to look.
+ *   As mntgate_freeze, and MNTGATE_HOOK + EAGAIN  somebody was counted at a level; all levels are open again. Pause before you try again: a try
+ * closes level 1 for a moment, and leaves readers slow until mntgate_settle. */
+static inline mntgate_result mntgate_try_freeze(struct mntgate_task *task, bool by_kernel, const struct mntgate_hooks *hooks)
+{
+	return mntgate_freeze_unless(task, by_kernel, hooks, mntgate_never_waits, NULL);
+}
+
+#ifdef CLOCK_MONOTONIC
+/* Gives up once this moment has come. */
+static inline uint16_t mntgate_waits_until(const struct timespec *deadline)
+{
+	struct timespec now;
+
+	if (clock_gettime(CLOCK_MONOTONIC, &now) == 0 &&
+	    (now.tv_sec < deadline->tv_sec || (now.tv_sec == deadline->tv_sec && now.tv_nsec < deadline->tv_nsec)))
+		return 0;
+	return ETIMEDOUT;
+}
+
+/* Freezes, or gives up once CLOCK_MONOTONIC has come to `deadline`. It looks at the clock whenever it has found somebody inside a level. So it may
+ * be late by a pause, which is less than a millisecond, and by what it doesn't give up: a hook, and a wait for s_umount, whose owner may ask a hook.
+ * For this function <time.h> has to have CLOCK_MONOTONIC: under -std=c99 and the like it does with -D_POSIX_C_SOURCE=199309L.
+ *   As mntgate_freeze, and MNTGATE_HOOK + ETIMEDOUT  it gave up; all levels are open again. */
+static inline mntgate_result mntgate_freeze_until(struct mntgate_task *task, bool by_kernel, const struct mntgate_hooks *hooks,
+						  const struct timespec *deadline)
+{
+	return mntgate_freeze_unless(task, by_kernel, hooks, mntgate_waits_until, deadline);
+}
+#endif
 
 /* Gives a holder's freeze back, whichever task froze (thaw_super); the last one asks unfreeze_fs and opens the levels. EDEADLK inside a level.
  *   EINVAL  nothing is frozen, or not for this holder.   MNTGATE_HOOK + code  the hook failed; all stays frozen. */

@@ -25,10 +25,11 @@ exception is raised again, in the context of the refusal.
 An exception may come out of a call that waits, as KeyboardInterrupt does on Ctrl-C:
 
 - `access`, `level`, `write`, `read_only`, `change_mount`, `close_file` and `snapshot` try again and again. The exception leaves the task as it was.
-- `freeze`, `thaw`, `remount`, `callback` and `settle` can't be given up. The operation stays under way: levels that it has closed stay closed, and
-  other calls are EDEADLK. `finish` does it to its end.
-- A with block finishes what an exception in it has left under way, and then gives back what it holds. `frozen` does so for its own freeze: it waits
-  until that is done, thaws, and raises the exception again. A second Ctrl-C ends this wait.
+- `freeze`, `try_freeze` and `frozen` give the freeze up. No hook is asked any more, the levels are open again, and then the exception goes on. Only for
+  s_umount, if another task owns it, is waited first.
+- `thaw`, `remount`, `callback` and `settle` can't be given up. The operation stays under way, and other calls are EDEADLK. `finish` does it to its end.
+  So it is if a second exception comes while a freeze is given up: levels that it has closed stay closed till then.
+- A with block finishes what an exception in it has left under way, and then gives back what it holds.
 
 An exception that comes after a call has done its work, and before the block begins, leaves what the call took. `holds_mount` and `holds_level` tell.
 """
@@ -41,6 +42,7 @@ import ctypes
 import ctypes.util
 import enum
 import errno
+import math
 import operator
 import os
 import threading
@@ -56,8 +58,12 @@ HOOK = 65536
 STEPS = 1024
 # How an operation stands.
 IDLE, WAITING, DONE = 0, 2, 3
-# The kinds of the operations that can't be given up.
+# The kinds of the operations that are begun and done to their end.
 KINDS = {"remount_sb": 3, "callback": 8, "freeze": 9, "thaw": 10}
+# The hooks, as the library numbers them, from 1; and those that a freeze asks.
+HOOKS = ("sync", "freeze_fs", "unfreeze_fs", "reconfigure", "keep_waiting")
+FREEZE_HOOKS = ("sync", "freeze_fs", "keep_waiting")
+KEEP_WAITING = 5
 
 
 class Error(OSError):
@@ -109,8 +115,8 @@ class Tree(NamedTuple):
 
 class Hooks:
     """The hooks of a file system. Each returns 0, or a code from 1 to 65535 by which it failed. One that raises an exception or returns anything else
-    has failed with EIO, and its call raises that exception, or a TypeError or ValueError. While a hook runs its task owns s_umount: it must not wait
-    for another task, nor use its own. Override what is needed."""
+    has failed with EIO, and its call raises that exception, or a TypeError or ValueError. While a hook runs its task owns s_umount (but `keep_waiting`
+    at level 1): it must not wait for another task, nor use its own. Override what is needed."""
 
     def sync(self) -> int:
         """Writes all that is dirty."""
@@ -126,6 +132,11 @@ class Hooks:
 
     def reconfigure(self, read_only: bool) -> int:
         """The file system's own part of a remount."""
+        return 0
+
+    def keep_waiting(self, level: int) -> int:
+        """Whether a freeze that has found somebody inside this level, 1 to 3, waits on. It is asked each time that the freeze has looked. By a code it
+        gives up: the levels are open again when its call returns. Who was found may also be a task that was about to find the level closed."""
         return 0
 
 
@@ -167,7 +178,7 @@ _CALLS: dict = {
     "tree_node": (_U32, [_BYTE, ctypes.POINTER(_Node)]), "tree_used": (_U32, [ctypes.POINTER(ctypes.c_uint64)]),
     "number": (_BYTE, []), "is_idle": (_BOOL, []), "rests": (_BOOL, []), "holds_mount": (ctypes.c_uint16, [_BYTE]), "holds_level": (_BOOL, [_BYTE]),
     "has_open": (_BOOL, [_BYTE]), "waited": (ctypes.c_uint64, []), "begin": (_U32, [ctypes.POINTER(_Op)]),
-    "run": (None, [ctypes.c_uint16, _U32, ctypes.POINTER(_Outcome)]), "wants_hook": (_U32, []),
+    "run": (None, [ctypes.c_uint16, _U32, ctypes.POINTER(_Outcome)]), "wants_hook": (_U32, []), "level_waited": (_BYTE, []),
     "callback_at_once": (_U32, [_BYTE, ctypes.POINTER(_Outcome)]),
     "remount_sb_at_once": (_U32, [_BOOL, ctypes.POINTER(_Outcome)]), "freeze_at_once": (_U32, [_BOOL, ctypes.POINTER(_Outcome)]),
     "thaw_at_once": (_U32, [_BOOL, ctypes.POINTER(_Outcome)]),
@@ -224,24 +235,42 @@ def _u32(number: int) -> int:
 
 
 class _Operation:
-    """An operation that can't be given up: what it needs to go on, until its answer is told."""
+    """An operation that is begun and done to its end: what it needs to go on, until its answer is told. A limit is a moment of time.monotonic from
+    which on a freeze that waits is given up, and what its call raises then."""
 
-    def __init__(self, hooks: Optional[Hooks], read_only: bool) -> None:
+    def __init__(self, name: str, hooks: Optional[Hooks], read_only: bool, limit: Optional[Tuple[float, OSError]]) -> None:
+        self.name = name
         self.hooks = hooks
         self.read_only = read_only
+        self.limit = limit
         self.outcome = _Outcome()
         self.asks = False
         self.raised: Optional[BaseException] = None
+        self.is_stopped = False
+        self.given_up: Optional[OSError] = None
 
-    def ask(self, wanted: int) -> int:
-        """Asks the hook that the next step wants; its code. What it raises is kept until the operation is done."""
-        if self.hooks is None or wanted == 0:
+    def ask(self, wanted: int, level: int) -> int:
+        """Asks the hook that the next step wants; its code."""
+        if wanted == 0:
+            return 0
+        name = HOOKS[wanted - 1]
+        if self.is_stopped and name in FREEZE_HOOKS:
+            self.given_up = InterruptedError(errno.EINTR, os.strerror(errno.EINTR))
+            return errno.EINTR
+        code = self.ask_own(name, level)
+        if code == 0 and name == "keep_waiting" and self.limit is not None and time.monotonic() >= self.limit[0]:
+            self.given_up = self.limit[1]
+            return errno.ETIMEDOUT
+        return code
+
+    def ask_own(self, name: str, level: int) -> int:
+        """Asks a hook of the file system; its code. What it raises is kept until the operation is done."""
+        if self.hooks is None:
             return 0
         self.asks = True
         try:
-            name = ("sync", "freeze_fs", "unfreeze_fs", "reconfigure")[wanted - 1]
             hook = getattr(self.hooks, name)
-            code = hook(self.read_only) if name == "reconfigure" else hook()
+            code = hook(*{"reconfigure": (self.read_only,), "keep_waiting": (level,)}.get(name, ()))
             if isinstance(code, bool) or not isinstance(code, int):
                 raise TypeError(f"the hook {name} returned {code!r}: expected 0, or a code from 1 to 65535")
             if not 0 <= code < HOOK:
@@ -254,13 +283,15 @@ class _Operation:
             self.asks = False
 
     def tell(self) -> None:
-        """Raises what a hook has raised, in the context of the refusal, or else why the operation was refused."""
+        """Raises what a hook has raised, in the context of the refusal, or else why the operation was refused or given up."""
         try:
             _raise(self.outcome.answer)
         except HookFailed as refusal:
             if self.raised is not None:
                 refusal.__context__ = self.raised.__context__
                 raise self.raised
+            if self.given_up is not None:
+                raise self.given_up from None
             raise
 
 
@@ -294,13 +325,13 @@ class Task:
                 time.sleep(pause)
                 pause = min(pause + 1e-5, 1e-3)
 
-    def _perform(self, name: str, word: int, hooks: Optional[Hooks] = None) -> int:
-        """Begins an operation that can't be given up, and does it to its end; the value of its reply."""
+    def _perform(self, name: str, word: int, hooks: Optional[Hooks] = None, limit: Optional[Tuple[float, OSError]] = None) -> int:
+        """Begins an operation and does it to its end; the value of its reply."""
         with self._lock:
             if not self.is_idle:
                 raise Error(errno.EDEADLK, "an operation is under way, which finish() does to its end")
             # (before it is begun, so that no exception comes between)
-            left = self._left = _Operation(hooks, bool(word))
+            left = self._left = _Operation(name, hooks, bool(word), limit)
             if hooks is None:
                 begun = self._do(f"{name}_at_once", word, ctypes.byref(left.outcome))
             else:
@@ -316,8 +347,9 @@ class Task:
         pause = 0.0
         try:
             while left.outcome.progress != DONE:
-                code = left.ask(self._do("wants_hook"))
-                self._do("run", code, STEPS, ctypes.byref(left.outcome))
+                wanted = self._do("wants_hook")
+                level = self._do("level_waited") if wanted == KEEP_WAITING else 0
+                self._do("run", left.ask(wanted, level), STEPS, ctypes.byref(left.outcome))
                 if left.outcome.progress == IDLE:
                     break
                 if left.outcome.progress == WAITING:
@@ -332,19 +364,20 @@ class Task:
 
     def finish(self) -> bool:
         """Does to its end what an exception has left under way, with the hooks of its call; whether there was such an operation. It raises what that
-        call would have raised. A freeze that is finished so stands, until it is thawed. EDEADLK in a hook."""
+        call would have raised. A freeze it gives up, by an InterruptedError, unless no step is left that could. EDEADLK in a hook."""
         with self._lock:
             if self._left is None:
                 return False
             if self._left.asks:
                 _raise(errno.EDEADLK)
+            self._left.is_stopped = True
             return self._go_on(self._left)
 
     def _ends_well(self) -> bool:
         """Finishes what an exception has left under way; whether that was not refused. A refusal gives way to the exception."""
         try:
             return self.finish()
-        except (Error, HookFailed):
+        except (OSError, HookFailed):
             return False
 
     @contextlib.contextmanager
@@ -354,7 +387,9 @@ class Task:
         try:
             take()
         except BaseException:
-            if self._left is not before and self._ends_well():
+            # (a freeze that came to its end, though it was to be given up)
+            left = self._left
+            if left is not None and left is not before and self._ends_well() and left.name == "freeze":
                 give_back()
             raise
         try:
@@ -450,6 +485,17 @@ class Task:
         """Goes inside a freeze level. EAGAIN."""
         self._ask("try_start", _u8(level), _u8(processor))
 
+    def try_want_write(self, mount: int, processor: int = 0) -> None:
+        """Goes inside level 1 and takes an access at a mount, or does neither. EAGAIN, EROFS, EMFILE. `drop_write` gives both back."""
+        mount, processor = _u8(mount), _u8(processor)
+        with self._lock:
+            self._ask("try_start", 1, processor)
+            try:
+                self._ask("try_want", mount, processor)
+            except BaseException:
+                self.end(1, processor)
+                raise
+
     def end(self, level: int, processor: int = 0) -> None:
         """Leaves a freeze level."""
         self._ask("end", _u8(level), _u8(processor))
@@ -471,9 +517,28 @@ class Task:
         """Remounts the superblock read-only or writable. EBUSY, HookFailed."""
         self._perform("remount_sb", read_only, hooks)
 
-    def freeze(self, holder: Holder = Holder.USER, hooks: Optional[Hooks] = None) -> None:
-        """Freezes the file system for a holder; waits for who is inside a level. EBUSY, HookFailed: then the levels are open again."""
-        self._perform("freeze", holder.value, hooks)
+    def freeze(self, holder: Holder = Holder.USER, hooks: Optional[Hooks] = None, timeout: Optional[float] = None) -> None:
+        """Freezes the file system for a holder; waits for who is inside a level. EBUSY, HookFailed: then the levels are open again. So they are after
+        a TimeoutError: it has given up after so many seconds. It may be late by a pause of a millisecond, and by what it doesn't give up: a hook, and
+        a wait for s_umount, whose owner may ask a hook."""
+        late = TimeoutError(errno.ETIMEDOUT, os.strerror(errno.ETIMEDOUT))
+        self._freeze(holder, hooks, None if timeout is None else (time.monotonic() + timeout, late))
+
+    def try_freeze(self, holder: Holder = Holder.USER, hooks: Optional[Hooks] = None) -> None:
+        """Freezes the file system for a holder, or gives up as soon as it has found somebody inside a level. EAGAIN: then the levels are open again.
+        And as `freeze`. Pause before you try again: a try closes level 1 for a moment, and leaves readers slow until `settle`."""
+        self._freeze(holder, hooks, (-math.inf, Error(errno.EAGAIN, os.strerror(errno.EAGAIN))))
+
+    def _freeze(self, holder: Holder, hooks: Optional[Hooks], limit: Optional[Tuple[float, OSError]]) -> None:
+        """Freezes. An exception from elsewhere gives it up, or thaws what is frozen then."""
+        with self._lock:
+            before = self._left
+            try:
+                self._perform("freeze", holder.value, hooks, limit)
+            except BaseException:
+                if self._left is not None and self._left is not before and self._ends_well():
+                    self.thaw(holder, hooks)
+                raise
 
     def thaw(self, holder: Holder = Holder.USER, hooks: Optional[Hooks] = None) -> None:
         """Gives a holder's freeze back. EINVAL, HookFailed: then all stays frozen."""
@@ -516,10 +581,10 @@ class Task:
         """A mount that is read-only, and made writable at the end, also if it was read-only before. EBUSY where it has writers."""
         return self._holds(lambda: self.change_mount(mount, True), lambda: self.change_mount(mount, False))
 
-    def frozen(self, holder: Holder = Holder.USER, hooks: Optional[Hooks] = None) -> ContextManager["Task"]:
-        """A frozen file system, thawed at the end. EBUSY. HookFailed of the freeze: the levels are open again; of the thaw: all stays
+    def frozen(self, holder: Holder = Holder.USER, hooks: Optional[Hooks] = None, timeout: Optional[float] = None) -> ContextManager["Task"]:
+        """A frozen file system, thawed at the end. EBUSY, TimeoutError. HookFailed of the freeze: the levels are open again; of the thaw: all stays
         frozen. Give each hook codes of its own to tell these apart, or call `freeze` and `thaw`."""
-        return self._holds(lambda: self.freeze(holder, hooks), lambda: self.thaw(holder, hooks))
+        return self._holds(lambda: self.freeze(holder, hooks, timeout), lambda: self.thaw(holder, hooks))
 
     def create(self, directory: int, is_dir: bool = False) -> int:
         """Makes an empty file or directory; its node. ENOENT, ENOTDIR, ENOSPC, EAGAIN."""

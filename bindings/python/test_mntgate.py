@@ -41,15 +41,39 @@ class Answers(mntgate.Hooks):
         return self.answer("reconfigure")
 
 
-def interrupt_at(count: int, call: Callable) -> bool:
-    """Makes a call, and interrupts it before the line of the module with this number, as it is run; whether it came so far."""
+class Waits(Answers):
+    """The same; a freeze waits twice before it is told to go on."""
+
+    def __init__(self, **answers: object) -> None:
+        super().__init__(**answers)
+        self.levels: list = []
+
+    def keep_waiting(self, level: int):
+        self.levels.append(level)
+        return self.answer("keep_waiting") if len(self.levels) > 2 else 0
+
+
+class SlowRemount(mntgate.Hooks):
+    """Hooks of a remount that owns s_umount until it is let go on."""
+
+    def __init__(self) -> None:
+        self.owns, self.ends = threading.Event(), threading.Event()
+
+    def reconfigure(self, read_only: bool) -> int:
+        self.owns.set()
+        self.ends.wait()
+        return 1
+
+
+def interrupt_at(count: int, call: Callable, begun: Callable = lambda: True) -> bool:
+    """Makes a call, and interrupts it before the line of the module with this number, as it is run from `begun` on; whether it came so far."""
     left = count
 
     def trace(frame, event: str, _: object):
         nonlocal left
         if frame.f_code.co_filename != mntgate.__file__:
             return None
-        if event == "line":
+        if event == "line" and begun():
             left -= 1
             if left == 0:
                 raise KeyboardInterrupt
@@ -59,11 +83,11 @@ def interrupt_at(count: int, call: Callable) -> bool:
     sys.settrace(trace)
     try:
         call()
-        return False
     except KeyboardInterrupt:
-        return True
+        pass
     finally:
         sys.settrace(before)
+    return left <= 0
 
 
 class Gates(unittest.TestCase):
@@ -95,6 +119,14 @@ class Gates(unittest.TestCase):
         with mock.patch("mntgate.time.sleep", side_effect=KeyboardInterrupt):
             self.assertRaises(KeyboardInterrupt, call, *words)
 
+    def is_open(self) -> None:
+        """Tests that nothing is left of a freeze."""
+        self.assertTrue(self.task.rests)
+        self.refused(errno.EINVAL, self.other.thaw)
+        for level in (1, 2, 3):
+            self.other.try_start(level)
+            self.other.end(level)
+
     def enter(self, block) -> None:
         with block:
             self.fail("it was to wait")
@@ -111,6 +143,57 @@ class Gates(unittest.TestCase):
         self.refused(errno.EINVAL, self.task.try_want, 256)
         self.refused(errno.EINVAL, self.task.try_want, 1)
         self.assertEqual((self.task.number, self.other.number), (0, 1))
+
+    def test_write_access_is_tried(self) -> None:
+        self.task.try_want_write(0)
+        self.assertTrue(self.task.holds_level(1) and self.task.holds_mount(0) == 1)
+        self.refused(errno.EDEADLK, self.task.try_want_write, 0)
+        self.task.drop_write(0, 1)
+        for words in ((1, 0), (0, 2), (256, 0), (0, -1)):
+            self.refused(errno.EINVAL, self.task.try_want_write, *words)
+        with self.other.read_only(0):
+            self.refused(errno.EROFS, self.task.try_want_write, 0)
+        with self.other.frozen():
+            self.refused(errno.EAGAIN, self.task.try_want_write, 0)
+        self.assertTrue(self.task.rests)
+
+    def test_freeze_with_a_limit(self) -> None:
+        with self.other.write(0):
+            start = time.monotonic()
+            self.assertRaises(TimeoutError, self.task.freeze, timeout=0.05)
+            self.assertGreaterEqual(time.monotonic() - start, 0.05)
+            with self.assertRaises(TimeoutError) as caught:
+                self.enter(self.task.frozen(hooks=Answers(), timeout=0))
+            self.assertEqual((caught.exception.errno, isinstance(caught.exception, mntgate.Error)), (errno.ETIMEDOUT, False))
+            self.refused(errno.EAGAIN, self.task.try_freeze)
+            self.refused(errno.EAGAIN, self.task.try_freeze, mntgate.Holder.KERNEL, Answers())
+            self.assertRaises(TypeError, self.task.freeze, timeout="1")
+        self.is_open()
+        self.task.try_freeze()
+        self.refused(errno.EBUSY, self.other.freeze, timeout=10)
+        self.other.freeze(mntgate.Holder.KERNEL, timeout=0)
+        self.task.thaw()
+        self.task.thaw(mntgate.Holder.KERNEL)
+        # a hook's own code is no limit
+        with self.assertRaises(mntgate.HookFailed) as failed:
+            self.task.freeze(hooks=Answers(sync=errno.ETIMEDOUT), timeout=10)
+        self.assertEqual(failed.exception.code, errno.ETIMEDOUT)
+        with self.task.frozen(timeout=10):
+            self.refused(errno.EAGAIN, self.other.try_start, 1)
+
+    def test_freeze_that_is_given_up(self) -> None:
+        for level in (1, 2, 3):
+            with self.subTest(level=level):
+                hooks = Waits(keep_waiting=9)
+                with self.other.level(level):
+                    with self.assertRaises(mntgate.HookFailed) as caught:
+                        self.task.freeze(hooks=hooks)
+                    self.assertEqual((caught.exception.code, hooks.levels), (9, [level] * 3))
+                self.is_open()
+                for answer, kind in ((None, TypeError), (65536, ValueError), (ZeroDivisionError(), ZeroDivisionError), (KeyboardInterrupt(), KeyboardInterrupt)):
+                    with self.other.level(level):
+                        self.fails(kind, self.task.freeze, mntgate.Holder.USER, Waits(keep_waiting=answer))
+                    self.is_open()
 
     def test_meeting(self) -> None:
         with self.other.write(0):
@@ -227,25 +310,80 @@ class Gates(unittest.TestCase):
         self.assertTrue(self.task.rests)
 
     def test_freeze_that_is_interrupted(self) -> None:
-        """A freeze stays under way until it is finished, with the hooks of its call."""
-        for hooks in (None, Answers(), Answers(freeze_fs=7)):
-            with self.subTest(hooks=hooks):
-                with self.other.write(0):
-                    self.interrupted(self.task.freeze, mntgate.Holder.USER, hooks)
-                    self.assertFalse(self.task.is_idle)
-                    for call in (self.task.thaw, self.task.snapshot, lambda: self.task.try_want(0)):
-                        self.refused(errno.EDEADLK, call)
-                    self.interrupted(self.task.finish)
-                if hooks is not None and hooks.answers:
-                    with self.assertRaises(mntgate.HookFailed) as caught:
-                        self.task.finish()
-                    self.assertEqual(caught.exception.code, 7)
-                else:
-                    self.assertTrue(self.task.finish())
-                    self.refused(errno.EAGAIN, self.other.try_start, 1)
-                    self.task.thaw()
-                self.assertFalse(self.task.finish())
-                self.assertTrue(self.task.rests)
+        """A freeze that waits is given up, and asks no hook any more."""
+        for level in (1, 2, 3):
+            for hooks in (None, Waits(), Waits(freeze_fs=7)):
+                with self.subTest(hooks=hooks, level=level):
+                    with self.other.level(level):
+                        self.interrupted(self.task.freeze, mntgate.Holder.USER, hooks)
+                        self.assertTrue(self.task.is_idle)
+                        if hooks is not None:
+                            self.assertEqual((hooks.asked, hooks.levels), (level // 3, []))
+                    self.assertFalse(self.task.finish())
+                    self.is_open()
+
+    def test_freeze_that_is_interrupted_twice(self) -> None:
+        """A second exception may leave the freeze under way. Then `finish` gives it up, as a block does by itself."""
+        for call, is_left in ((self.task.freeze, True), (lambda: self.enter(self.task.frozen()), False)):
+            count, left, came = 0, 0, True
+            while came:
+                count += 1
+                slept: list = []
+                with self.other.level(1), mock.patch("mntgate.time.sleep", side_effect=lambda _: slept.append(1) or self.raises()):
+                    came = interrupt_at(count, call, lambda: slept)
+                try:
+                    self.assertFalse(self.task.finish())
+                except InterruptedError:
+                    left += 1
+                self.is_open()
+            self.assertGreater(count, 20)
+            self.assertEqual(left > 5, is_left)
+
+    def raises(self) -> None:
+        raise KeyboardInterrupt
+
+    def test_freeze_that_is_interrupted_before_it_waits(self) -> None:
+        """It waits for s_umount first. Then it is given up, though nobody is inside a level."""
+        slow = SlowRemount()
+        thread = threading.Thread(target=lambda: self.assertRaises(mntgate.HookFailed, self.other.remount, True, slow))
+        thread.start()
+        slow.owns.wait()
+        sleep = time.sleep
+        slept: list = []
+
+        def interrupt(seconds: float) -> None:
+            slept.append(seconds)
+            if len(slept) == 1:
+                raise KeyboardInterrupt
+            slow.ends.set()
+            sleep(seconds)
+
+        hooks = Waits()
+        with mock.patch("mntgate.time.sleep", interrupt):
+            self.assertRaises(KeyboardInterrupt, self.task.freeze, mntgate.Holder.USER, hooks)
+        thread.join()
+        self.assertGreater(len(slept), 1)
+        self.assertEqual(hooks.asked, 0)
+        self.is_open()
+
+    def test_remount_that_is_interrupted(self) -> None:
+        """What can't be given up stays under way until it is finished, with the hooks of its call."""
+        slow = SlowRemount()
+        thread = threading.Thread(target=lambda: self.assertRaises(mntgate.HookFailed, self.other.remount, True, slow))
+        thread.start()
+        slow.owns.wait()
+        self.interrupted(self.task.remount, True, Answers(reconfigure=7))
+        self.assertFalse(self.task.is_idle)
+        for call in (self.task.thaw, self.task.snapshot, lambda: self.task.try_want(0)):
+            self.refused(errno.EDEADLK, call)
+        self.interrupted(self.task.finish)
+        slow.ends.set()
+        thread.join()
+        with self.assertRaises(mntgate.HookFailed) as caught:
+            self.task.finish()
+        self.assertEqual(caught.exception.code, 7)
+        self.assertFalse(self.task.finish())
+        self.assertTrue(self.task.rests)
 
     def test_freeze_that_is_interrupted_anywhere(self) -> None:
         """At whichever line an exception comes, the task can go on."""
@@ -264,36 +402,36 @@ class Gates(unittest.TestCase):
             self.task.thaw()
 
     def test_block_that_is_interrupted(self) -> None:
-        """A block gives back what it holds, and a freeze that it has begun, as soon as that is done."""
+        """A block gives up a freeze that it has begun, at once, and gives back what it holds."""
         # A shell that starts a command in the background has it ignore Ctrl-C.
         before = signal.signal(signal.SIGINT, signal.default_int_handler)
         self.addCleanup(signal.signal, signal.SIGINT, before)
 
+        hooks = mntgate.Hooks()
+        waits = threading.Event()
+        hooks.keep_waiting = lambda level: waits.set() or 0
+
         def interrupt() -> None:
-            time.sleep(0.05)
+            waits.wait()
             os.kill(os.getpid(), signal.SIGINT)
-            time.sleep(0.05)
-            self.other.drop_write(0)
 
         self.other.try_start(1)
         self.other.try_want(0)
         thread = threading.Thread(target=interrupt)
         thread.start()
         with self.assertRaises(KeyboardInterrupt):
-            self.enter(self.task.frozen())
+            self.enter(self.task.frozen(hooks=hooks))
         thread.join()
         self.refused(errno.EINVAL, self.task.thaw)
-        self.other.try_start(1)
 
         def freezes() -> None:
             with self.task.access(0):
                 with mock.patch("mntgate.time.sleep", side_effect=KeyboardInterrupt):
                     self.assertRaises(KeyboardInterrupt, self.task.freeze)
-                self.other.end(1)
 
         freezes()
-        self.assertTrue(self.task.rests)
-        self.task.thaw()
+        self.other.drop_write(0)
+        self.is_open()
 
     def test_tree(self) -> None:
         self.assertIsNone(self.task.tree())

@@ -5,8 +5,9 @@
 #include <stdatomic.h>
 #include <stddef.h>
 #include <stdlib.h>
+#include <time.h>
 
-enum { SYSCALL_LEVEL = 1, WRITEBACK_LEVEL = 3 };
+enum { SYSCALL_LEVEL = 1, WRITEBACK_LEVEL = 3, FREEZE_SECONDS = 5 };
 
 /* Each task of the pool counts on a processor of its own, so that no two share a count. */
 enum { POOL = 24, WRITERS_PROCESSOR = POOL, PROCESSORS, MOUNT = 0 };
@@ -156,12 +157,19 @@ static int error_of(mntgate_result result)
 	return MNTGATE_IS_HOOK(result) ? MNTGATE_HOOK_CODE(result) : (int)result;
 }
 
+/* A change that hangs below must not keep all others waiting: it gives up after some seconds, and they go on. */
 int gates_freeze(void)
 {
-	mntgate_result result = mntgate_freeze(&commands, MNTGATE_USER, &hooks);
+	struct timespec deadline;
+	mntgate_result result;
 
+	clock_gettime(CLOCK_MONOTONIC, &deadline);
+	deadline.tv_sec += FREEZE_SECONDS;
+	result = mntgate_freeze_until(&commands, MNTGATE_USER, &hooks, &deadline);
 	if (result == 0)
 		frozen = true;
+	else
+		must(mntgate_settle(&commands));
 	return error_of(result);
 }
 

@@ -39,7 +39,7 @@ void gates_leave(const struct pass *pass);
 int gates_add_writer(void);
 void gates_drop_writer(void);
 
-/* The commands. One thread at a time calls them. 0, or an errno. */
+/* The commands. One thread at a time calls them. 0, or an errno: ETIMEDOUT if a change under way keeps a freeze out. */
 int gates_freeze(void);
 int gates_thaw(void);
 int gates_remount(bool read_only);

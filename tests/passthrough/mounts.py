@@ -68,14 +68,15 @@ class Control:
 
 
 class Mount:
-    """A directory, mounted."""
+    """A directory, mounted: one of its own, or this one."""
 
-    def __init__(self, programs, words):
+    def __init__(self, programs, words, source=None):
         self.programs = programs
         self.folder = tempfile.mkdtemp(prefix="mntgate-fuse-")
         os.chmod(self.folder, 0o755)
         self.source, self.point, self.socket = (f"{self.folder}/{name}" for name in ("source", "mounted", "socket"))
-        os.mkdir(self.source)
+        self.source = source or self.source
+        os.makedirs(self.source, exist_ok=True)
         os.mkdir(self.point)
         self.daemon = subprocess.Popen([f"{programs}/passthrough", *words, self.source, self.point, self.socket], stderr=subprocess.PIPE, text=True)
         self.timer = self.control = None
@@ -133,9 +134,9 @@ class Mount:
 
 
 @contextlib.contextmanager
-def mounted(programs, *words):
+def mounted(programs, *words, source=None):
     """A mount for a test. If the test doesn't end it, it is unmounted, and ends cleanly."""
-    mount = Mount(programs, words)
+    mount = Mount(programs, words, source)
     try:
         mount.begin()
         yield mount

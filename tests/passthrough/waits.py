@@ -172,6 +172,29 @@ def each_thaw_lets_pass(programs):
     return f"{times} freezes"
 
 
+def freeze_gives_up(programs):
+    """A change hangs below, so that a freeze gives up after five seconds. Then others go on, and a later freeze is done."""
+    with mounted(programs) as lower:
+        os.mkdir(f"{lower.point}/source")
+        with mounted(programs, source=f"{lower.point}/source") as mount:
+            os.close(os.open(f"{mount.point}/file", os.O_CREAT | os.O_WRONLY))
+            lower.control.do("freeze")
+            writer = Child(lambda: put(f"{mount.point}/file", BYTES))
+            until(lambda: lower.control.count("waiting") == 1, "the change doesn't hang")
+            began = time.monotonic()
+            refused = mount.gatectl("freeze")
+            took = time.monotonic() - began
+            want(refused.returncode == 1 and os.strerror(errno.ETIMEDOUT) in refused.stderr and 4 < took < 10, f"a freeze beside a change that hangs: {refused.stderr}")
+            want("thawed" in mount.control.ask("status"), "it is frozen after a freeze that gave up")
+            later = Child(lambda: os.mkdir(f"{mount.point}/later"))
+            until(lambda: lower.control.count("waiting") == 2, "a change after the freeze doesn't come below")
+            lower.control.do("thaw")
+            want(writer.ended() == 0 and later.ended() == 0, "the changes after the thaw below")
+            until(lambda: mount.control.ask("freeze").startswith("ok"), "a freeze with no change under way")
+            mount.control.do("thaw")
+    return f"after {took:.1f} s"
+
+
 def signals_end_waits(programs):
     """A fatal signal ends a wait. Another one doesn't, and a fatal one after it does."""
     with mounted(programs) as mount:
@@ -307,4 +330,4 @@ def silent_clients(programs):
     return "40 of them"
 
 
-TESTS = [each_change_waits, thaw_comes_through, each_thaw_lets_pass, signals_end_waits, daemon_ends_while_frozen, unmounted_while_frozen, read_only, during, silent_clients, refused_beginnings]
+TESTS = [each_change_waits, thaw_comes_through, each_thaw_lets_pass, freeze_gives_up, signals_end_waits, daemon_ends_while_frozen, unmounted_while_frozen, read_only, during, silent_clients, refused_beginnings]

@@ -24,6 +24,9 @@ STORIES = [
     "T freeze\nT run sync E\nwords\nT callback L\nT run\n",
     "T freeze\nT run freeze E\nmodel\nT callback L\nT step E\nT run\n",
     "T freeze\nT run\nT thaw\nT run unfreeze E\nX thaw\nX run\nwords\n",
+    "X start L C\nX run\nT freeze\nT run\nT run wait 110\nwords\nX end L C\nX run\nT callback L\nT run\nmodel\n",
+    "X wantwrite M C\nX run\nT freeze kernel\nT run\nT run wait 110\nT step\nT step E\nT step E\nT step\nT run\nwords\nX dropwrite M C\nX run\n",
+    "T freeze\nT run wait 110\nT run wait 110\nT run wait 110\nX freeze\nX run\nT run\nX run\nT thaw\nT run\nmodel\n",
     "T remount ro\nT run\nT freeze\nT run\nT snapshot\nT run\nT thaw\nT run\nT remount rw\nT run\n",
     "T freeze kernel\nT run\nX freeze user\nX step\nX step\nX run\nmodel\nT thaw kernel\nT run\nX thaw user\nX run\nwords\n",
     "T freeze user\nT run\nT freeze kernel\nT run\nwords\nmodel\nT thaw user\nT step\nT step\nT run\nX thaw kernel\nX run unfreeze E\nmodel\n"
@@ -44,7 +47,7 @@ STORIES = [
 # What the texts of all schedules have to have, so that they are worth replaying.
 REACHED = [
     " grant mount ", " grant level ", " return mount ", " pass 1\n", "\nstage 4\n", " stage 1 stage 1\n", "\nholders 3\n", "\nholder kernel\nholder user\n",
-    " ok used ", " ok ran\n", " ok none\n", " ok node ", " waiting\n", " idle\n", " dirty\n", " refused hook ", " refused 2 NoEntry\n", " refused 11 Again\n",
+    " ok used ", " ok ran\n", " ok none\n", " ok node ", " waiting\n", " idle\n", " dirty\n", " refused hook ", " refused hook 110\n", " refused 2 NoEntry\n", " refused 11 Again\n",
     " refused 16 Busy\n", " refused 20 NotDir\n", " refused 21 IsDir\n", " refused 22 Invalid\n", " refused 28 NoSpace\n", " refused 30 ReadOnly\n",
     " refused 35 Order\n", "\nmount0.flags 1\n", " open 1\n", "\ntask 1 open 1\n", " close 1\n", "\nremoved 1\n", " clean removed\n", " add removed 0 1\n",
     " sub removed 1 0\n", " load removed 1 1\n", " refused 24 TooMany\n",

@@ -6,7 +6,8 @@
  * Each writer has a log file. It appends a record in two writes: first the length, then so many bytes. A backup copies both files. A copy
  * is torn where a file ends inside a record, or where one file's records are of a later moment than the other's: writer 1 answers each
  * record of writer 0, so that its log is never longer, nor shorter by more than one record. Without the gates backups are torn; with them
- * the backup freezes the file system, and none is.
+ * the backup freezes the file system, and none is. Writers wait for a backup for a second at most before it has begun: then it gives up, and comes
+ * again later.
  */
 #include <errno.h>
 #include <fcntl.h>
@@ -16,11 +17,12 @@
 #include <stdio.h>
 #include <stdlib.h>
 #include <string.h>
+#include <time.h>
 #include <unistd.h>
 
 #include "mntgate.h"
 
-enum { WRITERS = 2, BACKUPS = 200, AHEAD = 100, RECORDS = AHEAD * (BACKUPS + 1), LONGEST = 64, MOUNT = 0 };
+enum { WRITERS = 2, BACKUPS = 200, AHEAD = 100, RECORDS = AHEAD * (BACKUPS + 1), LONGEST = 64, MOUNT = 0, TRIES = 60 };
 
 struct writer {
 	struct mntgate_task task;
@@ -133,14 +135,37 @@ static void take_time(void)
 		usleep(1000);
 }
 
+/* Freezes within a second. Else the levels are open again, and it lets the writers work before it comes again. */
+static void freeze_in_time(struct mntgate_task *task, const struct mntgate_hooks *hooks)
+{
+	unsigned tries;
+
+	for (tries = 0; tries < TRIES; tries++) {
+		struct timespec deadline;
+		mntgate_result result;
+
+		if (clock_gettime(CLOCK_MONOTONIC, &deadline))
+			stop("clock", (mntgate_result)errno);
+		deadline.tv_sec += 1;
+		result = mntgate_freeze_until(task, MNTGATE_USER, hooks, &deadline);
+		if (result != MNTGATE_HOOK + ETIMEDOUT) {
+			check(result, "freeze");
+			return;
+		}
+		check(mntgate_settle(task), "settle");
+		usleep(100000);
+	}
+	stop("freeze", ETIMEDOUT);
+}
+
 /* One backup; whether it is torn. */
 static bool back_up(struct mntgate_task *task, struct writer *writers)
 {
-	const struct mntgate_hooks hooks = { writers, sync_logs, NULL, NULL, NULL };
+	const struct mntgate_hooks hooks = { writers, sync_logs, NULL, NULL, NULL, NULL };
 	int first, second;
 
 	if (gated)
-		check(mntgate_freeze(task, MNTGATE_USER, &hooks), "freeze");
+		freeze_in_time(task, &hooks);
 	atomic_fetch_add(&begun, 1);
 	first = copy(writers[0].file);
 	take_time();

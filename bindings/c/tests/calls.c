@@ -9,9 +9,10 @@
 
 #include "mntgate.h"
 
-static uint16_t answers[4];
-static int asked[4];
+static uint16_t answers[5];
+static int asked[5];
 static bool to_read_only;
+static uint8_t level_waited;
 
 static uint16_t on_sync(void *data)
 {
@@ -42,7 +43,15 @@ static uint16_t on_reconfigure(void *data, bool read_only)
 	return answers[3];
 }
 
-static const struct mntgate_hooks hooks = { NULL, on_sync, on_freeze, on_unfreeze, on_reconfigure };
+/* A freeze may wait twice first. */
+static uint16_t on_wait(void *data, uint8_t level)
+{
+	(void)data;
+	level_waited = level;
+	return ++asked[4] % 3 ? 0 : answers[4];
+}
+
+static const struct mntgate_hooks hooks = { NULL, on_sync, on_freeze, on_unfreeze, on_reconfigure, on_wait };
 
 static void test_accesses(struct mntgate_task *task, struct mntgate_task *other)
 {
@@ -131,6 +140,83 @@ static void test_hooks(struct mntgate_task *task)
 	assert(mntgate_settle(task) == 0);
 }
 
+/* Nothing is left of a freeze. */
+static void expect_open(struct mntgate_task *task, struct mntgate_task *other)
+{
+	uint8_t level;
+
+	assert(mntgate_rests(task) && mntgate_thaw(task, MNTGATE_USER, NULL) == EINVAL && mntgate_wants_hook(task) == MNTGATE_ASKS_NONE);
+	for (level = 1; level <= 3; level++)
+		assert(mntgate_try_start(other, level, 0) == 0 && mntgate_end(other, level, 1) == 0);
+}
+
+/* A freeze is given up at each level, by its own hook. */
+static void test_patience(struct mntgate_task *task, struct mntgate_task *other)
+{
+	static const struct mntgate_hooks silent = { NULL, NULL, NULL, NULL, NULL, NULL };
+	uint8_t level;
+
+	for (level = 1; level <= 3; level++) {
+		asked[0] = asked[4] = 0;
+		answers[4] = 7;
+		assert(mntgate_start(other, level, 0) == 0 && mntgate_freeze(task, MNTGATE_USER, &hooks) == MNTGATE_HOOK + 7u);
+		assert(asked[4] == 3 && level_waited == level && asked[0] == (level == 3));
+		assert(mntgate_end(other, level, 0) == 0);
+		expect_open(task, other);
+	}
+	answers[4] = 0;
+	assert(mntgate_freeze(task, MNTGATE_USER, &silent) == 0 && mntgate_thaw(task, MNTGATE_USER, &silent) == 0);
+	assert(mntgate_settle(task) == 0);
+}
+
+static struct timespec after(long milliseconds)
+{
+	struct timespec moment;
+
+	assert(clock_gettime(CLOCK_MONOTONIC, &moment) == 0);
+	moment.tv_sec += milliseconds / 1000;
+	moment.tv_nsec += milliseconds % 1000 * 1000000;
+	if (moment.tv_nsec >= 1000000000) {
+		moment.tv_sec++;
+		moment.tv_nsec -= 1000000000;
+	}
+	return moment;
+}
+
+/* A freeze has a deadline, or none to wait for. */
+static void test_deadlines(struct mntgate_task *task, struct mntgate_task *other)
+{
+	const struct mntgate_hooks *with[] = { NULL, &hooks };
+	struct timespec moment, now;
+	int each;
+
+	for (each = 0; each < 2; each++) {
+		assert(mntgate_want_write(other, 0, 0) == 0);
+		moment = after(20);
+		assert(mntgate_freeze_until(task, MNTGATE_USER, with[each], &moment) == MNTGATE_HOOK + ETIMEDOUT);
+		now = after(0);
+		assert(now.tv_sec > moment.tv_sec || (now.tv_sec == moment.tv_sec && now.tv_nsec >= moment.tv_nsec));
+		assert(mntgate_freeze_until(task, MNTGATE_KERNEL, with[each], &moment) == MNTGATE_HOOK + ETIMEDOUT);
+		assert(mntgate_try_freeze(task, MNTGATE_USER, with[each]) == MNTGATE_HOOK + EAGAIN);
+		assert(mntgate_drop_write(other, 0, 0) == 0);
+		expect_open(task, other);
+		assert(mntgate_start(other, 3, 0) == 0 && mntgate_try_freeze(task, MNTGATE_USER, with[each]) == MNTGATE_HOOK + EAGAIN);
+		assert(mntgate_freeze_until(other, MNTGATE_USER, with[each], &moment) == EDEADLK && mntgate_end(other, 3, 0) == 0);
+		expect_open(task, other);
+		/* a deadline that has passed is none where nobody is inside, nor is another holder's freeze */
+		assert(mntgate_freeze_until(task, MNTGATE_USER, with[each], &moment) == 0 && mntgate_try_freeze(other, MNTGATE_USER, with[each]) == EBUSY);
+		assert(mntgate_try_freeze(other, MNTGATE_KERNEL, with[each]) == 0 && mntgate_thaw(task, MNTGATE_USER, NULL) == 0);
+		assert(mntgate_thaw(task, MNTGATE_KERNEL, NULL) == 0 && mntgate_try_freeze(task, MNTGATE_USER, with[each]) == 0);
+		assert(mntgate_thaw(task, MNTGATE_USER, NULL) == 0 && mntgate_settle(task) == 0);
+	}
+	/* its own hook is asked first */
+	asked[4] = 2;
+	answers[4] = 9;
+	assert(mntgate_start(other, 2, 0) == 0 && mntgate_freeze_until(task, MNTGATE_USER, &hooks, &moment) == MNTGATE_HOOK + 9u);
+	assert(level_waited == 2 && mntgate_end(other, 2, 0) == 0 && mntgate_settle(task) == 0);
+	answers[4] = 0;
+}
+
 static uint16_t on_sync_leaving(void *data)
 {
 	longjmp(*(jmp_buf *)data, 1);
@@ -140,7 +226,7 @@ static uint16_t on_sync_leaving(void *data)
 static void test_hook_that_leaves(struct mntgate_task *task, struct mntgate_task *other)
 {
 	static jmp_buf before;
-	static const struct mntgate_hooks leaving = { &before, on_sync_leaving, NULL, NULL, NULL };
+	static const struct mntgate_hooks leaving = { &before, on_sync_leaving, NULL, NULL, NULL, NULL };
 	struct mntgate_outcome outcome;
 
 	if (setjmp(before) == 0) {
@@ -206,12 +292,23 @@ static void test_steps(struct mntgate_task *task, struct mntgate_task *other)
 	/* a freeze stops at what it waits for, and at each hook */
 	assert(mntgate_start(task, 1, 0) == 0 && mntgate_begin(other, &freeze) == 0);
 	mntgate_run(other, 0, 1000, &outcome);
+	assert(outcome.progress == MNTGATE_WAITING && mntgate_wants_hook(other) == MNTGATE_ASKS_KEEP_WAITING && mntgate_level_waited(other) == 1);
+	mntgate_run(other, 0, 1000, &outcome);
 	assert(outcome.progress == MNTGATE_WAITING && mntgate_end(task, 1, 0) == 0);
-	while (mntgate_wants_hook(other) == 0)
-		mntgate_run(other, 0, 1000, &outcome);
-	assert(outcome.progress == MNTGATE_GOING && mntgate_wants_hook(other) == 1 && mntgate_waited(other) > 0);
+	mntgate_run(other, 0, 1000, &outcome);
+	assert(outcome.progress == MNTGATE_GOING && mntgate_wants_hook(other) == MNTGATE_ASKS_SYNC && mntgate_waited(other) > 0);
+	assert(mntgate_level_waited(other) == 0 && mntgate_level_waited(task) == 0);
 	mntgate_run(other, 9, 1000, &outcome);
 	assert(outcome.progress == MNTGATE_DONE && outcome.answer == MNTGATE_HOOK + 9 && mntgate_settle(other) == 0);
+	/* and is given up by the answer at a wait, of which the first step clears the level's block */
+	assert(mntgate_start(task, 1, 0) == 0 && mntgate_begin(other, &freeze) == 0);
+	mntgate_run(other, 0, 1000, &outcome);
+	mntgate_step(other, 4, &done);
+	assert(done.outcome.progress == MNTGATE_GOING && done.event.word.kind == MNTGATE_WORD_BLOCK && done.event.word.first == 1);
+	assert(done.event.touch == 1 && done.event.left == 0 && done.action.kind == 0);
+	mntgate_run(other, 0, 1000, &outcome);
+	assert(outcome.progress == MNTGATE_DONE && outcome.answer == MNTGATE_HOOK + 4);
+	assert(mntgate_end(task, 1, 0) == 0 && mntgate_settle(other) == 0);
 }
 
 /* A call that begins at once is done, or goes on, and then it is run to its end. */
@@ -303,6 +400,8 @@ int main(void)
 	test_levels(&task, &other);
 	test_try_want_write(&task, &other);
 	test_hooks(&task);
+	test_patience(&task, &other);
+	test_deadlines(&task, &other);
 	test_hook_that_leaves(&task, &other);
 	test_tree(&task, &other);
 	test_steps(&task, &other);

@@ -15,7 +15,7 @@
 enum { ROUNDS = 20 };
 
 static struct writer writers[WRITERS];
-static unsigned torn, frozen, read_only;
+static unsigned torn, frozen, read_only, given_up;
 
 /* Waits until a writer has written so often. This orders nothing, so that the gates alone do. */
 static void await(struct writer *writer, unsigned long turns)
@@ -49,7 +49,7 @@ static uint16_t sync_records(void *data)
 	return 0;
 }
 
-static const struct mntgate_hooks hooks = { NULL, sync_records, NULL, NULL, NULL };
+static const struct mntgate_hooks hooks = { NULL, sync_records, NULL, NULL, NULL, NULL };
 
 /* The ways to the end of an operation: the header's loop with and without hooks, and loops by hand. */
 static void freeze_waiting(struct mntgate_task *task)
@@ -60,6 +60,26 @@ static void freeze_waiting(struct mntgate_task *task)
 static void freeze_with_hooks(struct mntgate_task *task)
 {
 	assert(mntgate_freeze(task, MNTGATE_USER, &hooks) == 0);
+}
+
+/* Gives up again and again, until one is done in time. */
+static void freeze_in_time(struct mntgate_task *task)
+{
+	mntgate_result result;
+
+	do {
+		struct timespec deadline;
+
+		assert(clock_gettime(CLOCK_MONOTONIC, &deadline) == 0);
+		deadline.tv_nsec += 20000;
+		if (deadline.tv_nsec >= 1000000000) {
+			deadline.tv_sec++;
+			deadline.tv_nsec -= 1000000000;
+		}
+		result = mntgate_freeze_until(task, MNTGATE_USER, &hooks, &deadline);
+		given_up += result == MNTGATE_HOOK + ETIMEDOUT;
+		assert(result == 0 || result == MNTGATE_HOOK + ETIMEDOUT);
+	} while (result);
 }
 
 static void begin_freeze(struct mntgate_task *task)
@@ -125,6 +145,7 @@ static void read_guarded(struct mntgate_task *task)
 	for (round = 0; round < ROUNDS; round++) {
 		read_frozen(task, freeze_waiting);
 		read_frozen(task, freeze_with_hooks);
+		read_frozen(task, freeze_in_time);
 		read_frozen(task, freeze_by_runs);
 		read_frozen(task, freeze_by_steps);
 		read_read_only(task);
@@ -169,7 +190,7 @@ int main(int count, char **words)
 		return fprintf(stderr, "usage: threads guarded|planted\n"), 2;
 	run(write_guarded, read_guarded, WRITERS);
 	printf("%u records torn\n", torn);
-	fprintf(stderr, "%u reads while frozen, %u while read-only, %lu and %lu writes\n", frozen, read_only, writers[0].record.first,
-		writers[1].record.first);
+	fprintf(stderr, "%u reads while frozen, %u freezes given up, %u reads while read-only, %lu and %lu writes\n", frozen, given_up, read_only,
+		writers[0].record.first, writers[1].record.first);
 	return 0;
 }

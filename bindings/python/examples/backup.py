@@ -3,8 +3,8 @@
 
     backup.py
 
-It meets, one after the other, a file system that another backup has frozen, one whose sync fails, one whose thaw fails, one that is read-only, and one
-at peace, and says what it does. Task `other` stands for the rest of the system."""
+It meets, one after the other, a file system that another backup has frozen, one with a writer who stays inside, one whose sync fails, one whose thaw
+fails, one that is read-only, and one at peace, and says what it does. Task `other` stands for the rest of the system."""
 
 import errno
 import os
@@ -13,6 +13,9 @@ import sys
 sys.path.insert(0, os.path.join(os.path.dirname(os.path.abspath(__file__)), ".."))
 
 import mntgate
+
+# For so many seconds a backup lets writers wait before it has begun.
+PATIENCE = 0.05
 
 
 class Disk(mntgate.Hooks):
@@ -34,7 +37,10 @@ class Disk(mntgate.Hooks):
 def back_up(task: mntgate.Task, disk: Disk) -> str:
     """Takes one backup, or says why not, and what comes next. A freeze and its thaw are two calls, since they leave different states if they fail."""
     try:
-        task.freeze(hooks=disk)
+        task.freeze(hooks=disk, timeout=PATIENCE)
+    except TimeoutError:
+        task.settle()
+        return "somebody stays inside: the levels are open again, so let the writers work, and come back"
     except mntgate.HookFailed as failed:
         task.settle()
         return f"the disk failed with {failed.code}: the levels are open again, so check the disk, and come back"
@@ -90,6 +96,8 @@ def main() -> None:
         print("a write:", write(other, 10))
         with other.frozen(mntgate.Holder.USER):
             print("a backup beside another one:", back_up(task, Disk()))
+        with other.write(mount=0):
+            print("a backup beside a writer who stays:", back_up(task, Disk()))
         print("a backup of a disk whose sync fails:", back_up(task, Disk(syncs=1)))
         print("a backup of a disk whose thaw failed once:", back_up(task, Disk(thaws=1)))
         print("a backup at peace:", back_up(task, Disk()))

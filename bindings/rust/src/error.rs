@@ -8,7 +8,7 @@ use std::fmt;
 pub enum Error {
     /// The node that was named is free.
     NoEntry,
-    /// A try form would have had to wait, or another task changed the node in between.
+    /// A try form would have had to wait, or has given up; or another task changed the node in between.
     Again,
     /// There is no memory.
     NoMemory,
@@ -28,6 +28,8 @@ pub enum Error {
     ReadOnly,
     /// The task may not make the call now.
     Order,
+    /// A freeze has not come to its end within its time, and has given up.
+    TimedOut,
     /// A hook of the file system failed with this code.
     Hook(u16),
 }
@@ -69,6 +71,7 @@ impl Error {
             Error::NoSpace => 28,
             Error::ReadOnly => 30,
             Error::Order => 35,
+            Error::TimedOut => 110,
             Error::Hook(_) => return None,
         })
     }
@@ -88,6 +91,7 @@ impl fmt::Display for Error {
             Error::NoSpace => "no space",
             Error::ReadOnly => "read-only",
             Error::Order => "out of order",
+            Error::TimedOut => "timed out",
             Error::Hook(code) => return write!(f, "hook failed with {code}"),
         })
     }

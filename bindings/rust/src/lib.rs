@@ -284,6 +284,17 @@ impl Task {
         answer(unsafe { sys::mntgate_try_start(self.handle(), level, processor) })
     }
 
+    /// Goes inside level 1 and takes an access at a mount, or does neither. `Again` while a freeze closes the level or a change holds writers
+    /// off, `ReadOnly`, `TooMany`. [`Task::drop_write`] gives both back.
+    pub fn try_want_write(&mut self, mount: u8, processor: u8) -> Result<(), Error> {
+        self.try_start(1, processor)?;
+        let wanted = self.try_want(mount, processor);
+        if wanted.is_err() {
+            self.end(1, processor)?;
+        }
+        wanted
+    }
+
     /// Leaves a freeze level.
     pub fn end(&mut self, level: u8, processor: u8) -> Result<(), Error> {
         answer(unsafe { sys::mntgate_end(self.handle(), level, processor) })

@@ -110,6 +110,8 @@ pub enum HookKind {
     UnfreezeFs,
     /// [`Hooks::reconfigure`](crate::Hooks::reconfigure).
     Reconfigure,
+    /// [`Hooks::keep_waiting`](crate::Hooks::keep_waiting), of this level.
+    KeepWaiting(u8),
 }
 
 /// One step: one atomic operation on one word. Kinds are numbered as `mntgate.h` says.
@@ -226,6 +228,7 @@ impl Task {
             2 => Some(HookKind::FreezeFs),
             3 => Some(HookKind::UnfreezeFs),
             4 => Some(HookKind::Reconfigure),
+            5 => Some(HookKind::KeepWaiting(unsafe { sys::mntgate_level_waited(self.handle()) })),
             _ => None,
         }
     }

@@ -123,4 +123,5 @@ extern "C" {
     pub fn mntgate_freeze_at_once(task: *mut TaskHandle, by_kernel: bool, outcome: *mut Outcome) -> u32;
     pub fn mntgate_thaw_at_once(task: *mut TaskHandle, by_kernel: bool, outcome: *mut Outcome) -> u32;
     pub fn mntgate_wants_hook(task: *mut TaskHandle) -> u32;
+    pub fn mntgate_level_waited(task: *mut TaskHandle) -> u8;
 }

@@ -3,8 +3,9 @@
 use crate::guards::{Access, Frozen, Level, ReadOnly, WriteAccess};
 use crate::steps::{HookKind, Op, Progress, Reply};
 use crate::{Error, Holder, Hooks, Task};
+use std::any::Any;
 use std::panic::{catch_unwind, resume_unwind, AssertUnwindSafe};
-use std::time::Duration;
+use std::time::{Duration, Instant};
 
 /// How many steps one call of the library does at most.
 const STEPS: u32 = 1024;
@@ -40,12 +41,65 @@ fn ask(kind: HookKind, hooks: &mut impl Hooks, read_only: bool) -> Result<(), u1
         HookKind::FreezeFs => hooks.freeze_fs(),
         HookKind::UnfreezeFs => hooks.unfreeze_fs(),
         HookKind::Reconfigure => hooks.reconfigure(read_only),
+        HookKind::KeepWaiting(level) => hooks.keep_waiting(level),
+    }
+}
+
+/// How long a freeze waits for who is inside a level, if its hooks don't give it up.
+#[derive(Clone, Copy)]
+enum Patience {
+    Endless,
+    Until(Instant),
+    Never,
+}
+
+impl Patience {
+    /// Why the freeze gives up now, if it does.
+    fn ends(self) -> Option<Error> {
+        match self {
+            Patience::Endless => None,
+            Patience::Until(deadline) => (Instant::now() >= deadline).then_some(Error::TimedOut),
+            Patience::Never => Some(Error::Again),
+        }
+    }
+}
+
+/// What ends an operation otherwise than its own answer: a hook that has panicked, and patience that has ended.
+#[derive(Default)]
+struct Asked {
+    panicked: Option<Box<dyn Any + Send>>,
+    given_up: Option<Error>,
+}
+
+impl Asked {
+    /// Asks a hook. A panic is kept until the operation is done. At a wait that the hook doesn't give up, the patience may.
+    fn ask(&mut self, kind: HookKind, hooks: &mut impl Hooks, read_only: bool, patience: Patience) -> Result<(), u16> {
+        catch_unwind(AssertUnwindSafe(|| ask(kind, hooks, read_only))).unwrap_or_else(|panic| {
+            self.panicked = Some(panic);
+            Err(PANICKED)
+        })?;
+        if let HookKind::KeepWaiting(_) = kind {
+            self.given_up = patience.ends();
+        }
+        self.given_up.map_or(Ok(()), |why| Err(why.errno().map_or(PANICKED, |errno| errno as u16)))
+    }
+
+    /// Turns what an operation has answered into what its caller is told.
+    fn tell(self, answer: Result<Reply, Error>) -> Result<Reply, Error> {
+        if let Some(panic) = self.panicked {
+            resume_unwind(panic);
+        }
+        self.given_up.map_or(answer, Err)
     }
 }
 
 impl Task {
     /// Begins an operation and does it to its end, however long it has to wait, with these hooks. A hook's panic goes on once that is done.
     pub(crate) fn perform<H: Hooks>(&mut self, op: Op, hooks: &mut H) -> Result<Reply, Error> {
+        self.perform_within(op, hooks, Patience::Endless)
+    }
+
+    fn perform_within<H: Hooks>(&mut self, op: Op, hooks: &mut H, patience: Patience) -> Result<Reply, Error> {
         let read_only = op == Op::RemountSb { read_only: true };
         if !H::ARE_NONE {
             self.begin(op)?;
@@ -53,16 +107,11 @@ impl Task {
             return answer;
         }
         let mut backoff = Backoff::default();
-        let mut panicked = None;
+        let mut asked = Asked::default();
         loop {
-            let hook = self.wants_hook().map_or(Ok(()), |kind| {
-                catch_unwind(AssertUnwindSafe(|| ask(kind, hooks, read_only))).unwrap_or_else(|panic| {
-                    panicked = Some(panic);
-                    Err(PANICKED)
-                })
-            });
+            let hook = self.wants_hook().map_or(Ok(()), |kind| asked.ask(kind, hooks, read_only, patience));
             match self.run(hook, STEPS) {
-                Progress::Done(answer) => return panicked.map_or(answer, |panic| resume_unwind(panic)),
+                Progress::Done(answer) => return asked.tell(answer),
                 Progress::Idle => return Err(Error::Order),
                 Progress::Waiting => backoff.snooze(),
                 Progress::Going => {}
@@ -143,9 +192,58 @@ impl Task {
         Ok(Frozen::of(self, holder, hooks))
     }
 
+    /// Freezes the file system until the guard is thawed or dropped, or gives up after this time. `TimedOut`, and as [`Task::frozen`].
+    pub fn frozen_for<'a, H: Hooks>(&'a mut self, holder: Holder, hooks: &'a mut H, time: Duration) -> Result<Frozen<'a, H>, Error> {
+        self.freeze_for(holder, hooks, time)?;
+        Ok(Frozen::of(self, holder, hooks))
+    }
+
     /// Freezes the file system for a holder; [`Task::frozen`] thaws it, too.
     pub fn freeze(&mut self, holder: Holder, hooks: &mut impl Hooks) -> Result<(), Error> {
         self.perform(Op::Freeze { holder }, hooks).map(drop)
+    }
+
+    /// Freezes the file system for a holder, or gives up after this time; see [`Task::freeze_until`].
+    pub fn freeze_for(&mut self, holder: Holder, hooks: &mut impl Hooks, time: Duration) -> Result<(), Error> {
+        let patience = Instant::now().checked_add(time).map_or(Patience::Endless, Patience::Until);
+        self.perform_within(Op::Freeze { holder }, hooks, patience).map(drop)
+    }
+
+    /// Freezes the file system for a holder, or gives up at this moment: then the levels are open again. It looks at the clock each time that it
+    /// has found somebody inside a level. So it may be late by a pause, which is less than a millisecond, and by what it doesn't give up: a hook,
+    /// and a wait for `s_umount`, whose owner may ask a hook.
+    ///
+    /// # Errors
+    ///
+    /// `TimedOut`, and as [`Task::freeze`] `Busy` and `Hook`, also where [`Hooks::keep_waiting`] has given it up.
+    ///
+    /// ```
+    /// # use mntgate::{Config, Error, Gates, Holder};
+    /// # use std::time::{Duration, Instant};
+    /// let mut backup = Gates::open(Config::default())?;
+    /// let mut writer = backup.split()?;
+    /// let write = writer.write(0, 0)?;
+    /// let deadline = Instant::now() + Duration::from_millis(10);
+    /// assert_eq!(backup.freeze_until(Holder::User, &mut (), deadline), Err(Error::TimedOut));
+    /// drop(write);
+    /// drop(writer.write(0, 0)?);
+    /// # backup.join(writer).map_err(|refused| refused.error)?;
+    /// # backup.close().map_err(|refused| refused.error)?;
+    /// # Ok::<(), Error>(())
+    /// ```
+    pub fn freeze_until(&mut self, holder: Holder, hooks: &mut impl Hooks, deadline: Instant) -> Result<(), Error> {
+        self.perform_within(Op::Freeze { holder }, hooks, Patience::Until(deadline)).map(drop)
+    }
+
+    /// Freezes the file system for a holder, or gives up as soon as it has found somebody inside a level. It may still wait for `s_umount`, and for
+    /// readers that are about to look. Pause before you try again: a try closes level 1 for a moment, and leaves readers slow until
+    /// [`Task::settle`].
+    ///
+    /// # Errors
+    ///
+    /// `Again` where somebody was counted at a level, which are open again; and as [`Task::freeze`].
+    pub fn try_freeze(&mut self, holder: Holder, hooks: &mut impl Hooks) -> Result<(), Error> {
+        self.perform_within(Op::Freeze { holder }, hooks, Patience::Never).map(drop)
     }
 
     /// Gives a holder's freeze back, whichever task froze. `Invalid` where it holds none, `Hook`, and then all stays frozen.

@@ -115,6 +115,126 @@ fn a_hook_that_panics_ends_its_call() {
     close(task, other);
 }
 
+/// Hooks that are asked at which level a freeze waits, and give up at the third time.
+#[derive(Default)]
+struct ThreeTimes {
+    levels: Vec<u8>,
+    synced: bool,
+}
+
+impl Hooks for ThreeTimes {
+    fn sync(&mut self) -> Result<(), u16> {
+        self.synced = true;
+        Ok(())
+    }
+
+    fn keep_waiting(&mut self, level: u8) -> Result<(), u16> {
+        self.levels.push(level);
+        if self.levels.len() % 3 == 0 {
+            Err(7)
+        } else {
+            Ok(())
+        }
+    }
+}
+
+#[test]
+fn a_freeze_is_given_up_at_each_level() {
+    let (mut task, mut other) = pair();
+    for level in 1..=3 {
+        let mut hooks = ThreeTimes::default();
+        let inside = other.level(level, 1).unwrap();
+        assert_eq!(task.freeze(Holder::User, &mut hooks), Err(Error::Hook(7)));
+        assert_eq!((hooks.levels, hooks.synced, task.rests()), (vec![level; 3], level == 3, true));
+        drop(inside);
+        for lower in 1..=3 {
+            drop(other.level(lower, 0).unwrap());
+        }
+        assert_eq!((task.try_snapshot(), task.thaw(Holder::User, &mut ())), (Err(Error::Invalid), Err(Error::Invalid)));
+        task.freeze(Holder::User, &mut ()).unwrap();
+        task.thaw(Holder::User, &mut ()).unwrap();
+    }
+    task.settle().unwrap();
+    close(task, other);
+}
+
+#[test]
+fn a_freeze_has_a_deadline() {
+    let (mut task, mut other) = pair();
+    let write = other.write(0, 0).unwrap();
+    let (start, time) = (Instant::now(), Duration::from_millis(30));
+    assert_eq!(task.freeze_for(Holder::User, &mut (), time), Err(Error::TimedOut));
+    assert!(start.elapsed() >= time);
+    assert_eq!(task.freeze_until(Holder::Kernel, &mut Counts::default(), start), Err(Error::TimedOut));
+    assert_eq!(task.frozen_for(Holder::User, &mut (), time).err(), Some(Error::TimedOut));
+    assert_eq!(task.try_freeze(Holder::User, &mut ()), Err(Error::Again));
+    // its own hook is asked first
+    assert_eq!(task.freeze_for(Holder::User, &mut ThreeTimes { levels: vec![0, 0], synced: false }, Duration::ZERO), Err(Error::Hook(7)));
+    // a second holder's freeze is no wait
+    drop(write);
+    task.try_freeze(Holder::User, &mut ()).unwrap();
+    assert_eq!(other.freeze_for(Holder::User, &mut (), Duration::MAX), Err(Error::Busy));
+    other.freeze_for(Holder::Kernel, &mut (), Duration::ZERO).unwrap();
+    assert_eq!(other.try_want_write(0, 0), Err(Error::Again));
+    task.thaw(Holder::User, &mut ()).unwrap();
+    task.thaw(Holder::Kernel, &mut ()).unwrap();
+    let mut none = ();
+    task.frozen_for(Holder::User, &mut none, Duration::MAX).unwrap().thaw().unwrap();
+    close(task, other);
+}
+
+#[test]
+fn a_freeze_that_waits_is_granted_in_time() {
+    let (mut task, mut other) = pair();
+    other.try_start(1, 0).unwrap();
+    thread::scope(|scope| {
+        let frozen = scope.spawn(|| task.freeze_for(Holder::User, &mut (), Duration::from_secs(60)));
+        thread::sleep(Duration::from_millis(20));
+        assert!(!frozen.is_finished());
+        other.end(1, 0).unwrap();
+        assert_eq!(frozen.join().unwrap(), Ok(()));
+    });
+    task.thaw(Holder::User, &mut ()).unwrap();
+    close(task, other);
+}
+
+#[test]
+fn a_hook_that_panics_at_a_wait_gives_the_freeze_up() {
+    struct Impatient;
+
+    impl Hooks for Impatient {
+        fn keep_waiting(&mut self, level: u8) -> Result<(), u16> {
+            panic!("waited at {level}");
+        }
+    }
+
+    let (mut task, mut other) = pair();
+    other.try_start(2, 0).unwrap();
+    let panic = catch_unwind(AssertUnwindSafe(|| task.freeze(Holder::User, &mut Impatient))).unwrap_err();
+    assert_eq!(panic.downcast_ref(), Some(&"waited at 2".to_string()));
+    other.end(2, 0).unwrap();
+    assert!(task.rests());
+    drop(other.write(0, 0).unwrap());
+    close(task, other);
+}
+
+#[test]
+fn write_access_is_tried() {
+    let (mut task, mut other) = pair();
+    task.try_want_write(0, 0).unwrap();
+    assert!(task.holds_level(1) && task.holds_mount(0) == 1);
+    assert_eq!(task.try_want_write(0, 0), Err(Error::Order));
+    task.drop_write(0, 1).unwrap();
+    assert_eq!((task.try_want_write(1, 0), task.try_want_write(0, 2)), (Err(Error::Invalid), Err(Error::Invalid)));
+    other.change_mount(0, true).unwrap();
+    assert_eq!(task.try_want_write(0, 0), Err(Error::ReadOnly));
+    other.change_mount(0, false).unwrap();
+    other.freeze(Holder::User, &mut ()).unwrap();
+    assert_eq!((task.try_want_write(0, 0), task.rests()), (Err(Error::Again), true));
+    other.thaw(Holder::User, &mut ()).unwrap();
+    close(task, other);
+}
+
 #[test]
 fn a_snapshot_has_the_tree() {
     let (mut task, mut other) = pair();
@@ -179,10 +299,9 @@ fn an_operation_can_be_stepped() {
     assert_eq!(task.run(Ok(()), 100), Progress::Done(Ok(Reply::Unit)));
     other.begin(Op::Freeze { holder: Holder::User }).unwrap();
     assert_eq!(other.run(Ok(()), 1000), Progress::Waiting);
+    assert_eq!(other.wants_hook(), Some(HookKind::KeepWaiting(1)));
     task.end(1, 1).unwrap();
-    while other.wants_hook().is_none() {
-        other.run(Ok(()), 1000);
-    }
+    assert_eq!(other.run(Ok(()), 1000), Progress::Going);
     assert_eq!((other.wants_hook(), other.waited() > 0), (Some(HookKind::Sync), true));
     assert_eq!(other.run(Err(0), 1000), Progress::Done(Err(Error::Hook(1))));
     assert_eq!(other.step(Ok(())), (None, Progress::Idle));
@@ -251,6 +370,13 @@ fn an_operation_that_is_begun_at_once_is_run_to_its_end() {
     assert_eq!(other.run(Ok(()), 1024), done);
     while task.run(Ok(()), 1024) != done {}
     task.thaw(Holder::User, &mut ()).unwrap();
+    other.try_start(3, 0).unwrap();
+    assert_eq!(task.begin_at_once(freeze), Ok(Progress::Going));
+    while task.wants_hook() != Some(HookKind::KeepWaiting(3)) {
+        task.run(Ok(()), 1024);
+    }
+    assert_eq!(task.run(Err(4), 1024), Progress::Done(Err(Error::Hook(4))));
+    other.end(3, 0).unwrap();
     assert_eq!(task.begin_at_once(Op::Callback { level: 1 }), Ok(Progress::Done(Ok(Reply::Ran(true)))));
     close(task, other);
 }

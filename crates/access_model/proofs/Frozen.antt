@@ -76,7 +76,10 @@ module _ (l : Limits) (s : State) (t : ℕ) (lt : t < l.tasks) (k : NobodyHoldsC
       | inl two ↦ absurd (omega (arith, two.0, i.frozen h own))
       | inr more ↦ elim more [
         | inl three ↦ absurd (omega (arith, three.0, i.frozen h own))
-        | inr four ↦ absurd (some_held h s.holders.kernel s.holders.user four.1 own)
+        | inr most ↦ elim most [
+          | inl four ↦ absurd (some_held h s.holders.kernel s.holders.user four.1 own)
+          | inr early ↦ absurd (omega (arith, early.0, i.frozen h own))
+        ]
       ]
     ];
   }

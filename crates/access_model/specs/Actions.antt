@@ -16,9 +16,12 @@ abbrev pub IsWriter : Limits → State → ℕ → Type 0
 IsWriter l s t = (s.levels t 1 ≡ true) × HoldsSomeMount l s t
 
 -- A freeze may go to this stage: up one at a time, each where the level before is closed, and to 3 and 4 only with no file dirty; from 0
--- to 4 at once where the superblock is read-only; and back to 0 from 2 or 3, or from 4 where no freeze is held.
+-- to 4 at once where the superblock is read-only; and back to 0 from 2 or 3, from 4 where no freeze is held, or from 1, 2 or 3 where it
+-- gives up and has not passed the level of that number.
 abbrev pub MayStage : Limits → State → ℕ → Type 0
-MayStage l s zero = ((s.stage ≡ 2) × (s.passed ≡ 2)) ⊎ (((s.stage ≡ 3) × (s.passed ≡ 3)) ⊎ ((s.stage ≡ 4) × (is_unheld s.holders ≡ true)))
+MayStage l s zero =
+    ((s.stage ≡ 2) × (s.passed ≡ 2)) ⊎ (((s.stage ≡ 3) × (s.passed ≡ 3)) ⊎
+    (((s.stage ≡ 4) × (is_unheld s.holders ≡ true)) ⊎ (IsLevel s.stage × (s.passed + 1 ≡ s.stage))))
 MayStage l s (suc zero) = (s.stage ≡ 0) × (s.passed ≡ 0) × (s.sb_ro ≡ false)
 MayStage l s (suc (suc zero)) = (s.stage ≡ 1) × (s.passed ≡ 1)
 MayStage l s (suc (suc (suc zero))) = (s.stage ≡ 2) × (s.passed ≡ 2) × IsClean l s

@@ -27,7 +27,7 @@ use gate_events::PendingOp;
 use gate_steps::call_events::{GateWords, GhostSeat, StepResult, TimedHooks, do_event, step_once};
 use gate_world::{Accesses, Op};
 use mount_counts::{Remount, RemountStep};
-use percpu_rwsem::{Callback, CallbackStep};
+use percpu_rwsem::{Callback, CallbackStep, DownWrite};
 use std::sync::Wait;
 
 /// An operation that may have to wait, in a form of its own.
@@ -80,6 +80,7 @@ impl Waiting for Freeze {
         match self.step {
             FreezeStep::SetsFs => Some(HookCall::Sync),
             FreezeStep::SetsComplete => Some(HookCall::FreezeFs),
+            FreezeStep::Waits(DownWrite { level, .. }) => { Some(HookCall::KeepWaiting { level }) }
             _ => None,
         }
     }
@@ -391,9 +392,9 @@ pub fn run_to_reply<P: PendingOp>(
 }
 
 /// Goes on with an operation to its reply, however long it has to wait. A hook of the file system is asked once, right before the event that
-/// reads its answer. After an event that found what the operation waits for it pauses,
-/// and the longer the more often one did (`Backoff`). A wait may take several events before it looks again, so none of these makes the pauses short
-/// again. It tells how many events did.
+/// reads its answer. After an event that found what the operation waits for it pauses, and the longer the more often one did (`Backoff`): so a
+/// freeze that has found somebody pauses first, and asks then whether to wait. A wait may take several events before it looks again, so none of
+/// these makes the pauses short again. It tells how many events did.
 #[cold]
 #[inline(never)]
 fn step_waiting<R: Wait, H: TimedHooks, P: Waiting>(

@@ -17,7 +17,7 @@ use Rattle.percpu_rwsem.specs.declared.{grace.GraceNext.TheVariants.{More, Wait 
 use Rattle.percpu_rwsem.specs.declared.{transitions.Transition.{Transition, TheVariants.{Loads, Exchanges}}, writers.DownWrite.{DownWrite}}
 use Rattle.percpu_rwsem.specs.declared.writers.DownWriteStep.{DownWriteStep}
 use Rattle.percpu_rwsem.specs.declared.writers.DownWriteStep.TheVariants.{Enters, AwaitsSections, CallsBack, SetsBlock, Sums}
-use Rattle.call_lines.specs.Closings.{closed_or, closing_at, awaited, summed, of_freeze, standing}
+use Rattle.call_lines.specs.Closings.{closed_or, closing_at, waiting_at, awaited, summed, of_freeze, standing}
 
 -- equal numbers are found equal, and others not
 pub same_number : (a b : ℕ) → a ≡ b → (a == b) ≡ true
@@ -145,7 +145,7 @@ module _ (x : Freeze) (level : ℕ) where
   pub all_summed : (b : Bool) → b ≡ true → summed x level b ≡ Go (standing x (level_closed level x.nodes))
   all_summed b is = ap (summed x level) is
 
-  pub some_summed : (b : Bool) → b ≡ false → summed x level b ≡ Wait (closing_at x level sum_begun)
+  pub some_summed : (b : Bool) → b ≡ false → summed x level b ≡ Wait (waiting_at x level)
   some_summed b is = ap (summed x level) is
 
   -- a load of a section word

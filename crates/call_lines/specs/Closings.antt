@@ -2,7 +2,7 @@
 use Rattle.std.specs.Prelude.{ℕ, Bool, true, false, Option, Some, None}
 use Rattle.access_model.specs.{Replies.{map_next}, declared.replies.Next.{Next, TheVariants.{Go, Wait}}}
 use Rattle.freeze_levels.specs.{Freezes.{at_freeze, level_closed}, Levels.{closing}, declared.freezes.Freeze.{Freeze}}
-use Rattle.freeze_levels.specs.declared.freezes.FreezeStep.{FreezeStep, TheVariants.{Closes}}
+use Rattle.freeze_levels.specs.declared.freezes.FreezeStep.{FreezeStep, TheVariants.{Closes, Waits}}
 use Rattle.gate_world.specs.declared.work.Phase.{Phase, TheVariants.{Freezes}}
 use Rattle.percpu_rwsem.specs.{Writers.{at_down_write, sum_begun}, declared.grace.Grace.{Grace}}
 use Rattle.percpu_rwsem.specs.declared.{transitions.Transition.TheVariants.{Loads}, writers.DownWriteStep.{DownWriteStep}}
@@ -25,9 +25,13 @@ abbrev pub awaited : Freeze → ℕ → Option Grace → Next Phase
 awaited x level None = Go (closing_at x level (CallsBack Loads))
 awaited x level (Some grace) = Wait (closing_at x level (AwaitsSections grace))
 
+-- a freeze whose sum of a level found somebody, before its file system is asked whether to wait
+abbrev pub waiting_at : Freeze → ℕ → Phase
+waiting_at x level = standing x (Waits (at_down_write (closing level x.tasks x.processors) sum_begun))
+
 -- after a sum, where nobody was counted
 abbrev pub summed : Freeze → ℕ → Bool → Next Phase
-summed x level false = Wait (closing_at x level sum_begun)
+summed x level false = Wait (waiting_at x level)
 summed x level true = Go (standing x (level_closed level x.nodes))
 
 -- after the closing of a level: it is closed, or this comes next

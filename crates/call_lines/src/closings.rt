@@ -7,7 +7,7 @@ ghost use Rattle.gate_world.specs.declared.work.Phase.TheVariants.{Freezes};
 ghost use Rattle.percpu_rwsem.specs.declared.writers.DownWriteStep.TheVariants.{Enters, AwaitsSections, CallsBack, SetsBlock, Sums};
 ghost use Rattle.percpu_rwsem.specs.declared.transitions.Transition.TheVariants.{Loads};
 ghost use Rattle.percpu_rwsem.specs.Writers.{entered_from};
-ghost use Rattle.call_lines.specs.Closings.{awaited, closed_or, closing_at, standing, summed};
+ghost use Rattle.call_lines.specs.Closings.{awaited, closed_or, closing_at, standing, summed, waiting_at};
 ghost use Rattle.gate_steps.specs.call_events.KnownSteps.{KnownSteps};
 ghost use Rattle.gate_steps.specs.call_events.Turns.{StateAgrees};
 
@@ -51,6 +51,24 @@ fn leave_to_wait(freeze: &Freeze, level: u8, step: DownWriteStep, rest: &mut Nex
     ensures { closed_or freeze.now level result rest.new ≡ Wait (closing_at freeze.now level step) }
 {
     *rest = Next::Wait(closing(freeze, level, step));
+    false
+}
+
+/// Leaves the line where a sum found somebody, to ask the file system whether to wait before the next one, likewise.
+#[cold]
+#[inline(never)]
+fn leave_to_ask(freeze: &Freeze, level: u8, rest: &mut Next<Freeze>) -> bool
+    ensures { closed_or freeze.now level result rest.new ≡ Wait (waiting_at freeze.now level) }
+{
+    let begun = Sum { words: 0, total: 0 };
+    let write = DownWrite {
+        level,
+        tasks: freeze.tasks,
+        processors: freeze.processors,
+        step: DownWriteStep::Sums(begun),
+    };
+    let step = FreezeStep::Waits(write);
+    *rest = Next::Wait(Freeze { step, ..*freeze });
     false
 }
 
@@ -257,8 +275,7 @@ fn sum(
     if sum_counts(gates, seat, accesses, freeze, level, so_far) {
         return true;
     }
-    let begun = Sum { words: 0, total: 0 };
-    leave_to_wait(freeze, level, DownWriteStep::Sums(begun), rest)
+    leave_to_ask(freeze, level, rest)
 }
 
 /// Sets `block` and sums the read counts. Whether the level is closed.

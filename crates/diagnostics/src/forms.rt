@@ -33,7 +33,7 @@ pub(crate) static CLAIMS: [Form; 4] = [
 ];
 
 /// The arguments of `hook`, the line of a race by which a hook fails in a task's last call.
-pub(crate) const HOOK: &str = "sync|freeze|unfreeze|reconfigure CODE";
+pub(crate) const HOOK: &str = "sync|freeze|unfreeze|reconfigure|wait CODE";
 
 /// The commands that stand behind the number of a task only in a race, with their arguments.
 pub(crate) static HOOKS: [Form; 1] = [("hook", HOOK)];
@@ -56,12 +56,12 @@ pub(crate) static CHOICES: [Form; 5] = [
     ("[kernel|user]", "kernel|user is expected"),
     ("file|dir", "file|dir is expected"),
     (
-        "[sync|freeze|unfreeze|reconfigure",
-        "sync|freeze|unfreeze|reconfigure is expected",
+        "[sync|freeze|unfreeze|reconfigure|wait",
+        "sync|freeze|unfreeze|reconfigure|wait is expected",
     ),
     (
-        "sync|freeze|unfreeze|reconfigure",
-        "sync|freeze|unfreeze|reconfigure is expected",
+        "sync|freeze|unfreeze|reconfigure|wait",
+        "sync|freeze|unfreeze|reconfigure|wait is expected",
     ),
 ];
 

@@ -1,30 +1,35 @@
--- The order of events of a freeze of the superblock: which word an event touches and how, and what comes after it. Two events are decided
+-- The order of events of a freeze of the superblock: which word an event touches and how, and what comes after it. Three events are decided
 -- by the answer of the file system.
 use Rattle.std.specs.Prelude.{ℕ, ◌+◌, ◌-◌, ◌==◌, if◌then◌else◌, true, Option, Some, None, Ok, Err}
 use Rattle.access_model.specs.declared.actions.{Action.{Action, TheVariants.{Stage as StageAction, Hold}}, Holders.{Holders}}
 use Rattle.access_model.specs.declared.{errors.GateError.TheVariants.{Busy, Hook}, replies.Next.{Next, TheVariants.{Go, Wait, Done}}}
 use Rattle.access_model.specs.{declared.replies.Reply.TheVariants.{Unit as UnitReply}, Holders.{nobody, held_by, with_holder}}
-use Rattle.cpu_words.specs.declared.names.WordName.{WordName, TheVariants.{Umount, Stage, Holders as HoldersWord, SbFlags}}
+use Rattle.cpu_words.specs.declared.names.WordName.{WordName, TheVariants.{Umount, Stage, Holders as HoldersWord, SbFlags, Block}}
 use Rattle.cpu_words.specs.{declared.events.Touch.{Touch, TheVariants.{Load, Store, Cas}}, Hooks.{HookAnswer}}
 use Rattle.node_words.specs.{declared.marks.ClearMarks.{ClearMarks}, Phases.{clear_next, clear_after}}
-use Rattle.percpu_rwsem.specs.declared.writers.{DownWrite.{DownWrite}, UpWrite.{UpWrite}}
+use Rattle.percpu_rwsem.specs.declared.writers.{DownWrite.{DownWrite}, DownWriteStep.{DownWriteStep, TheVariants.{Sums}}, UpWrite.{UpWrite}}
+use Rattle.percpu_rwsem.specs.declared.transitions.{Transition.TheVariants.{Loads}, TransitionNext.{TransitionNext, TheVariants.{More, Undefined, Made}}}
+use Rattle.percpu_rwsem.specs.{SyncWords.{on_exit}, Transitions.{transition_next, transition_after}}
 use Rattle.percpu_rwsem.specs.Writers.{down_write_next, down_write_after, up_write_next, up_write_after}
-use Rattle.freeze_levels.specs.declared.{hooks.HookKind.{HookKind, TheVariants.{Sync, FreezeFs}}, freezes.Freeze.{Freeze}}
+use Rattle.freeze_levels.specs.declared.{hooks.HookKind.{HookKind, TheVariants.{Sync, FreezeFs, KeepWaiting}}, freezes.Freeze.{Freeze}}
 use Rattle.freeze_levels.specs.declared.freezes.FreezeStep.{FreezeStep}
 use Rattle.freeze_levels.specs.declared.freezes.FreezeStep.TheVariants.{Locks, LoadsStage, LoadsHolders, Holds, LoadsSuperblock}
 use Rattle.freeze_levels.specs.declared.freezes.FreezeStep.TheVariants.{CompletesReadOnly, SetsWrite, Unlocks, Closes, LocksAgain}
 use Rattle.freeze_levels.specs.declared.freezes.FreezeStep.TheVariants.{SetsPageFault, Cleans, SetsFs, SetsComplete, Reopens, Releases}
+use Rattle.freeze_levels.specs.declared.freezes.FreezeStep.TheVariants.{Waits, Undoes, LocksToUndo, GivesUp}
 use Rattle.freeze_levels.specs.{Holders.{word_of, holders_in}, Levels.{closing, reopening}}
 
 -- the hook whose answer a step reads
 abbrev pub freeze_hook : FreezeStep → Option HookKind
 freeze_hook SetsFs = Some Sync
 freeze_hook SetsComplete = Some FreezeFs
+freeze_hook (Waits d) = Some KeepWaiting
 freeze_hook step = None
 
 -- freeze: under `umount` store stage 1, and give it back while level 1 is closed; under `umount` again store stage 2, close level 2 and
 -- clear the dirty marks; store 3 and close level 3; store 4, and its holder. Where a hook fails, store 0 and reopen the levels that are
--- closed. Where all is frozen already, store its holder beside the others
+-- closed. Where all is frozen already, store its holder beside the others. Where a sum finds somebody, the hook says whether to wait, which is
+-- to sum again; else give the level up: clear its `block`, leave its rcu_sync, and under `umount` store 0 and reopen the levels below it
 abbrev pub freeze_next : Freeze → FreezeStep → HookAnswer → WordName × Touch
 freeze_next x Locks hook = (Umount, Cas 0 (x.task + 1))
 freeze_next x LoadsStage hook = (Stage, Load)
@@ -35,6 +40,11 @@ freeze_next x CompletesReadOnly hook = (Stage, Store 4)
 freeze_next x SetsWrite hook = (Stage, Store 1)
 freeze_next x Unlocks hook = (Umount, Store 0)
 freeze_next x (Closes d) hook = down_write_next d d.step
+freeze_next x (Waits d) (Ok answer) = down_write_next d d.step
+freeze_next x (Waits d) (Err code) = (Block d.level, Store 0)
+freeze_next x (Undoes level transition code) hook = transition_next level transition
+freeze_next x (LocksToUndo code) hook = (Umount, Cas 0 (x.task + 1))
+freeze_next x (GivesUp level code) hook = (Stage, Store 0)
 freeze_next x LocksAgain hook = (Umount, Cas 0 (x.task + 1))
 freeze_next x SetsPageFault hook = (Stage, Store 2)
 freeze_next x (Cleans marks) hook = clear_next marks
@@ -65,10 +75,15 @@ level_closed level nodes =
     if level == 2 then Cleans record { node = 1; nodes = nodes } else
     SetsComplete
 
+-- a down-write waits: where its sum found somebody, the hook is asked before the next one; other waits end by themselves
+abbrev pub closing_waits : DownWrite → DownWriteStep → FreezeStep
+closing_waits d (Sums sum) = Waits d
+closing_waits d step = Closes d
+
 -- what comes after an event of the closing of a level
 abbrev pub after_closing : Freeze → ℕ → Next DownWrite → Next Freeze
 after_closing x level (Go d) = Go (at_freeze x (Closes d))
-after_closing x level (Wait d) = Wait (at_freeze x (Closes d))
+after_closing x level (Wait d) = Wait (at_freeze x (closing_waits d d.step))
 after_closing x level (Done answer) = Go (at_freeze x (level_closed level x.nodes))
 
 -- what comes after the clearing of a mark: after the last one the file system is asked for its sync
@@ -86,6 +101,16 @@ abbrev pub after_reopening : Freeze → ℕ → ℕ → Next UpWrite → Next Fr
 after_reopening x level code (Go u) = Go (at_freeze x (Reopens u code))
 after_reopening x level code (Wait u) = Wait (at_freeze x (Reopens u code))
 after_reopening x level code (Done answer) = Go (at_freeze x (freeze_fails (level - 1) code))
+
+-- a level is given up, with its rcu_sync left: `umount` is taken for level 1, and owned at the others
+abbrev pub freeze_undone : ℕ → ℕ → FreezeStep
+freeze_undone level code = if level == 1 then LocksToUndo code else GivesUp level code
+
+-- what comes after an event by which the rcu_sync of a level that is given up is left
+abbrev pub after_undoing : Freeze → ℕ → ℕ → TransitionNext → Next Freeze
+after_undoing x level code (More transition) = Go (at_freeze x (Undoes level transition code))
+after_undoing x level code Undefined = Go (at_freeze x (Undoes level Loads code))
+after_undoing x level code (Made state) = Go (at_freeze x (freeze_undone level code))
 
 -- a stage was stored, which is an action, and this step comes
 abbrev pub stage_stored : Freeze → ℕ → FreezeStep → Next Freeze × Option Action
@@ -109,6 +134,15 @@ found_holders x held = if held_by held x.holder then Releases (Err Busy) else Ho
 abbrev pub held_now : Freeze → Next Freeze × Option Action
 held_now x = (Go (at_freeze x (Releases (Ok UnitReply))), Some (Hold x.holder))
 
+-- an event of the closing of a level, which found this
+abbrev pub freeze_closed : Freeze → DownWrite → ℕ → Next Freeze × Option Action
+freeze_closed x d found = (after_closing x d.level (down_write_after d d.step found).0, (down_write_after d d.step found).1)
+
+-- the first event of another sum, or the one by which the level is given up: nobody has passed it, so that it is no action
+abbrev pub freeze_waited : Freeze → DownWrite → ℕ → HookAnswer → Next Freeze × Option Action
+freeze_waited x d found (Ok answer) = freeze_closed x d found
+freeze_waited x d found (Err code) = (Go (at_freeze x (Undoes d.level Loads code)), None)
+
 -- what comes after each event of a freeze, in its own phases
 abbrev pub freeze_after : Freeze → FreezeStep → ℕ → HookAnswer → Next Freeze × Option Action
 freeze_after x Locks found hook = (freeze_locked x Locks found LoadsStage, None)
@@ -127,8 +161,11 @@ freeze_after x LoadsSuperblock found hook = (
 freeze_after x CompletesReadOnly found hook = stage_stored x 4 (Holds nobody)
 freeze_after x SetsWrite found hook = stage_stored x 1 Unlocks
 freeze_after x Unlocks found hook = (Go (at_freeze x (freeze_closes x 1)), None)
-freeze_after x (Closes d) found hook =
-    (after_closing x d.level (down_write_after d d.step found).0, (down_write_after d d.step found).1)
+freeze_after x (Closes d) found hook = freeze_closed x d found
+freeze_after x (Waits d) found hook = freeze_waited x d found hook
+freeze_after x (Undoes level transition code) found hook = (after_undoing x level code (transition_after on_exit transition found), None)
+freeze_after x (LocksToUndo code) found hook = (freeze_locked x (LocksToUndo code) found (GivesUp 1 code), None)
+freeze_after x (GivesUp level code) found hook = stage_stored x 0 (freeze_fails (level - 1) code)
 freeze_after x LocksAgain found hook = (freeze_locked x LocksAgain found SetsPageFault, None)
 freeze_after x SetsPageFault found hook = stage_stored x 2 (freeze_closes x 2)
 freeze_after x (Cleans marks) found hook = (after_clearing x (clear_after marks found).0, (clear_after marks found).1)

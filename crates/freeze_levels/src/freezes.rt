@@ -3,6 +3,7 @@
 ghost use Rattle.std.specs.Prelude.{◌≡◌, Ok};
 ghost use Rattle.access_model.specs.declared.replies.Next.TheVariants.{Go};
 ghost use Rattle.freeze_levels.specs.declared.freezes.FreezeStep.TheVariants.{Closes, Locks};
+ghost use Rattle.percpu_rwsem.specs.declared.writers.DownWriteStep.TheVariants.{Sums};
 ghost use Rattle.freeze_levels.specs.Freezes.{
   freeze_next,
   freeze_after,
@@ -17,6 +18,11 @@ ghost use Rattle.freeze_levels.specs.Freezes.{
   stage_stored,
   level_closed,
   after_closing,
+  closing_waits,
+  freeze_closed,
+  freeze_waited,
+  freeze_undone,
+  after_undoing,
   after_clearing,
   freeze_fails,
   after_reopening,
@@ -28,7 +34,7 @@ use crate::levels::{closing, reopening};
 use access_model::{Action, GateError, Holder, Holders, Next, Reply};
 use cpu_words::{Touch, WordName};
 use node_words::ClearMarks;
-use percpu_rwsem::{DownWrite, UpWrite};
+use percpu_rwsem::{DownWrite, DownWriteStep, SyncWord, Transition, TransitionNext, UpWrite};
 
 /// What the next event of a freeze is (`freeze_super`).
 #[derive(Clone, Copy, PartialEq, Eq)]
@@ -51,6 +57,22 @@ pub enum FreezeStep {
     Unlocks,
     /// Closes a level (`sb_wait_write`).
     Closes(DownWrite),
+    /// Loads the first word of another sum at a level where somebody was found, or clears its `block` and so gives it up, as the file system
+    /// answers `keep_waiting`.
+    Waits(DownWrite),
+    /// Leaves the `rcu_sync` of a level that it has given up, as the hook answered this code.
+    Undoes {
+        level: u8,
+        transition: Transition,
+        code: u16,
+    },
+    /// Takes `umount` again where it is free, with level 1 given up.
+    LocksToUndo(u16),
+    /// Stores SB_UNFROZEN, with this level given up and those below it still closed.
+    GivesUp {
+        level: u8,
+        code: u16,
+    },
     /// Takes `umount` again where it is free, with level 1 closed.
     LocksAgain,
     /// Stores SB_FREEZE_PAGEFAULT.
@@ -62,7 +84,10 @@ pub enum FreezeStep {
     /// Stores SB_FREEZE_COMPLETE, or SB_UNFROZEN, as the file system answers `freeze_fs`.
     SetsComplete,
     /// Reopens a level, as a hook failed with this code (`sb_freeze_unlock`).
-    Reopens { write: UpWrite, code: u16 },
+    Reopens {
+        write: UpWrite,
+        code: u16,
+    },
     /// Gives `umount` back, and answers this.
     Releases(Result<Reply, GateError>),
 }
@@ -102,6 +127,7 @@ impl Freeze {
         match self.step {
             FreezeStep::SetsFs => Some(HookKind::Sync),
             FreezeStep::SetsComplete => Some(HookKind::FreezeFs),
+            FreezeStep::Waits(_) => Some(HookKind::KeepWaiting),
             _ => None,
         }
     }
@@ -113,7 +139,7 @@ impl Freeze {
         ensures { result ≡ freeze_next self self.step hook }
     {
         match self.step {
-            FreezeStep::Locks | FreezeStep::LocksAgain => {
+            FreezeStep::Locks | FreezeStep::LocksAgain | FreezeStep::LocksToUndo(_) => {
                 let put = self.task as u64 + 1;
                 (WordName::Umount, Touch::Cas { expect: 0, put })
             }
@@ -135,9 +161,19 @@ impl Freeze {
                 Ok(()) => (WordName::Stage, Touch::Store(4)),
                 Err(_) => (WordName::Stage, Touch::Store(0)),
             },
+            FreezeStep::Waits(write) => match hook {
+                Ok(()) => write.next(),
+                Err(_) => (WordName::Block(write.level), Touch::Store(0)),
+            },
+            FreezeStep::GivesUp { .. } => (WordName::Stage, Touch::Store(0)),
             FreezeStep::Closes(write) => write.next(),
             FreezeStep::Cleans(clearing) => clearing.next(),
             FreezeStep::Reopens { write, .. } => write.next(),
+            FreezeStep::Undoes {
+                level,
+                transition,
+                ..
+            } => transition.next(level),
             FreezeStep::Unlocks | FreezeStep::Releases(_) => (WordName::Umount, Touch::Store(0)),
         }
     }
@@ -177,9 +213,29 @@ impl Freeze {
     {
         match next {
             Next::Go(write) => Next::Go(self.at(FreezeStep::Closes(write))),
-            Next::Wait(write) => Next::Wait(self.at(FreezeStep::Closes(write))),
+            Next::Wait(write) => Next::Wait(self.at(waiting(write))),
             Next::Done(_) => Next::Go(self.at(closed(level, self.nodes))),
         }
+    }
+
+    /// What comes after an event by which the `rcu_sync` of a level that is given up is left.
+    fn after_undoing(self, level: u8, code: u16, next: TransitionNext) -> Next<Freeze>
+        ensures { result ≡ after_undoing self level code next }
+    {
+        let step = match next {
+            TransitionNext::More(transition) => FreezeStep::Undoes {
+                level,
+                transition,
+                code,
+            },
+            TransitionNext::Undefined => FreezeStep::Undoes {
+                level,
+                transition: Transition::Loads,
+                code,
+            },
+            TransitionNext::Made(_) => undone(level, code),
+        };
+        Next::Go(self.at(step))
     }
 
     /// What comes after the clearing of a node's mark.
@@ -258,10 +314,32 @@ impl Freeze {
     /// What comes after an event of this down-write, which found this, and the action that the event adds.
     #[inline(always)]
     fn after_write(self, write: DownWrite, found: u64) -> (Next<Freeze>, Option<Action>)
-        ensures { result ≡ freeze_after self (Closes write) found (Ok tt) }
+        ensures { result ≡ freeze_closed self write found }
     {
         let (next, action) = write.after(found);
         (self.after_closing(write.level, next), action)
+    }
+
+    /// What comes after the event that `keep_waiting` decides: another sum has begun, or the level is given up.
+    fn waited(
+        self,
+        write: DownWrite,
+        found: u64,
+        hook: Result<(), u16>,
+    ) -> (Next<Freeze>, Option<Action>)
+        ensures { result ≡ freeze_waited self write found hook }
+    {
+        match hook {
+            Ok(()) => self.after_write(write, found),
+            Err(code) => {
+                let step = FreezeStep::Undoes {
+                    level: write.level,
+                    transition: Transition::Loads,
+                    code,
+                };
+                (Next::Go(self.at(step)), None)
+            }
+        }
     }
 
     /// What comes after the event, which found this, where the file system answers this, and the action that the event adds. A freeze is
@@ -307,6 +385,24 @@ impl Freeze {
             FreezeStep::SetsFs => return self.synced(hook),
             FreezeStep::SetsComplete => return self.completed(hook),
             FreezeStep::Closes(write) => return self.after_write(write, found),
+            FreezeStep::Waits(write) => return self.waited(write, found, hook),
+            FreezeStep::Undoes {
+                level,
+                transition,
+                code,
+            } => {
+                let next = transition.after(found, SyncWord::on_exit);
+                return (self.after_undoing(level, code, next), None);
+            }
+            FreezeStep::LocksToUndo(code) => {
+                return (
+                    self.locked(found, FreezeStep::GivesUp { level: 1, code }),
+                    None,
+                );
+            }
+            FreezeStep::GivesUp { level, code } => {
+                return self.stored(0, failing(level.saturating_sub(1), code));
+            }
             FreezeStep::Cleans(clearing) => {
                 let (next, action) = clearing.after(found);
                 return (self.after_clearing(next), action);
@@ -331,6 +427,29 @@ fn closed(level: u8, nodes: u8) -> FreezeStep
         1 => FreezeStep::LocksAgain,
         2 => FreezeStep::Cleans(ClearMarks::start(nodes)),
         _ => FreezeStep::SetsComplete,
+    }
+}
+
+/// The step of a down-write that waits: where its sum found somebody, the file system is asked before the next one.
+#[inline(always)]
+fn waiting(write: DownWrite) -> FreezeStep
+    ensures { result ≡ closing_waits write write.step }
+{
+    match write.step {
+        DownWriteStep::Sums(_) => FreezeStep::Waits(write),
+        _ => FreezeStep::Closes(write),
+    }
+}
+
+/// What comes after a level is given up, as the hook answered this code: level 1 with `umount` given back.
+#[inline(always)]
+fn undone(level: u8, code: u16) -> FreezeStep
+    ensures { result ≡ freeze_undone level code }
+{
+    if level == 1 {
+        FreezeStep::LocksToUndo(code)
+    } else {
+        FreezeStep::GivesUp { level, code }
     }
 }
 

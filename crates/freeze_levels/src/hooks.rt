@@ -5,7 +5,7 @@
 pub trait FsHooks {
     ghost use Rattle.cpu_words.specs.Hooks.{HookAnswer};
     ghost use Rattle.freeze_levels.specs.declared.hooks.HookCall.{HookCall as HookCallType};
-    ghost use Rattle.freeze_levels.specs.declared.hooks.HookCall.TheVariants.{Sync, FreezeFs, UnfreezeFs, Reconfigure};
+    ghost use Rattle.freeze_levels.specs.declared.hooks.HookCall.TheVariants.{Sync, FreezeFs, UnfreezeFs, Reconfigure, KeepWaiting};
 
     /// What a hook that is asked may answer, and what the file system may be then. One that says nothing of it may answer anything.
     ghost answers: { HookCallType → Self → HookAnswer → Self → Type 0 } = { λ _ _ _ _. Unit {0} };
@@ -25,6 +25,11 @@ pub trait FsHooks {
     /// The file system's own part of a remount, to read-only or to writable (`reconfigure`).
     fn reconfigure(&mut self, read_only: bool) -> Result<(), u16>
         ensures { answers (Reconfigure read_only) self.old result self.new };
+
+    /// Whether a freeze that has found somebody inside this level, 1 to 3, goes on waiting. It is asked after each sum that finds
+    /// somebody. After an Err the freeze gives up: it reopens what it has closed, and ends with `GateError::Hook` of that code.
+    fn keep_waiting(&mut self, level: u8) -> Result<(), u16>
+        ensures { answers (KeepWaiting level) self.old result self.new };
 }
 
 /// A file system of which nothing is to be done: each hook answers Ok.
@@ -49,6 +54,11 @@ impl FsHooks for () {
         let _ = read_only;
         Ok(())
     }
+
+    fn keep_waiting(&mut self, level: u8) -> Result<(), u16> {
+        let _ = level;
+        Ok(())
+    }
 }
 
 /// Which hook an event reads the answer of.
@@ -62,6 +72,8 @@ pub enum HookKind {
     UnfreezeFs,
     /// `FsHooks::reconfigure`.
     Reconfigure,
+    /// `FsHooks::keep_waiting`.
+    KeepWaiting,
 }
 
 /// A hook with what it is asked.
@@ -75,6 +87,8 @@ pub enum HookCall {
     UnfreezeFs,
     /// `FsHooks::reconfigure`.
     Reconfigure { read_only: bool },
+    /// `FsHooks::keep_waiting`.
+    KeepWaiting { level: u8 },
 }
 
 impl HookCall {
@@ -87,6 +101,7 @@ impl HookCall {
             HookCall::FreezeFs => hooks.freeze_fs(),
             HookCall::UnfreezeFs => hooks.unfreeze_fs(),
             HookCall::Reconfigure { read_only } => hooks.reconfigure(read_only),
+            HookCall::KeepWaiting { level } => hooks.keep_waiting(level),
         }
     }
 }

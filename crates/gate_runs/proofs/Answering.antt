@@ -172,14 +172,19 @@ module _ {H : Type 0} (answers : HookCall → DealtNumbers → H → HookAnswer 
   none_failed call code at earlier before after asked =
       let no : ◌≡◌ {A = HookAnswer} (Err code) (Ok tt) = agree call at asked.0 after (Err code) asked.2 in let f : ⊥ = cc in f
 
+  last_failed : (code : ℕ) (call : HookCall) (at : DealtNumbers) (earlier asks : List Ask) (before after : H) →
+      asks ≡ failed call code at ∷ earlier → WereAsked answers asks before after → ⊥
+  last_failed code call at earlier asks before after is asked =
+      none_failed call code at earlier before after (subst (λ l. WereAsked answers l before after) is asked)
+
   -- so a freeze is refused as busy alone
   freeze_ends : (c : Config) (trace : List Traced) (added : List Action) (asks : List Ask) (before after : H) (refusal : GateError) →
       IsHonestAnswer c (Freeze User) (Err refusal) trace → AskedByRefusedFreeze refusal added asks → WereAsked answers asks before after →
       refusal ≡ Busy
   freeze_ends c trace added asks before after Busy honest told asked = refl
   freeze_ends c trace added asks before after (Hook code) honest told asked = elim told [
-    | inl last ↦ absurd (none_failed FreezeFs code last.1.0 (agreed Sync last.1.1 ∷ []) before after (subst (λ l. WereAsked answers l before after) last.1.2 asked))
-    | inr first ↦ absurd (none_failed Sync code first.1.0 [] before after (subst (λ l. WereAsked answers l before after) first.1.1 asked))
+    | inl since ↦ absurd (last_failed code since.1.0 since.1.1 since.1.2 asks before after since.1.3 asked)
+    | inr before_sync ↦ absurd (last_failed code before_sync.1.0 before_sync.1.1 before_sync.1.2 asks before after before_sync.1.3 asked)
   ]
   freeze_ends c trace added asks before after refusal honest told asked = absurd honest
 

@@ -5,6 +5,7 @@ pub mod LevelPositions
 pub mod PositionRoles
 pub mod FreezeCompletes
 pub mod UpWrite
+pub mod GivenUp
 pub mod DownWrite
 pub mod Runs
 pub mod Parts

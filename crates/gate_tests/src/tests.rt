@@ -9,6 +9,7 @@ mod lines;
 mod lost;
 mod meetings;
 mod pairs;
+mod patience;
 mod runs;
 mod shown;
 mod tasks;
@@ -31,6 +32,7 @@ const IN_TURN: &[&str] = &[
     calls::BY_STEPS,
     calls::CLOSURES,
     failures::FAILURES,
+    failures::GIVEN_UP,
     worked::ALONE,
     worked::LIMITS,
 ];

@@ -6,7 +6,8 @@ use Rattle.composite_ops.specs.declared.file_closes.phases.ClosePhase.{ClosePhas
 use Rattle.composite_ops.specs.declared.file_closes.phases.ClosePhase.TheVariants.{LowersCount, RefundsBlocks as CloseRefundsBlocks, Uncounts as CloseUncounts}
 use Rattle.composite_ops.specs.declared.file_closes.phases.Closing.{Closing}
 use Rattle.composite_ops.specs.declared.write_access.phases.WritePhase.{WritePhase, TheVariants.{Drops as WriteDrops, Ends, GivesBack, Takes, Wants as WriteWants}}
-use Rattle.freeze_levels.specs.declared.freezes.FreezeStep.{FreezeStep, TheVariants.{Cleans, Closes, Holds, Reopens as FreezeReopens}}
+use Rattle.freeze_levels.specs.declared.freezes.FreezeStep.{FreezeStep, TheVariants.{Cleans, Closes, Holds, Reopens as FreezeReopens, Waits as FreezeWaits}}
+use Rattle.freeze_levels.specs.declared.freezes.FreezeStep.TheVariants.{Undoes, GivesUp}
 use Rattle.freeze_levels.specs.declared.thaws.ThawStep.{ThawStep, TheVariants.{Leaves, Reopens as ThawReopens}}
 use Rattle.gate_world.specs.{Holdings.Holdings, Operations.{holds_none, holds_none_from, is_writer, may_mark}, Remounts.RemountFits, Roles.{close_file, tree_file}}
 use Rattle.gate_world.specs.{Trees.tree_bounds, declared.{config.Config.Config, work.Phase.{Phase, TheVariants.{Callbacks, Closes, DownReads, Freezes}}}}
@@ -14,7 +15,8 @@ use Rattle.gate_world.specs.declared.work.Phase.TheVariants.{Mounts, Remounts, T
 use Rattle.node_words.specs.{Nodes.{IsLawful}, declared.nodes.NodeWord.{NodeWord}}
 use Rattle.gated_tree.specs.{Calls.{TreePhaseFits}, declared.phases.TreePhase.{TreePhase}}
 use Rattle.gated_tree.specs.declared.phases.TreePhase.TheVariants.{ClearMarks as TreeClears, Mark as TreeMarks, OpenFile as OpensOne, Snapshot as Snapshots}
-use Rattle.freeze_laws.specs.levels.Operations.{KnowsCallback, KnowsDownWrite, KnowsUpWrite}
+use Rattle.freeze_laws.specs.levels.{Exchanges.KnowsWords, Operations.{KnowsCallback, KnowsDownWrite, KnowsUpWrite}}
+use Rattle.percpu_rwsem.specs.{SyncWords.on_exit, Writers.sum_begun}
 use Rattle.mount_counts.specs.declared.phases.{ChangeStep.{ChangeStep, TheVariants.Sums}, MountPhase.{MountPhase, TheVariants.{Change, Drop, Want}}}
 use Rattle.percpu_rwsem.specs.declared.{callbacks.CallbackStep.{CallbackStep, TheVariants.AwaitsSections}, readers.DownRead.DownRead}
 use Rattle.percpu_rwsem.specs.declared.{readers.DownReadStep.{DownReadStep, TheVariants.LeavesAdmitted}, writers.DownWrite.DownWrite}
@@ -64,10 +66,13 @@ DownWriteFits c d = (1 ≤ d.level) × (d.level ≤ 3) × (d.tasks ≡ c.tasks) 
 abbrev pub UpWriteFits : UpWrite → Type 0
 UpWriteFits u = (1 ≤ u.level) × (u.level ≤ 3) × KnowsUpWrite u.step
 
--- a freeze stores its holder beside others, and clears the marks of nodes but the root
+-- a freeze stores its holder beside others, and clears the marks of nodes but the root; where it waits, its next sum is to begin
 abbrev pub FreezeFits : Config → Holder → FreezeStep → Type 0
 FreezeFits c holder (Holds beside) = held_by beside holder ≡ false
 FreezeFits c holder (Closes d) = DownWriteFits c d
+FreezeFits c holder (FreezeWaits d) = DownWriteFits c d × (d.step ≡ sum_begun)
+FreezeFits c holder (Undoes level transition code) = (1 ≤ level) × (level ≤ 3) × KnowsWords on_exit transition
+FreezeFits c holder (GivesUp level code) = (1 ≤ level) × (level ≤ 3)
 FreezeFits c holder (Cleans marks) = (marks.nodes ≡ c.nodes) × (1 ≤ marks.node) × (marks.node < c.nodes)
 FreezeFits c holder (FreezeReopens u code) = UpWriteFits u
 FreezeFits c holder step = Unit {0}

@@ -161,6 +161,10 @@ NothingIsLeft c w = ((t : ℕ) → t < c.tasks → (w.views t).phase ≡ None) �
 abbrev pub stage_stored : FreezeStep → Option ℕ
 stage_stored FreezeStep.Unlocks = Some 1
 stage_stored (FreezeStep.Closes d) = Some d.level
+stage_stored (FreezeStep.Waits d) = Some d.level
+stage_stored (FreezeStep.Undoes level transition code) = Some level
+stage_stored (FreezeStep.LocksToUndo code) = Some 1
+stage_stored (FreezeStep.GivesUp level code) = Some level
 stage_stored FreezeStep.LocksAgain = Some 1
 stage_stored FreezeStep.SetsPageFault = Some 1
 stage_stored (FreezeStep.Cleans marks) = Some 2

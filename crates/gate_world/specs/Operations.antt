@@ -32,9 +32,9 @@ use Rattle.gate_world.specs.declared.work.Phase.{Phase, TheVariants.{Mounts, Rem
 use Rattle.gate_world.specs.traces.Found.{found_read_only, found_hold, found_taken, found_sealed, SeenIn, found_frozen, found_removed, found_dropped, finds_hold}
 use Rattle.gate_world.specs.traces.Found.{finds_taken, each_event, looks_again, counts_loaded, IsEachCount, sum_loaded, ReadAnswer, cleans, newest, found_closed}
 use Rattle.gate_world.specs.traces.Found.{left_closed, holds_since, finds_inside, finds_none_queued, transitions_made, found_incomplete, found_complete, found_moving}
-use Rattle.gate_world.specs.traces.Found.{found_held, found_unheld, found_shared, stored_stage, finds_readers, FoundInside}
+use Rattle.gate_world.specs.traces.Found.{found_held, found_unheld, found_shared, stored_stage, gave_up, finds_readers, FoundInside}
 use Rattle.gate_world.specs.declared.views.Traced.{Traced}
-use Rattle.cpu_words.specs.declared.names.WordName.{WordName, TheVariants.{Umount, Remount, Stage}}
+use Rattle.cpu_words.specs.declared.names.WordName.{WordName, TheVariants.{Umount, Remount, Stage, Block}}
 
 -- where an operation begins, and who may begin it
 pub record OpRow : Type 1 where
@@ -341,27 +341,39 @@ two_levels_closed trace = cleans trace ++ (Pass 2 ∷ (StageAction 2 ∷ (Pass 1
 abbrev pub all_levels_closed : List Traced → List Action
 all_levels_closed trace = Pass 3 ∷ (StageAction 3 ∷ two_levels_closed trace)
 
--- A freeze has added all this, stage 4 and its holder; stage 4 and its holder, where it found the superblock read-only; its holder alone,
--- where it found all frozen. Where the file system failed, stage 0 stands in their place, and the levels that it had closed are reopened,
--- the highest first: two, where it could not be synced, and all three, where stage 3 was stored. It has added nothing where it is busy.
-abbrev pub freeze_adds : Holder → Result Reply GateError → List Traced → List Action
-freeze_adds holder (Ok reply) trace =
-    Hold holder ∷ (
-    if found_complete trace then [] else StageAction 4 ∷ (if found_sealed trace then [] else all_levels_closed trace)
-    )
-freeze_adds holder (Err (Hook code)) trace =
+-- What a freeze has added whose hook failed, where it had given up this level: stage 0, and the levels that it had passed reopened, the
+-- highest first. Where it had given up none: two, where it could not be synced, and all three, where stage 3 was stored.
+abbrev pub failed_adds : ℕ → List Traced → List Action
+failed_adds zero trace =
     Reopen 1 ∷ (Reopen 2 ∷ (
     if stored_stage 3 trace
     then Reopen 3 ∷ (StageAction 0 ∷ all_levels_closed trace)
     else StageAction 0 ∷ two_levels_closed trace
     ))
+failed_adds (suc zero) trace = StageAction 0 ∷ (StageAction 1 ∷ [])
+failed_adds (suc (suc zero)) trace = Reopen 1 ∷ (StageAction 0 ∷ (StageAction 2 ∷ (Pass 1 ∷ (StageAction 1 ∷ []))))
+failed_adds (suc (suc (suc level))) trace = Reopen 1 ∷ (Reopen 2 ∷ (StageAction 0 ∷ (StageAction 3 ∷ two_levels_closed trace)))
+
+-- the word whose clearing the hook decided: the stage, or the `block` of the level that it gave up
+abbrev pub word_decided : ℕ → WordName
+word_decided zero = Stage
+word_decided (suc level) = Block (suc level)
+
+-- A freeze has added all this, stage 4 and its holder; stage 4 and its holder, where it found the superblock read-only; its holder alone,
+-- where it found all frozen. Where a hook failed, it has added what it undid, too. It has added nothing where it is busy.
+abbrev pub freeze_adds : Holder → Result Reply GateError → List Traced → List Action
+freeze_adds holder (Ok reply) trace =
+    Hold holder ∷ (
+    if found_complete trace then [] else StageAction 4 ∷ (if found_sealed trace then [] else all_levels_closed trace)
+    )
+freeze_adds holder (Err (Hook code)) trace = failed_adds (gave_up trace) trace
 freeze_adds holder (Err refusal) trace = []
 
 -- a freeze is refused as busy where it found another one under way, or its holder among those who hold one, and by the file system where
--- that answered so at the store of stage 0
+-- that answered so at the store of stage 0, or, where it gave up, at the store of its level's `block`
 abbrev freeze_honest : Holder → GateError → List Traced → Type 0
 freeze_honest holder Busy trace = (found_moving trace ≡ true) ⊎ (found_held holder trace ≡ true)
-freeze_honest holder (Hook code) trace = ReadAnswer Stage (Err code) trace
+freeze_honest holder (Hook code) trace = ReadAnswer (word_decided (gave_up trace)) (Err code) trace
 freeze_honest holder refusal trace = ⊥
 
 -- A thaw has added that its holder left, stage 0 and the levels reopened, the highest first; that and stage 0, where it found the superblock

@@ -11,7 +11,7 @@ use Rattle.percpu_rwsem.specs.declared.readers.{DownRead.DownRead, DownReadStep.
 use Rattle.percpu_rwsem.specs.declared.writers.{DownWriteStep.DownWriteStep, UpWriteStep.UpWriteStep}
 use Rattle.freeze_levels.specs.declared.{freezes.FreezeStep.FreezeStep, hooks.HookKind.HookKind, thaws.ThawStep.ThawStep}
 use Rattle.freeze_levels.specs.holder_laws.Roles.{HolderRole, Apart, Found, Fills, Empties}
-use Rattle.freeze_laws.specs.levels.{Operations.{down_read_role, down_write_role, up_write_role}, Roles.{SyncRole, Out as IsApart, Closed}}
+use Rattle.freeze_laws.specs.levels.{Operations.{down_read_role, down_write_role, up_write_role}, Roles.{SyncRole, Out as IsApart, Closed, Entered}}
 use Rattle.freeze_laws.specs.stages.Roles.{Place, Before, Closing, HasPassed, StageRole, Aside, Owning, Remounting, Freezing, Reopening}
 use Rattle.composite_ops.specs.declared.{write_access.phases.WritePhase.{WritePhase}, file_closes.phases.ClosePhase.{ClosePhase}}
 
@@ -131,9 +131,17 @@ pub record LevelPosition : Type 0 where
 abbrev pub closed_to : ℕ → LevelPosition
 closed_to level = record { level = level; count = Passed; sync = Closed }
 
+-- the levels below this one are closed and passed, and it is open
+abbrev pub open_from : ℕ → LevelPosition
+open_from level = record { level = level; count = CountsNot; sync = IsApart }
+
 -- a freeze
 abbrev pub freeze_position : FreezeStep → Option LevelPosition
 freeze_position (FreezeStep.Closes d) = Some record { level = d.level; count = down_count_role d.step; sync = down_write_role d.step }
+freeze_position (FreezeStep.Waits d) = Some record { level = d.level; count = down_count_role d.step; sync = down_write_role d.step }
+freeze_position (FreezeStep.Undoes level transition code) = Some record { level = level; count = CountsNot; sync = Entered }
+freeze_position (FreezeStep.LocksToUndo code) = Some (open_from 1)
+freeze_position (FreezeStep.GivesUp level code) = Some (open_from level)
 freeze_position FreezeStep.LocksAgain = Some (closed_to 1)
 freeze_position FreezeStep.SetsPageFault = Some (closed_to 1)
 freeze_position (FreezeStep.Cleans marks) = Some (closed_to 2)
@@ -190,6 +198,10 @@ freeze_stage_role nodes FreezeStep.CompletesReadOnly = Owning (Some 0) (Some 1)
 freeze_stage_role nodes FreezeStep.SetsWrite = Owning (Some 0) (Some 0)
 freeze_stage_role nodes FreezeStep.Unlocks = Freezing 1 Before true
 freeze_stage_role nodes (FreezeStep.Closes d) = Freezing d.level (place_of d.step) (nat_lt 1 d.level)
+freeze_stage_role nodes (FreezeStep.Waits d) = Freezing d.level (place_of d.step) (nat_lt 1 d.level)
+freeze_stage_role nodes (FreezeStep.Undoes level transition code) = Freezing level Before (nat_lt 1 level)
+freeze_stage_role nodes (FreezeStep.LocksToUndo code) = Freezing 1 Before false
+freeze_stage_role nodes (FreezeStep.GivesUp level code) = Freezing level Before true
 freeze_stage_role nodes FreezeStep.LocksAgain = Freezing 1 (HasPassed 0) false
 freeze_stage_role nodes FreezeStep.SetsPageFault = Freezing 1 (HasPassed 0) true
 freeze_stage_role nodes (FreezeStep.Cleans marks) = Freezing 2 (HasPassed marks.node) true
@@ -213,6 +225,9 @@ freeze_tree_role nodes step = OffTree
 abbrev pub freeze_owns : FreezeStep → ℕ
 freeze_owns FreezeStep.Locks = 0
 freeze_owns (FreezeStep.Closes d) = if nat_lt 1 d.level then 1 else 0
+freeze_owns (FreezeStep.Waits d) = if nat_lt 1 d.level then 1 else 0
+freeze_owns (FreezeStep.Undoes level transition code) = if nat_lt 1 level then 1 else 0
+freeze_owns (FreezeStep.LocksToUndo code) = 0
 freeze_owns FreezeStep.LocksAgain = 0
 freeze_owns step = 1
 

@@ -16,6 +16,7 @@ is_summing i level step = 0
 -- the same of a freeze
 abbrev pub freeze_closing : ℕ → FreezeStep → ℕ
 freeze_closing i (FreezeStep.Closes d) = is_summing i d.level d.step
+freeze_closing i (FreezeStep.Waits d) = is_summing i d.level d.step
 freeze_closing i step = 0
 
 -- and of what a task is at: 1 while it is closing this level

@@ -4,7 +4,7 @@ use Rattle.access_model.specs.declared.{actions.Holder.{Holder, TheVariants.{Ker
 use Rattle.access_model.specs.declared.errors.GateError.TheVariants.{NoEntry, Again, NoMemory, Busy, NotDir, IsDir, Invalid, TooMany, NoSpace, ReadOnly, Order, Hook}
 use Rattle.access_model.specs.declared.replies.Reply.{Reply, TheVariants.{Unit as UnitReply, Node, Ran, Tree}}
 use Rattle.cpu_words.specs.Hooks.{HookAnswer}
-use Rattle.freeze_levels.specs.declared.hooks.HookKind.{HookKind, TheVariants.{Sync, FreezeFs, UnfreezeFs, Reconfigure}}
+use Rattle.freeze_levels.specs.declared.hooks.HookKind.{HookKind, TheVariants.{Sync, FreezeFs, UnfreezeFs, Reconfigure, KeepWaiting}}
 use Rattle.gate_schedules.specs.declared.steps.Progress.{Progress, TheVariants.{Idle, Going, Waiting, Done}}
 use Rattle.mntgate_c.specs.declared.codes.Outcome.{Outcome}
 
@@ -36,6 +36,7 @@ hook_number (Some Sync) = 1
 hook_number (Some FreezeFs) = 2
 hook_number (Some UnfreezeFs) = 3
 hook_number (Some Reconfigure) = 4
+hook_number (Some KeepWaiting) = 5
 
 -- what a hook answered
 abbrev pub hook_answer : ℕ → HookAnswer

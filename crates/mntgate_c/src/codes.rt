@@ -39,7 +39,7 @@ pub fn holder(by_kernel: bool) -> Holder
     }
 }
 
-/// Returns which hook is asked: 1 sync, 2 freeze_fs, 3 unfreeze_fs, 4 reconfigure, and 0 for none.
+/// Returns which hook is asked: 1 sync, 2 freeze_fs, 3 unfreeze_fs, 4 reconfigure, 5 keep_waiting, and 0 for none.
 pub fn hook_code(asked: Option<HookKind>) -> u32
     ensures { result ≡ hook_number asked }
 {
@@ -49,6 +49,7 @@ pub fn hook_code(asked: Option<HookKind>) -> u32
         Some(HookKind::FreezeFs) => 2,
         Some(HookKind::UnfreezeFs) => 3,
         Some(HookKind::Reconfigure) => 4,
+        Some(HookKind::KeepWaiting) => 5,
     }
 }
 

@@ -556,7 +556,12 @@ impl Model {
         ensures { IsTrue result ↔ MayStage (limits_of self.now) (state_of self.now) stage }
     {
         match stage {
-            0 => { self.is_at(2) || self.is_at(3) || (self.stage == 4 && self.holders.is_none()) }
+            0 => {
+                self.is_at(2)
+                    || self.is_at(3)
+                    || (self.stage == 4 && self.holders.is_none())
+                    || self.is_closing()
+            }
             1 => self.is_at(0) && !self.sb_ro,
             2 => self.is_at(1),
             3 => self.is_at(2) && self.is_clean(),
@@ -571,6 +576,13 @@ impl Model {
         ensures { IsTrue result ↔ (((state_of self.now).stage ≡ stage) × ((state_of self.now).passed ≡ stage)) }
     {
         stage == self.stage && stage == self.passed
+    }
+
+    /// Whether the freeze is at a stage whose level it has not passed.
+    fn is_closing(&self) -> bool
+        ensures { IsTrue result ↔ (IsLevel (state_of self.now).stage × ((state_of self.now).passed + 1 ≡ (state_of self.now).stage)) }
+    {
+        is_level(self.stage) && self.passed == self.stage - 1
     }
 
     /// Whether a freeze may have closed a level now.

@@ -89,6 +89,9 @@ opening_few level (UpWriteStep.Exits x) = omega arith
 pub freeze_steps : (c : Config) (x : Freeze) (s : FreezeStep) → x.tasks ≡ c.tasks → x.nodes ≡ c.nodes → FreezeFits c x.holder s →
     freeze_left x s ≤ 6 * c.tasks + c.nodes + 33
 freeze_steps c x (FreezeStep.Closes d) tasks nodes f = omega (arith, closing_few c d.tasks d.step f.2 f.4, closed_few x d.level, tasks, nodes)
+freeze_steps c x (FreezeStep.Waits d) tasks nodes f = omega (arith, closing_few c d.tasks d.step f.0.2 f.0.4, closed_few x d.level, tasks, nodes)
+freeze_steps c x (FreezeStep.Undoes level transition code) tasks nodes f = omega (arith, f.1)
+freeze_steps c x (FreezeStep.GivesUp level code) tasks nodes f = omega (arith, f.1)
 freeze_steps c x (FreezeStep.Cleans marks) tasks nodes f = omega (arith, f.0, tasks)
 freeze_steps c x (FreezeStep.Reopens u code) tasks nodes f = omega (arith, opening_few u.level u.step, f.1)
 freeze_steps c x s tasks nodes f = omega (arith, tasks, nodes)

@@ -10,7 +10,7 @@ use Rattle.gate_schedules.proofs.operations.deadlocks.{RankDecreases.{happens_is
 use Rattle.progress_laws.specs.{Alone.{SettlesAlone, all_but, alone_left, most_turns_alone, turns_alone}, LostTasks.SettlesAmong, Waiting.must_wait}
 use Rattle.progress_laws.specs.StepsLeft.{changes_left, most_steps, start_room_of, start_steps, start_steps_of, steps_left, tries_left, tries_of, try_room_of}
 use Rattle.progress_laws.proofs.{AllNearer.{RoomFalls, phase_comes, room_falls, starts_small, steps_small, tries_small}, Changes.{CountsChanges, changes_count, changes_small}}
-use Rattle.progress_laws.proofs.{Nearer.ComesNearer, Potentials.{as_one_small, moves_fall, steps_fall, tries_fall}, Settling.{step_good, wait_or_go}}
+use Rattle.progress_laws.proofs.{Nearer.{ComesNearer, goes_on}, Potentials.{as_one_small, moves_fall, steps_fall, tries_fall}, Settling.{step_good, wait_or_go}}
 
 -- one step, by what it leaves
 module _ (starts tries : ℕ) (w after : Words) (phase : Phase) where
@@ -82,8 +82,8 @@ module _ (c : Config) (lim : IsWithin c) (t : ℕ) (lt : t < c.tasks) where
       let more : HasRoom starts tries (phase_after coming) =
       room_after starts tries phase coming (room_falls c phase (found_at w.words phase hook) hook) room in
       subst (λ (p : Option Phase). (alone_left starts tries next.words p < alone_left starts tries w.words (Some phase)) × HasRoom starts tries p) (sym is) (
-        falls starts tries w.words next.words phase coming ((phase_comes c phase).nears lim w good t lt hook at free)
-            (changes_count (starts + 1) c lim w good t lt hook phase at free)
+        falls starts tries w.words next.words phase coming ((phase_comes c phase).nears lim w good t lt hook at (goes_on w.words phase hook free))
+            (changes_count (starts + 1) c lim w good t lt hook phase at (goes_on w.words phase hook free))
             (few_at starts tries next (step_good c lim w good t lt hook phase at) (phase_after coming) is more),
         more,
       )

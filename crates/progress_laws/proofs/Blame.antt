@@ -146,6 +146,8 @@ module _ (c : Config) (lost : ℕ → Bool) (w : World) (good : IsGood c w) (all
   freeze_blocked : (x : Freeze) (s : FreezeStep) → FreezeFits c x.holder s → freeze_waits w.words s ≡ true → FreezeIsBlockedBy c lost w s
   freeze_blocked x FreezeStep.Locks fits waits = lock_stuck (lock_waits w.words waits)
   freeze_blocked x (FreezeStep.Closes d) fits waits = closing_blocked d d.step fits.0 fits.1 fits.3 fits.4 waits
+  freeze_blocked x (FreezeStep.Waits d) fits waits = closing_blocked d d.step fits.0.0 fits.0.1 fits.0.3 fits.0.4 waits
+  freeze_blocked x (FreezeStep.LocksToUndo code) fits waits = lock_stuck (lock_waits w.words waits)
   freeze_blocked x FreezeStep.LocksAgain fits waits = lock_stuck (lock_waits w.words waits)
   freeze_blocked x s fits waits = absurd (true≢false (sym waits))
 

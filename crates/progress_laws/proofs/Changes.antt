@@ -9,7 +9,7 @@ use Rattle.cpu_words.specs.{Sums.sum_taking, declared.sums.Taken.{Taken}}
 use Rattle.composite_ops.specs.file_closes.Phases.{next as close_next, after as close_after, then_frees}
 use Rattle.composite_ops.specs.write_access.Phases.{next as write_next, after as write_after, then_wants, then_gives_back}
 use Rattle.composite_ops.specs.declared.{file_closes.phases.ClosePhase.ClosePhase, write_access.phases.WritePhase.WritePhase}
-use Rattle.freeze_levels.specs.{Freezes.{after_closing, after_reopening, freeze_after, freeze_fails, freeze_next, level_closed}, Holders.holders_in}
+use Rattle.freeze_levels.specs.{Freezes.{after_closing, after_reopening, after_undoing, at_freeze, freeze_after, freeze_fails, freeze_next, freeze_undone, level_closed}, Holders.holders_in}
 use Rattle.freeze_levels.specs.{Thaws.{after_opening, thaw_after, thaw_next, thaw_opens}, declared.{freezes.{Freeze.Freeze, FreezeStep.FreezeStep}, thaws.{Thaw.Thaw, ThawStep.ThawStep}}}
 use Rattle.gated_tree.specs.{Phases.{next as tree_next}, declared.phases.TreePhase.{TreePhase}}
 use Rattle.mount_counts.specs.{Phases.{want_next, next as mount_next}, Remounts.{remount_next}, declared.phases.{MountPhase.MountPhase, Want.Want, WantStep.WantStep}}
@@ -23,14 +23,14 @@ use Rattle.percpu_rwsem.specs.declared.{readers.{DownRead.DownRead, DownReadStep
 use Rattle.percpu_rwsem.specs.declared.transitions.{Transition.Transition, TransitionNext.TransitionNext}
 use Rattle.percpu_rwsem.specs.declared.writers.{DownWrite.DownWrite, DownWriteStep.DownWriteStep, UpWrite.UpWrite, UpWriteStep.UpWriteStep}
 use Rattle.percpu_rwsem.specs.{Transitions.{transition_next, transition_after}}
-use Rattle.freeze_laws.specs.levels.{Operations.{down_write_role}, Roles.{SyncRole, closed, entered}}
+use Rattle.freeze_laws.{proofs.stages.Facts.at_level, specs.levels.{Operations.{down_write_role}, Roles.{SyncRole, closed, entered}}}
 use Rattle.gate_world.specs.{Configs.IsWithin, Fits.{Fits, FreezeFits, PhaseFits, ThawFits}, Levels.{is_frozen_whole, sync_role_of}, Holdings.Holdings, Roles.{freeze_position, position_sync, sync_beside}, Rules.{Fitting, IsGood, SyncAt, SyncHoldsIn}, Work.after_of, Views.held_of}
 use Rattle.gate_world.specs.{traces.TraceStates.{CloseReadIsValid, WordIsValid}, Worlds.{World, found_at, words_after}, declared.{config.Config.Config, work.Phase.Phase}}
 use Rattle.gate_schedules.proofs.{levels.Facts.{block_clear}, frames.{ValidWords.events_may_be, Words.load_same}, operations.deadlocks.{BlockedCloses.{StaysAtLevel, down_stays}, RankDecreases.after_event}}
 use Rattle.progress_laws.specs.StepsLeft.{callback_changes, callback_left, callback_tries, changes_left, closed_changes, closing_changes, closing_left, closing_tries, freeze_changes, freeze_left, freeze_tries, opening_changes}
 use Rattle.progress_laws.specs.StepsLeft.{closed_left, opening_left, opening_tries, start_left, start_steps, steps_left, thaw_changes, thaw_left, thaw_tries, tries_left}
-use Rattle.progress_laws.specs.Waiting.{callback_waits, closing_waits, freeze_waits, must_wait, thaw_waits}
-use Rattle.progress_laws.proofs.{Calls.{read_blocks}, Levels.{start_nears}, Nearer.FewerLeft, Potentials.mul_le}
+use Rattle.progress_laws.specs.Waiting.{callback_waits, closing_waits, must_wait, thaw_waits}
+use Rattle.progress_laws.proofs.{Calls.{read_blocks}, Levels.{start_nears}, Nearer.{FewerLeft, by_wait, freeze_waits_on, waits_on}, Potentials.mul_le}
 
 -- what the numbers of others read of a level is as it was
 abbrev pub SameLevels : Words → Words → Type 0
@@ -258,27 +258,25 @@ closed_tries w level nodes =
       | inr h ↦ elim (cases_Bool (level == 2)) [ inl q ↦ rw (h, q) refl | inr q ↦ rw (h, q) refl ]
     ]
 
+closes_on : (turn : ℕ) (w after : Words) (x : Freeze) (d y : DownWrite) → y.level ≡ d.level → ClosingCounts turn w after d d.step (Next.Go y) →
+    FreezeCounts turn w after x (FreezeStep.Closes d) (Next.Go (at_freeze x (FreezeStep.Closes y)))
+closes_on turn w after x d y level (inl h) = inl (omega (arith, h, ap (closed_changes turn) level))
+closes_on turn w after x d y level (inr (inl h)) = inr (inl (omega (arith, h.0, ap (closed_changes turn) level), h.1))
+closes_on turn w after x d y level (inr (inr h)) =
+    inr (inr (
+      omega (arith, h.0, ap (closed_changes turn) level),
+      omega arith,
+      λ lt. h.2 (omega (arith, lt, ap (closed_left x) level)),
+      h.3,
+    ))
+
 closes_count : (turn : ℕ) (w after : Words) (x : Freeze) (d : DownWrite) (next : Next DownWrite) (action : Option Action) →
     StaysAtLevel d next action → ClosingCounts turn w after d d.step next →
     FreezeCounts turn w after x (FreezeStep.Closes d) (after_closing x d.level next)
-closes_count turn w after x d (Next.Go y) action level (inl h) = inl (omega (arith, h, ap (closed_changes turn) level))
-closes_count turn w after x d (Next.Go y) action level (inr (inl h)) = inr (inl (omega (arith, h.0, ap (closed_changes turn) level), h.1))
-closes_count turn w after x d (Next.Go y) action level (inr (inr h)) =
-    inr (inr (
-      omega (arith, h.0, ap (closed_changes turn) level),
-      omega arith,
-      λ lt. h.2 (omega (arith, lt, ap (closed_left x) level)),
-      h.3,
-    ))
-closes_count turn w after x d (Next.Wait y) action level (inl h) = inl (omega (arith, h, ap (closed_changes turn) level))
-closes_count turn w after x d (Next.Wait y) action level (inr (inl h)) = inr (inl (omega (arith, h.0, ap (closed_changes turn) level), h.1))
-closes_count turn w after x d (Next.Wait y) action level (inr (inr h)) =
-    inr (inr (
-      omega (arith, h.0, ap (closed_changes turn) level),
-      omega arith,
-      λ lt. h.2 (omega (arith, lt, ap (closed_left x) level)),
-      h.3,
-    ))
+closes_count turn w after x d (Next.Go y) action level h = closes_on turn w after x d y level h
+closes_count turn w after x d (Next.Wait y) action level h =
+    by_wait (λ z. FreezeCounts turn w after x (FreezeStep.Closes d) (Next.Wait (at_freeze x z))) y y.step
+    (closes_on turn w after x d y level h) (closes_on turn w after x d y level h)
 closes_count turn w after x d (Next.Done answer) action level h =
     inr (inr (omega (arith, closed_counts turn d.level x.nodes), omega arith, λ lt. omega (arith, h.0, closed_tries after d.level x.nodes), h.1))
 
@@ -291,6 +289,9 @@ opens_changes turn level code x one =
 thaw_opens_changes : (turn level : ℕ) → thaw_changes turn (thaw_opens (level - 1)) ≤ (level - 1) * (turn + 1)
 thaw_opens_changes turn level =
     elim (eqb_tells (level - 1) 0) [ inl h ↦ rw h.0 (omega arith) | inr h ↦ rw h.0 (omega arith) ]
+
+fails_tries : (w : Words) (level code : ℕ) → freeze_tries w (freeze_fails level code) ≡ 1
+fails_tries w level code = elim (eqb_tells level 0) [ inl h ↦ rw h.0 refl | inr h ↦ rw h.0 refl ]
 
 reopens_count : (turn : ℕ) (w after : Words) (x : Freeze) (u : UpWrite) (code : ℕ) (next : Next UpWrite) → 1 ≤ u.level →
     OpeningCounts turn w after u u.step next → FreezeCounts turn w after x (FreezeStep.Reopens u code) (after_reopening x u.level code next)
@@ -305,6 +306,22 @@ thaws_count turn w after x u (Next.Go y) (level, inl h) = inl h
 thaws_count turn w after x u (Next.Go y) (level, inr h) = inr (inr (h.0, omega arith, h.1, h.2))
 thaws_count turn w after x u (Next.Wait y) h = absurd h
 thaws_count turn w after x u (Next.Done answer) h = inr (inl (omega (arith, h.0, thaw_opens_changes turn u.level), h.1))
+
+-- a level that is given up: its `block` is cleared, and the rest is that of its rcu_sync and of the levels below
+gives_up_changes : (turn level : ℕ) → 1 ≤ level → level ≤ 3 → (level - 1) * (turn + 1) + 1 + turn ≤ closed_changes turn level
+gives_up_changes turn level one three = at_level (λ i. (i - 1) * (turn + 1) + 1 + turn ≤ closed_changes turn i) (omega arith, omega arith, omega arith) level one three
+
+undone_changes : (turn level code : ℕ) → freeze_changes turn (freeze_undone level code) ≤ (level - 1) * (turn + 1)
+undone_changes turn level code = elim (eqb_tells level 1) [ inl h ↦ rw h.0 (omega arith) | inr h ↦ rw h.0 (omega arith) ]
+
+undoes_count : (turn : ℕ) (w after : Words) (x : Freeze) (level code : ℕ) (transition : Transition) (n : TransitionNext) → UnlessMade (after ≡ w) n →
+    after.block ≡ w.block → FreezeCounts turn w after x (FreezeStep.Undoes level transition code) (after_undoing x level code n)
+undoes_count turn w after x level code transition (TransitionNext.More y) same blocks =
+    inr (inr (omega arith, omega arith, λ lt. absurd (omega (arith, lt)), levels_same w after same))
+undoes_count turn w after x level code transition TransitionNext.Undefined same blocks =
+    inr (inr (omega arith, omega arith, λ lt. absurd (omega (arith, lt)), levels_same w after same))
+undoes_count turn w after x level code transition (TransitionNext.Made s) same blocks =
+    inr (inl (omega (arith, undone_changes turn level code), blocks))
 
 freeze_counts : (turn : ℕ) (c : Config) (w : World) → IsGood c w → (t : ℕ) → t < c.tasks → (x : Freeze) (hook : HookAnswer) (s : FreezeStep) →
     ((i : ℕ) → sync_role_of i (w.views t).phase ≡ position_sync i (freeze_position s)) → FreezeFits c x.holder s →
@@ -340,6 +357,25 @@ freeze_counts turn c w good t lt x hook (FreezeStep.Closes d) role fits =
     closes_count turn w.words (after_event w.words (down_write_next d d.step)) x d (down_write_after d d.step found).0
     (down_write_after d d.step found).1 (down_stays d d.step found)
     (closing_counts turn c w good t lt d fits.0 fits.1 d.step (role d.level ∙ here))
+freeze_counts turn c w good t lt x (Ok answer) (FreezeStep.Waits d) role fits =
+    let here : position_sync d.level (freeze_position (FreezeStep.Waits d)) ≡ down_write_role d.step =
+    ap (λ q. sync_beside q (nat_lt d.level d.level) (down_write_role d.step)) (eq-eqb d.level d.level refl) in
+    let found : ℕ = found_by (down_write_next d d.step).1 (read w.words (down_write_next d d.step).0) in
+    closes_count turn w.words (after_event w.words (down_write_next d d.step)) x d (down_write_after d d.step found).0
+    (down_write_after d d.step found).1 (down_stays d d.step found)
+    (closing_counts turn c w good t lt d fits.0.0 fits.0.1 d.step (role d.level ∙ here))
+freeze_counts turn c w good t lt x (Err code) (FreezeStep.Waits d) role fits = inl (omega (arith, gives_up_changes turn d.level fits.0.0 fits.0.1))
+freeze_counts turn c w good t lt x hook (FreezeStep.Undoes level transition code) role fits =
+    undoes_count turn w.words (after_event w.words (transition_next level transition)) x level code transition
+    (transition_after on_exit transition (found_by (transition_next level transition).1 (read w.words (transition_next level transition).0)))
+    (unless_made on_exit w.words level transition) (transition_blocks w.words level transition)
+freeze_counts turn c w good t lt x hook (FreezeStep.LocksToUndo code) role fits =
+    elim (eqb_tells w.words.umount 0) [
+      | inl h ↦ rw h.0 (inr (inr (omega arith, omega arith, λ l. omega arith, (refl, refl, refl))))
+      | inr h ↦ rw h.0 (inr (inr (omega arith, omega arith, λ l. omega arith, (refl, refl, refl))))
+    ]
+freeze_counts turn c w good t lt x hook (FreezeStep.GivesUp level code) role fits =
+    inr (inr (omega (arith, opens_changes turn level code x fits.0), omega arith, λ l. omega (arith, fails_tries w.words (level - 1) code), (refl, refl, refl)))
 freeze_counts turn c w good t lt x hook FreezeStep.LocksAgain role fits =
     elim (eqb_tells w.words.umount 0) [
       | inl h ↦ rw h.0 (inr (inr (omega arith, omega arith, λ l. omega arith, (refl, refl, refl))))
@@ -539,7 +575,7 @@ phase_counts to turn w after p (Next.Wait q) h = h
 phase_counts to turn w after p (Next.Done answer) h = h
 
 pub changes_count : (turn : ℕ) (c : Config) → IsWithin c → (w : World) → IsGood c w → (t : ℕ) → t < c.tasks → (hook : HookAnswer) (phase : Phase) →
-    (w.views t).phase ≡ Some phase → must_wait w.words phase ≡ false →
+    (w.views t).phase ≡ Some phase → waits_on w.words phase hook ≡ false →
     CountsChanges turn w.words (words_after w.words phase hook) phase (after_of phase (found_at w.words phase hook) hook).0
 changes_count turn c lim w good t lt hook (Phase.Mounts x) at free =
     aside Phase.Mounts turn w.words (words_after w.words (Phase.Mounts x) hook) (Phase.Mounts x) _ (λ y. (omega arith, omega arith, omega arith))
@@ -606,10 +642,13 @@ closing_keeps turn w x d (DownWriteStep.AwaitsSections g) waits found = looks_ke
 closing_keeps turn w x d (DownWriteStep.Sums sum) waits found = sums_keep turn x d (sum_taking sum found d.processors)
 closing_keeps turn w x d s waits found = absurd (true≢false (sym waits))
 
-freeze_keeps : (turn : ℕ) (w : Words) (x : Freeze) (s : FreezeStep) (hook : HookAnswer) → freeze_waits w s ≡ true → (found : ℕ) →
+freeze_keeps : (turn : ℕ) (w : Words) (x : Freeze) (s : FreezeStep) (hook : HookAnswer) → freeze_waits_on w s hook ≡ true → (found : ℕ) →
     KeepsBy (λ (y : Freeze). freeze_changes turn y.step) (freeze_changes turn s) (freeze_after x s found hook).0
 freeze_keeps turn w x FreezeStep.Locks hook waits found = elim (eqb_tells found 0) [ inl h ↦ rw h.0 refl | inr h ↦ rw h.0 refl ]
 freeze_keeps turn w x (FreezeStep.Closes d) hook waits found = closing_keeps turn w x d d.step waits found
+freeze_keeps turn w x (FreezeStep.Waits d) (Ok answer) waits found = closing_keeps turn w x d d.step waits found
+freeze_keeps turn w x (FreezeStep.Waits d) (Err code) waits found = absurd (true≢false (sym waits))
+freeze_keeps turn w x (FreezeStep.LocksToUndo code) hook waits found = elim (eqb_tells found 0) [ inl h ↦ rw h.0 (omega arith) | inr h ↦ rw h.0 refl ]
 freeze_keeps turn w x FreezeStep.LocksAgain hook waits found = elim (eqb_tells found 0) [ inl h ↦ rw h.0 refl | inr h ↦ rw h.0 refl ]
 freeze_keeps turn w x s hook waits found = absurd (true≢false (sym waits))
 
@@ -628,7 +667,7 @@ callback_keeps : (w : Words) (b : Callback) (s : CallbackStep) → callback_wait
 callback_keeps w b (CallbackStep.AwaitsSections g) waits found = looked_keeps b (looked g found)
 callback_keeps w b s waits found = absurd (true≢false (sym waits))
 
-pub waits_keep : (turn : ℕ) (w : Words) (hook : HookAnswer) (phase : Phase) → must_wait w phase ≡ true → (found : ℕ) →
+pub waits_keep : (turn : ℕ) (w : Words) (hook : HookAnswer) (phase : Phase) → waits_on w phase hook ≡ true → (found : ℕ) →
     KeepsBy (changes_left turn) (changes_left turn phase) (after_of phase found hook).0
 waits_keep turn w hook (Phase.Mounts x) waits found = keeps_in Phase.Mounts turn 0 _ (keeps_all _ 0 (λ y. refl) _)
 waits_keep turn w hook (Phase.Remounts x) waits found = keeps_in Phase.Remounts turn 0 _ (keeps_all _ 0 (λ y. refl) _)
@@ -662,6 +701,9 @@ opening_few turn level (UpWriteStep.Exits x) one three = omega (arith, level_mor
 
 freeze_few : (turn : ℕ) (c : Config) (x : Freeze) (s : FreezeStep) → FreezeFits c x.holder s → freeze_changes turn s ≤ 6 * turn + 9
 freeze_few turn c x (FreezeStep.Closes d) f = omega (arith, closing_few turn d.step, closed_few turn d.level)
+freeze_few turn c x (FreezeStep.Waits d) f = omega (arith, closing_few turn d.step, closed_few turn d.level)
+freeze_few turn c x (FreezeStep.Undoes level transition code) f = omega (arith, gives_up_changes turn level f.0 f.1, closed_few turn level)
+freeze_few turn c x (FreezeStep.GivesUp level code) f = omega (arith, gives_up_changes turn level f.0 f.1, closed_few turn level)
 freeze_few turn c x (FreezeStep.Reopens u code) f = omega (arith, opening_few turn u.level u.step f.0 f.1)
 freeze_few turn c x s f = omega arith
 

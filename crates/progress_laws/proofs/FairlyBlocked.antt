@@ -8,16 +8,17 @@ use Rattle.gated_tree.specs.declared.{phases.TreePhase.TreePhase, snapshots.Snap
 use Rattle.mount_counts.specs.declared.{phases.{ChangeStep.ChangeStep, MountPhase.MountPhase}, remounts.RemountStep.RemountStep}
 use Rattle.percpu_rwsem.specs.declared.{callbacks.CallbackStep.CallbackStep, readers.{DownRead.DownRead, DownReadStep.DownReadStep}}
 use Rattle.percpu_rwsem.specs.declared.writers.{DownWrite.DownWrite, DownWriteStep.DownWriteStep}
-use Rattle.freeze_levels.specs.declared.{freezes.{Freeze.Freeze, FreezeStep.FreezeStep}, thaws.ThawStep.ThawStep}
+use Rattle.freeze_levels.specs.{Freezes.at_freeze, declared.{freezes.{Freeze.Freeze, FreezeStep.FreezeStep}, thaws.ThawStep.ThawStep}}
 use Rattle.gate_world.specs.{Configs.IsWithin, Fits.{FreezeFits, PhaseFits, ReadStepFits}, Levels.{at_level, level_role_of}, Operations.holds_none_from, Roles.freeze_owns}
 use Rattle.gate_world.specs.{Rules.{AtLevel, IsGood, owns}, Views.{held_of, holds_level}, Worlds.World, declared.{config.Config.Config, work.Phase.Phase}}
 use Rattle.gate_schedules.proofs.{levels.Counts.held_bit, operations.deadlocks.WhoCanStep.{fits_at, holds_below, holds_not_none, open_above}}
 use Rattle.gate_schedules.specs.operations.Progress.{AllAreBlocked, BlockedIfFreeze, ChangeIsBlocked, FreezeIsBlocked, HeldLevelAhead, IsBlockedAt, IsHeldIdle}
-use Rattle.gate_schedules.specs.operations.Progress.{LockIsBlocked, RemountIsBlocked, SnapshotIsBlocked, StartIsBlocked, ThawIsBlocked, is_admitted, next_level}
+use Rattle.gate_schedules.specs.operations.Progress.{LockIsBlocked, RemountIsBlocked, SnapshotIsBlocked, StartIsBlocked, ThawIsBlocked, is_admitted, is_first_lock, next_level}
 use Rattle.progress_laws.specs.{FairRounds.{BlockedAfterRounds, nobody, run_all}, LostTasks.{AllWait, CallbackIsBlockedBy, ClosingIsBlockedBy}}
 use Rattle.progress_laws.specs.{LostTasks.{CountIsStuck, FreezeIsBlockedBy, HoldIsLost, LockIsStuck}, StepsLeft.turns_left}
 use Rattle.progress_laws.specs.Waiting.{change_waits, freeze_waits, lock_taken, must_wait, remount_waits, snapshot_waits, start_waits, thaw_waits}
-use Rattle.progress_laws.proofs.{Blame.{each_is_blocked, lock_stuck, lock_waits, nonzero, owner_goes}, Rounds.{rounds_good, settles_fairly}}
+use Rattle.progress_laws.proofs.{Blame.{each_is_blocked, lock_stuck, lock_waits, nonzero, owner_goes}, OneFreeze.{freezing_at, one_freezes, owner_later}, Rounds.settles_fairly}
+use Rattle.progress_laws.proofs.Measured.{rounds_good}
 
 abbrev as_number : Bool → ℕ
 as_number b = if b then 1 else 0
@@ -108,18 +109,21 @@ module _ (c : Config) (w : World) (good : IsGood c w) (all : AllWait c nobody w)
   closing_kept d (DownWriteStep.Sums sum) one three h = count_kept d.level one three h
   closing_kept d s one three h = absurd h
 
+  second : (level : ℕ) → as_number (nat_lt 1 level) ≡ 1 → 2 ≤ level
+  second level o = elim (cases_Bool (nat_lt 1 level)) [
+    | inl l ↦ omega (arith, ltb-true 1 level l)
+    | inr l ↦ absurd (omega (arith, o, ap as_number l))
+  ]
+
   -- a freeze that owns `umount` and has to wait is blocked
   owner_kept : (x : Freeze) (s : FreezeStep) → FreezeFits c x.holder s → freeze_owns s ≡ 1 → freeze_waits w.words s ≡ true →
       FreezeIsBlockedBy c nobody w s → (2 ≤ next_level w.words s) × HeldLevelAhead c w s
   owner_kept x (FreezeStep.Closes d) fits own waits h =
       (second d.level own, (d.level, omega arith, fits.1, closing_kept d d.step fits.0 fits.1 h))
-    where
-      second : (level : ℕ) → as_number (nat_lt 1 level) ≡ 1 → 2 ≤ level
-      second level o = elim (cases_Bool (nat_lt 1 level)) [
-        | inl l ↦ omega (arith, ltb-true 1 level l)
-        | inr l ↦ absurd (omega (arith, o, ap as_number l))
-      ]
+  owner_kept x (FreezeStep.Waits d) fits own waits h =
+      (second d.level own, (d.level, omega arith, fits.0.1, closing_kept d d.step fits.0.0 fits.0.1 h))
   owner_kept x FreezeStep.Locks fits own waits h = absurd (omega (arith, own))
+  owner_kept x (FreezeStep.LocksToUndo code) fits own waits h = absurd (omega (arith, own))
   owner_kept x FreezeStep.LocksAgain fits own waits h = absurd (omega (arith, own))
   owner_kept x s fits own waits h = absurd (true≢false (sym waits))
 
@@ -142,6 +146,22 @@ module _ (c : Config) (w : World) (good : IsGood c w) (all : AllWait c nobody w)
             )
       ]
 
+  -- one that has given level 1 up finds it free: an owner that has to wait would be a freeze at a stage of its own
+  undo_free : (t : ℕ) → t < c.tasks → (x : Freeze) → (w.views t).phase ≡ Some (Phase.Freezes x) → freeze_owns x.step ≡ 0 → is_first_lock x.step ≡ false →
+      freeze_waits w.words x.step ≡ true → LockIsStuck c nobody w → ⊥
+  undo_free t lt x at none first waits (y, ly, own, inl dead) = none_lost y dead
+  undo_free t lt x at none first waits (y, ly, own, inr (live, phase, there, stuck)) =
+      elim (owner_goes w.words phase (sym (ap owns there) ∙ own)) [
+        | inl free ↦ true≢false (sym stuck ∙ free)
+        | inr z ↦
+            let here : (w.views y).phase ≡ Some (Phase.Freezes z.0) = there ∙ ap Some z.1 in
+            let its : freeze_owns z.0.step ≡ 1 = sym (ap owns here) ∙ own in
+            let same : y ≡ t =
+            one_freezes c w good t y lt ly (freezing_at c w good t x at waits first)
+            (freezing_at c w good y z.0 here (all y ly refl (Phase.Freezes z.0) here) (owner_later z.0.step its)) in
+            omega (arith, own, none, ap (λ u. owns (w.views u).phase) same, ap owns at)
+      ]
+
   lock_of : lock_taken w.words ≡ true → LockIsBlocked c w
   lock_of taken = lock_kept (lock_stuck c nobody w good all (lock_waits w.words taken))
 
@@ -150,12 +170,15 @@ module _ (c : Config) (w : World) (good : IsGood c w) (all : AllWait c nobody w)
   kept_behind (Some (Phase.Freezes x)) h = (h.1.0, omega (arith, h.0, h.1.1), h.1.2, h.1.3)
   kept_behind p h = absurd h
 
-  freeze_kept : (x : Freeze) (s : FreezeStep) → FreezeFits c x.holder s → freeze_waits w.words s ≡ true → FreezeIsBlockedBy c nobody w s →
-      FreezeIsBlocked c w s
-  freeze_kept x FreezeStep.Locks fits waits h = inl (lock_of waits)
-  freeze_kept x (FreezeStep.Closes d) fits waits h = (d.level, omega arith, fits.1, closing_kept d d.step fits.0 fits.1 h)
-  freeze_kept x FreezeStep.LocksAgain fits waits h = let l : LockIsBlocked c w = lock_of waits in kept_behind (w.views l.0).phase l.3
-  freeze_kept x s fits waits h = absurd (true≢false (sym waits))
+  freeze_kept : (t : ℕ) → t < c.tasks → (x : Freeze) (s : FreezeStep) → (w.views t).phase ≡ Some (Phase.Freezes (at_freeze x s)) → FreezeFits c x.holder s →
+      freeze_waits w.words s ≡ true → FreezeIsBlockedBy c nobody w s → FreezeIsBlocked c w s
+  freeze_kept t lt x FreezeStep.Locks at fits waits h = inl (lock_of waits)
+  freeze_kept t lt x (FreezeStep.Closes d) at fits waits h = (d.level, omega arith, fits.1, closing_kept d d.step fits.0 fits.1 h)
+  freeze_kept t lt x (FreezeStep.Waits d) at fits waits h = (d.level, omega arith, fits.0.1, closing_kept d d.step fits.0.0 fits.0.1 h)
+  freeze_kept t lt x (FreezeStep.LocksToUndo code) at fits waits h =
+      absurd (undo_free t lt (at_freeze x (FreezeStep.LocksToUndo code)) at refl refl waits h)
+  freeze_kept t lt x FreezeStep.LocksAgain at fits waits h = let l : LockIsBlocked c w = lock_of waits in kept_behind (w.views l.0).phase l.3
+  freeze_kept t lt x s at fits waits h = absurd (true≢false (sym waits))
 
   start_kept : (r : DownRead) → 1 ≤ r.level → r.level ≤ 3 → start_waits w.words r r.step ≡ true → StartIsBlocked w r
   start_kept r one three waits =
@@ -179,7 +202,7 @@ module _ (c : Config) (w : World) (good : IsGood c w) (all : AllWait c nobody w)
   phase_kept t lt (Phase.Writes (WritePhase.Wants x)) at f waits =
       let h : HoldIsLost c nobody w x.mount = each_is_blocked c nobody w good all t lt refl (Phase.Writes (WritePhase.Wants x)) at in none_lost h.0 h.2
   phase_kept t lt (Phase.Freezes x) at f waits =
-      freeze_kept x x.step f.5 waits (each_is_blocked c nobody w good all t lt refl (Phase.Freezes x) at)
+      freeze_kept t lt x x.step at f.5 waits (each_is_blocked c nobody w good all t lt refl (Phase.Freezes x) at)
   phase_kept t lt (Phase.Thaws x) at f waits =
       let h = thaw_wait w.words x.step waits in subst (ThawIsBlocked c w) (sym h.0) (lock_of h.1)
   phase_kept t lt (Phase.Trees (TreePhase.Snapshot x)) at f waits =
@@ -192,5 +215,5 @@ module _ (c : Config) (w : World) (good : IsGood c w) (all : AllWait c nobody w)
   all_blocked t lt phase at = phase_kept t lt phase at (fits_at c w good t lt phase at) (all t lt refl phase at)
 
 pub blocked_after : (c : Config) → IsWithin c → (w : World) → IsGood c w → BlockedAfterRounds c (turns_left c w) w
-blocked_after c lim w good rounds are le =
-    all_blocked c (run_all c w rounds) (rounds_good c lim nobody rounds w good) (settles_fairly c lim nobody w good rounds are le)
+blocked_after c lim w good rounds are patient le =
+    all_blocked c (run_all c w rounds) (rounds_good c lim nobody rounds w good) (settles_fairly c lim nobody w good rounds are patient le)

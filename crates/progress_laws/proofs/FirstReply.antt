@@ -1,27 +1,27 @@
 -- The first reply: what is left once the starts, the wants and the claimed callbacks wait is one freeze, and one operation that waits for nobody.
-use Rattle.std.proofs.Common.{◌≡◌, ℕ, suc, ◌+◌, ◌*◌, ◌<◌, ◌≤◌, Bool, true, false, true≢false, refl, sym, ap, ◌∙◌, inl, inr, subst, arith}
-use Rattle.std.proofs.{Math.Nat.{le-max_right}, lemmas.Bool.{cases_Bool, Decides.eqb_tells}}
-use Rattle.std.specs.Prelude.{Err, Result, ◌==◌, ◌⊎◌, not, Option, None, Some}
+use Rattle.std.proofs.Common.{◌≡◌, ℕ, zero, suc, ◌+◌, ◌*◌, ◌<◌, ◌≤◌, Bool, true, false, true≢false, refl, sym, ap, ◌∙◌, inl, inr, subst, arith}
+use Rattle.std.proofs.{Math.Nat.{le-max_right}, lemmas.Bool.{cases_Bool, eq-eqb, ne_eqb, Decides.eqb_tells}}
+use Rattle.std.specs.Prelude.{Err, Result, ◌==◌, ◌⊎◌, not, if◌then◌else◌, Option, None, Some}
 use Rattle.access_model.specs.{Replies.map_next, declared.{errors.GateError.GateError, replies.{Next.Next, Reply.Reply}}}
 use Rattle.cpu_words.specs.{Hooks.HookAnswer, Words.Words}
 use Rattle.freeze_levels.specs.{Freezes.{at_freeze, freeze_after}, declared.freezes.{Freeze.Freeze, FreezeStep.FreezeStep}}
 use Rattle.freeze_laws.specs.stages.Roles.{KnowsStage, freezes, under_way}
 use Rattle.freeze_laws.proofs.stages.Facts.{other_zero}
 use Rattle.gate_world.specs.{Configs.IsWithin, Fits.{PhaseFits}, Roles.{freeze_stage_role, reopening_role}, Rules.{IsGood, Stages, stage_role_of, stage_roles}}
-use Rattle.gate_world.specs.{Views.{held_of, phase_after}, Work.after_of, Worlds.{World, after_step, found_at, words_after}}
-use Rattle.gate_world.specs.declared.{config.Config.Config, work.Phase.Phase}
+use Rattle.gate_world.specs.{Views.{held_of, phase_after}, Work.after_of, Worlds.{World, after_step, found_at, happens, words_after}}
+use Rattle.gate_world.specs.declared.{config.Config.Config, entries.Entry.TheVariants.Steps, views.View.View, work.Phase.Phase}
 use Rattle.gate_schedules.proofs.operations.deadlocks.{RankDecreases.stands_after, WhoCanStep.fits_at}
 use Rattle.gate_schedules.specs.operations.{Progress.{is_first_lock}, Ranks.most_alone}
 use Rattle.mount_counts.specs.declared.phases.MountPhase.{MountPhase}
 use Rattle.percpu_rwsem.specs.declared.{callbacks.CallbackStep.CallbackStep, writers.UpWriteStep.UpWriteStep}
-use Rattle.finite_sums.{proofs.Totals.{total_at}, specs.Sums.total}
-use Rattle.progress_laws.specs.{Alone.{alone_left}, FirstReply.{ReplyOr, RepliesOrWaits, most_to_reply}, LostTasks.AllWait}
+use Rattle.finite_sums.{proofs.Totals.{total_at}}
+use Rattle.progress_laws.specs.{Alone.{alone_left}, FirstReply.{ReplyOr, RepliesOrWaits, most_of_kinds, most_to_reply}, LostTasks.AllWait}
 use Rattle.progress_laws.specs.{StepsLeft.{freeze_left, freeze_tries, most_steps}, Waiting.{freeze_waits, must_wait}}
 use Rattle.progress_laws.proofs.{AllNearer.{freeze_steps, phase_comes, steps_small, thaw_steps, tries_small}, Alone.HasRoom, Changes.thaw_few, Calls.lock_free}
 use Rattle.progress_laws.proofs.FreezeAlone.{ahead_falls, ahead_small, freeze_ahead, freeze_room, tries_in_room}
 use Rattle.progress_laws.proofs.RunAlone.{Makes, NoneGoes, Stopped, and_then, no_nearer, runs, some_or_none, step_to}
-use Rattle.progress_laws.proofs.{Nearer.ComesNearer, Settling.{others_same, step_good}, Sweeps.{AllBelow, Falls, WaitsBelow, below_kept, falls_alone, first_kinds}}
-use Rattle.progress_laws.proofs.WaitKinds.{FreezeGoes, NeverWaits, NextIs, callback_kind, freeze_goes, freeze_keeps, graces_kept, is_failing, kind, never_next}
+use Rattle.progress_laws.proofs.{LostStays.same_entry, Nearer.{ComesNearer, goes_on}, OneFreeze.{few_freeze, freezing_at, under_le}, Settling.{others_same, step_good}, Sweeps.{AllBelow, Falls, WaitsBelow, below_kept, falls_alone, first_kinds}}
+use Rattle.progress_laws.proofs.WaitKinds.{FreezeGoes, NeverWaits, NextIs, callback_kind, fails_now, freeze_goes, freeze_keeps, graces_kept, is_failing, kind, never_next}
 
 -- need not wait
 abbrev is_free : Words → Phase → Bool
@@ -33,12 +33,14 @@ free_is b h = grind arith
 waits_is : (b : Bool) → not b ≡ false → b ≡ true
 waits_is b h = grind arith
 
--- a freeze that waits, but for its first lock, is at a stage of its own
-waits_on : (w : Words) (s : FreezeStep) → freeze_waits w s ≡ true → is_failing s ≡ false
-waits_on w s h = grind arith
-
-waits_freezing : (w : Words) (nodes : ℕ) (s : FreezeStep) → freeze_waits w s ≡ true → is_first_lock s ≡ false → freezes (freeze_stage_role nodes s) ≡ 1
-waits_freezing w nodes s waits first = grind arith
+-- a freeze that fails waits for `umount` alone, with level 1 given up
+waits_undoing : (w : Words) (s : FreezeStep) → freeze_waits w s ≡ true → is_failing s ≡ true → (code : ℕ) × (s ≡ FreezeStep.LocksToUndo code)
+waits_undoing w (FreezeStep.LocksToUndo code) waits failing = (code, refl)
+waits_undoing w (FreezeStep.Closes d) waits failing = absurd (true≢false (sym failing))
+waits_undoing w (FreezeStep.Waits d) waits failing = absurd (true≢false (sym failing))
+waits_undoing w FreezeStep.Locks waits failing = absurd (true≢false (sym failing))
+waits_undoing w FreezeStep.LocksAgain waits failing = absurd (true≢false (sym failing))
+waits_undoing w s waits failing = absurd (true≢false (sym waits))
 
 -- with one freeze at a stage of its own, where another stands that need not wait
 abbrev IsBusy : FreezeStep → Type 0
@@ -61,9 +63,6 @@ is_busy stage sb nodes (FreezeStep.Reopens u code) under known none =
     absurd (omega (arith, under, ap under_way (reopening_stage stage sb u.level u.step known)))
 is_busy stage sb nodes (FreezeStep.Releases answer) under known none = inr (inr (answer, refl))
 is_busy stage sb nodes s under known none = absurd (omega (arith, none))
-
-under_le : (stage : ℕ) → under_way stage ≤ 1
-under_le stage = grind arith
 
 -- each phase is of one of the first two kinds, or a freeze, or of the last kind
 kinds : (phase : Phase) → (kind phase < 2) ⊎ (((x : Freeze) × (phase ≡ Phase.Freezes x)) ⊎ (kind phase ≡ 3))
@@ -92,6 +91,10 @@ busy_stage stage one =
 of_first : (s : FreezeStep) → is_first_lock s ≡ true → s ≡ FreezeStep.Locks
 of_first s h = grind arith
 
+fails_still : (s : FreezeStep) (hook : HookAnswer) → is_failing s ≡ true → fails_now s hook ≡ true
+fails_still (FreezeStep.Waits d) hook f = absurd (true≢false (sym f))
+fails_still s hook f = f
+
 -- the steps that a freeze may still take alone
 abbrev alone_of : ℕ → Words → Phase → ℕ
 alone_of processors w (Phase.Freezes x) = freeze_left x x.step + 1 + freeze_ahead processors x.step + freeze_tries w x.step
@@ -100,6 +103,38 @@ alone_of processors w phase = 1
 alone_some : (processors : ℕ) (w : Words) (phase : Phase) → 0 < alone_of processors w phase
 alone_some processors w (Phase.Freezes x) = omega arith
 alone_some processors w phase = omega arith
+
+-- with one task more that is lost
+abbrev with_lost : (ℕ → Bool) → ℕ → ℕ → Bool
+with_lost lost t y = if y == t then true else lost y
+
+with_it : (lost : ℕ → Bool) (t : ℕ) → with_lost lost t t ≡ true
+with_it lost t = rw (eq-eqb t t refl) refl
+
+with_live : (lost : ℕ → Bool) (t y : ℕ) → with_lost lost t y ≡ false → lost y ≡ false
+with_live lost t y live = elim (cases_Bool (y == t)) [ inl is ↦ absurd (true≢false (rw is at live)) | inr ne ↦ rw ne at live ]
+
+live_with : (lost : ℕ → Bool) (t y : ℕ) → (y ≡ t → ⊥) → lost y ≡ false → with_lost lost t y ≡ false
+live_with lost t y ne live = rw (ne_eqb y t ne) live
+
+-- a scheduler that steps fewer tasks is one that may step more, and leaves the view of one that it doesn't step
+module _ (c : Config) (lost : ℕ → Bool) (t : ℕ) (v : View) where
+  apart : (P : World → Type 0) (n : ℕ) (w : World) → w.views t ≡ v → ReplyOr c (with_lost lost t) P n w →
+      ReplyOr c lost (λ z. P z × (z.views t ≡ v)) n w
+  apart P zero w same h = (h, same)
+  apart P (suc n) w same (inl h) = inl (h, same)
+  apart P (suc n) w same (inr s) = inr (
+    s.0,
+    s.1,
+    with_live lost t s.0 s.2,
+    s.3,
+    λ hook. elim (s.4 hook) [
+      | inl r ↦ inl r
+      | inr h ↦
+          inr (apart P n (happens c w (Steps s.0 hook))
+          (same_entry c t w (Steps s.0 hook) (λ e. true≢false (sym (with_it lost t) ∙ (ap (with_lost lost t) e ∙ s.2))) ∙ same) h)
+    ],
+  )
 
 module _ (c : Config) (lim : IsWithin c) (lost : ℕ → Bool) where
   some_same : (p q : Phase) → Some p ≡ Some q → p ≡ q
@@ -178,13 +213,13 @@ module _ (c : Config) (lim : IsWithin c) (lost : ℕ → Bool) where
       abbrev next : World
       next = after_step w t (Phase.Freezes x) hook
 
-      stays_closed : (y : Freeze) → (next.views t).phase ≡ Some (Phase.Freezes y) → (is_failing x.step ≡ true → is_failing y.step ≡ true) →
+      stays_closed : (y : Freeze) → (next.views t).phase ≡ Some (Phase.Freezes y) → (fails_now x.step hook ≡ true → is_failing y.step ≡ true) →
           (is_failing y.step ≡ true) ⊎ AllBelow c lim lost 2 next
       stays_closed y here fails =
-          elim (cases_Bool (is_failing x.step)) [
+          elim (cases_Bool (fails_now x.step hook)) [
             | inl f ↦ inl (fails f)
             | inr on ↦ elim closed [
-              | inl f ↦ absurd (true≢false (sym f ∙ on))
+              | inl f ↦ absurd (true≢false (sym (fails_still x.step hook f) ∙ on))
               | inr all ↦
                   let k = freeze_keeps w.words x x.step hook on in
                   inr (λ z lz lv. elim (eqb_tells z t) [
@@ -211,7 +246,7 @@ module _ (c : Config) (lim : IsWithin c) (lost : ℕ → Bool) where
       fewer_left y here ahead (inr (inl h)) = absurd (omega (arith, h.1))
       fewer_left y here ahead (inr (inr h)) = omega (arith, h.0, ahead.0, h.2)
 
-      freeze_by : (n : Next Freeze) → (next.views t).phase ≡ phase_after (map_next Phase.Freezes n) → FreezeGoes x.step n →
+      freeze_by : (n : Next Freeze) → (next.views t).phase ≡ phase_after (map_next Phase.Freezes n) → FreezeGoes (fails_now x.step hook) n →
           NextIs (λ (y : Freeze). (freeze_ahead c.processors y.step ≤ freeze_ahead c.processors x.step) × (freeze_left y y.step < freeze_left x x.step →
           freeze_ahead c.processors y.step + freeze_room c.processors y.step ≤ freeze_ahead c.processors x.step + freeze_tries w.words x.step)) n →
           ComesNearer w.words next.words (Phase.Freezes x) (map_next Phase.Freezes n) →
@@ -238,7 +273,7 @@ module _ (c : Config) (lim : IsWithin c) (lost : ℕ → Bool) where
           let found : ℕ = found_at w.words (Phase.Freezes x) hook in
           freeze_by (freeze_after x x.step found hook).0 (stands_after c w t lt hook (Phase.Freezes x) at) (freeze_goes w.words x x.step hook free)
           (ahead_falls c.processors w.words x c x.step found hook f.5)
-          ((phase_comes c (Phase.Freezes x)).nears lim w good t lt hook at free)
+          ((phase_comes c (Phase.Freezes x)).nears lim w good t lt hook at (goes_on w.words (Phase.Freezes x) hook free))
 
     freeze_small : (w : World) → IsGood c w → (x : Freeze) → (w.views t).phase ≡ Some (Phase.Freezes x) →
         alone_of c.processors w.words (Phase.Freezes x) ≤ most_of_freeze
@@ -283,6 +318,23 @@ module _ (c : Config) (lim : IsWithin c) (lost : ℕ → Bool) where
         let e : phase_after (after_of q (found_at v.words q hook) hook).0 ≡ Some (Phase.Freezes (at_freeze y FreezeStep.LoadsStage)) = rw free refl in
         inr (loads_soon n (after_step v u q hook) (stands_after c v u lu hook q at ∙ e) some part))
 
+    -- one that has given level 1 up finds `umount` free
+    undo_soon : (n : ℕ) (v : World) (code : ℕ) → (v.views u).phase ≡ Some (Phase.Freezes (at_freeze y (FreezeStep.LocksToUndo code))) →
+        (v.words.umount == 0) ≡ true → ReplyOr c lost P (suc (suc (suc n))) v
+    undo_soon n v code at free =
+        step_to c lim lost P (suc (suc n)) v u lu live (Phase.Freezes (at_freeze y (FreezeStep.LocksToUndo code))) at (λ hook.
+        let q : Phase = Phase.Freezes (at_freeze y (FreezeStep.LocksToUndo code)) in
+        let e : phase_after (after_of q (found_at v.words q hook) hook).0 ≡ Some (Phase.Freezes (at_freeze y (FreezeStep.GivesUp 1 code))) =
+        rw free refl in
+        inr (gives_up_soon n (after_step v u q hook) code (stands_after c v u lu hook q at ∙ e)))
+      where
+        gives_up_soon : (n : ℕ) (v : World) (code : ℕ) → (v.views u).phase ≡ Some (Phase.Freezes (at_freeze y (FreezeStep.GivesUp 1 code))) →
+            ReplyOr c lost P (suc (suc n)) v
+        gives_up_soon n v code at =
+            step_to c lim lost P (suc n) v u lu live (Phase.Freezes (at_freeze y (FreezeStep.GivesUp 1 code))) at (λ hook.
+            let q : Phase = Phase.Freezes (at_freeze y (FreezeStep.GivesUp 1 code)) in
+            inr (releases_soon n (after_step v u q hook) (Err (GateError.Hook code)) (stands_after c v u lu hook q at)))
+
     busy_soon : (v : World) (s : FreezeStep) → (v.views u).phase ≡ Some (Phase.Freezes (at_freeze y s)) → freeze_waits v.words s ≡ false → IsBusy s →
         (v.words.stage == 0) ≡ false → (v.words.stage == 4) ≡ false → ReplyOr c lost P 3 v
     busy_soon v s at free (inl first) some part =
@@ -301,7 +353,7 @@ module _ (c : Config) (lim : IsWithin c) (lost : ℕ → Bool) where
   module _ (w : World) (good : IsGood c w) (all : AllBelow c lim lost 2 w) (t : ℕ) (lt : t < c.tasks) (x : Freeze)
       (at : (w.views t).phase ≡ Some (Phase.Freezes x)) (waits : freeze_waits w.words x.step ≡ true) (first : is_first_lock x.step ≡ false) where
     mine : freezes (stage_roles w t) ≡ 1
-    mine = ap (λ p. freezes (stage_role_of p)) at ∙ waits_freezing w.words x.nodes x.step waits first
+    mine = freezing_at c w good t x at waits first
 
     under : under_way w.words.stage ≡ 1
     under = omega (arith, (good Stages).freezing, mine, total_at c.tasks t (λ z. freezes (stage_roles w z)) lt, under_le w.words.stage)
@@ -312,8 +364,7 @@ module _ (c : Config) (lim : IsWithin c) (lost : ℕ → Bool) where
         let ne : u ≡ t → ⊥ = λ e.
         true≢false (sym waits ∙ (ap (must_wait w.words) (some_same (Phase.Freezes x) (Phase.Freezes y)
         (sym at ∙ (sym (ap (λ z. (w.views z).phase) e) ∙ there))) ∙ free)) in
-        let few : total c.tasks (λ z. freezes (stage_roles w z)) ≤ 1 = omega (arith, (good Stages).freezing, under) in
-        let none : freezes (stage_roles w u) ≡ 0 = other_zero c.tasks t (λ z. freezes (stage_roles w z)) few lt mine u lu ne in
+        let none : freezes (stage_roles w u) ≡ 0 = other_zero c.tasks t (λ z. freezes (stage_roles w z)) (few_freeze c w good) lt mine u lu ne in
         let its : stage_roles w u ≡ freeze_stage_role y.nodes y.step = ap stage_role_of there in
         let known : KnowsStage w.words.stage w.words.sb (freeze_stage_role y.nodes y.step) =
         subst (KnowsStage w.words.stage w.words.sb) its ((good Stages).knows u lu) in
@@ -338,43 +389,76 @@ module _ (c : Config) (lim : IsWithin c) (lost : ℕ → Bool) where
             (another u lu live y.0 (there ∙ ap Some y.1) (sym (ap (must_wait w.words) y.1) ∙ free))
         one u lu live phase there free (inr (inr last)) = last_replies u lu live (AllWait c lost) w good phase there last free
 
-  after_kinds : (w : World) → IsGood c w → AllBelow c lim lost 2 w → ReplyOr c lost (AllWait c lost) (most_of_freeze + most_steps c) w
+  -- with the freeze of this task at the lock that it needs to give level 1 up
+  undoing : (w : World) → IsGood c w → AllBelow c lim lost 2 w → (t : ℕ) → t < c.tasks → lost t ≡ false → (x : Freeze) (code : ℕ) →
+      (w.views t).phase ≡ Some (Phase.Freezes (at_freeze x (FreezeStep.LocksToUndo code))) → ReplyOr c lost (AllWait c lost) (most_steps c) w
+  undoing w good all t lt live x code at =
+      elim (eqb_tells w.words.umount 0) [
+        | inl z ↦
+            no_nearer c lim lost (AllWait c lost) 3 (most_steps c) w three_few
+            (undo_soon (AllWait c lost) t lt live x 0 w code at z.0)
+        | inr z ↦ beside_freeze w good all t lt (at_freeze x (FreezeStep.LocksToUndo code)) at (rw z.0 refl) refl
+      ]
+
+  -- once it waits there, all starts come outside or go in again
+  after_undoing : (w : World) → IsGood c w → (t : ℕ) → t < c.tasks → lost t ≡ false → (x : Freeze) (code : ℕ) →
+      (w.views t).phase ≡ Some (Phase.Freezes (at_freeze x (FreezeStep.LocksToUndo code))) →
+      ReplyOr c lost (AllWait c lost) (most_of_kinds c + most_steps c) w
+  after_undoing w good t lt live x code at =
+      and_then c lim lost (λ z. AllBelow c lim (with_lost lost t) 2 z × (z.views t ≡ w.views t)) (AllWait c lost) (most_of_kinds c) (most_steps c)
+      (most_of_kinds c + most_steps c) w (omega arith) good
+      (apart c lost t (w.views t) (AllBelow c lim (with_lost lost t) 2) (most_of_kinds c) w refl (first_kinds c lim (with_lost lost t) w good))
+      (λ z sound h.
+      let there : (z.views t).phase ≡ Some (Phase.Freezes (at_freeze x (FreezeStep.LocksToUndo code))) = ap (λ (v : View). v.phase) h.1 ∙ at in
+      undoing z sound (λ y ly lives. elim (eqb_tells y t) [
+        | inl e ↦
+            subst (WaitsBelow 2 z.words) (sym (ap (λ a. (z.views a).phase) e.1 ∙ there)) (λ below. absurd (omega (arith, below)))
+        | inr ne ↦ h.0 y ly (live_with lost t y ne.1 lives)
+      ]) t lt live x code there)
+
+  after_kinds : (w : World) → IsGood c w → AllBelow c lim lost 2 w →
+      ReplyOr c lost (AllWait c lost) (most_of_freeze + (most_of_kinds c + most_steps c)) w
   after_kinds w good all =
       elim (some_or_none c lim lost is_free w) [
         | inl s ↦ one s.0 s.1 s.2 s.3 s.4 (free_is (must_wait w.words s.3) s.5) (kinds s.3)
-        | inr none ↦ no_nearer c lim lost (AllWait c lost) 0 (most_of_freeze + most_steps c) w (omega arith) (all_wait w none)
+        | inr none ↦
+            no_nearer c lim lost (AllWait c lost) 0 (most_of_freeze + (most_of_kinds c + most_steps c)) w (omega arith) (all_wait w none)
       ]
     where
       freeze_first : (t : ℕ) (lt : t < c.tasks) (live : lost t ≡ false) (x : Freeze) → (w.views t).phase ≡ Some (Phase.Freezes x) → freeze_waits w.words x.step ≡ false →
-          ReplyOr c lost (AllWait c lost) (most_of_freeze + most_steps c) w
+          ReplyOr c lost (AllWait c lost) (most_of_freeze + (most_of_kinds c + most_steps c)) w
       freeze_first t lt live x at free =
           and_then c lim lost (Stopped c lim lost t lt live is_free (alone_of c.processors) (Freezing t lt live)) (AllWait c lost)
-          (most_of_freeze) (most_steps c) (most_of_freeze + most_steps c) w (omega arith) good
+          (most_of_freeze) (most_of_kinds c + most_steps c) (most_of_freeze + (most_of_kinds c + most_steps c)) w (omega arith) good
           (runs c lim lost t lt live is_free (alone_of c.processors) (Freezing t lt live) (λ v p g. alone_some c.processors v p)
           (freeze_goes_on t lt live) (most_of_freeze) w good (Phase.Freezes x) at (x, at, inr all, λ first. free)
           (λ g. freeze_small t lt live w good x at)) (λ v sound h.
           let waits : freeze_waits v.words h.0.0.step ≡ true =
           sym (ap (must_wait v.words) (some_same h.1 (Phase.Freezes h.0.0) (sym h.2 ∙ h.0.1))) ∙ waits_is (must_wait v.words h.1) h.3 in
           elim h.0.2 [
-            | inl failing ↦ absurd (true≢false (sym failing ∙ waits_on v.words h.0.0.step waits))
+            | inl failing ↦
+                let undo = waits_undoing v.words h.0.0.step waits failing in
+                after_undoing v sound t lt live h.0.0 undo.0 (h.0.1 ∙ ap (λ s. Some (Phase.Freezes (at_freeze h.0.0 s))) undo.1)
             | inr closed ↦ elim (cases_Bool (is_first_lock h.0.0.step)) [
               | inl first ↦ absurd (true≢false (sym waits ∙ h.0.3 first))
-              | inr later ↦ beside_freeze v sound closed t lt h.0.0 h.0.1 waits later
+              | inr later ↦
+                  no_nearer c lim lost (AllWait c lost) (most_steps c) (most_of_kinds c + most_steps c) v (omega arith)
+                  (beside_freeze v sound closed t lt h.0.0 h.0.1 waits later)
             ]
           ])
 
       one : (t : ℕ) → t < c.tasks → lost t ≡ false → (phase : Phase) → (w.views t).phase ≡ Some phase → must_wait w.words phase ≡ false →
           (kind phase < 2) ⊎ (((x : Freeze) × (phase ≡ Phase.Freezes x)) ⊎ (kind phase ≡ 3)) →
-          ReplyOr c lost (AllWait c lost) (most_of_freeze + most_steps c) w
+          ReplyOr c lost (AllWait c lost) (most_of_freeze + (most_of_kinds c + most_steps c)) w
       one t lt live phase at free (inl low) =
           let below : WaitsBelow 2 w.words (Some phase) = subst (WaitsBelow 2 w.words) at (all t lt live) in absurd (true≢false (sym (below low) ∙ free))
       one t lt live phase at free (inr (inl x)) =
           freeze_first t lt live x.0 (at ∙ ap Some x.1) (sym (ap (must_wait w.words) x.1) ∙ free)
       one t lt live phase at free (inr (inr last)) =
-          no_nearer c lim lost (AllWait c lost) (most_steps c) (most_of_freeze + most_steps c) w (omega arith)
+          no_nearer c lim lost (AllWait c lost) (most_steps c) (most_of_freeze + (most_of_kinds c + most_steps c)) w (omega arith)
           (last_replies t lt live (AllWait c lost) w good phase at last free)
 
 pub first_reply : (c : Config) → IsWithin c → (lost : ℕ → Bool) (w : World) → IsGood c w → RepliesOrWaits c lost (most_to_reply c) w
 first_reply c lim lost w good =
-    and_then c lim lost (AllBelow c lim lost 2) (AllWait c lost) (17 * c.tasks + 3 * (2 * c.tasks + 8)) (most_of_freeze c lim lost + most_steps c)
-    (most_to_reply c) w (omega arith) good (first_kinds c lim lost w good) (λ v sound all. after_kinds c lim lost v sound all)
+    and_then c lim lost (AllBelow c lim lost 2) (AllWait c lost) (most_of_kinds c)
+    (most_of_freeze c lim lost + (most_of_kinds c + most_steps c)) (most_to_reply c) w (omega arith) good (first_kinds c lim lost w good) (λ v sound all. after_kinds c lim lost v sound all)

@@ -4,7 +4,8 @@ use Rattle.std.proofs.lemmas.Bool.{cases_Bool, Decides.eqb_tells}
 use Rattle.std.specs.Prelude.{Err, Ok, None, Some, ◌-◌, ◌==◌, if◌then◌else◌, Option}
 use Rattle.access_model.specs.{Holders.held_by, declared.{actions.Action.Action, replies.Next.Next}}
 use Rattle.cpu_words.specs.{Hooks.HookAnswer, Sums.sum_taking, Words.Words, declared.sums.{Sum.Sum, Taken.Taken}}
-use Rattle.freeze_levels.specs.{Freezes.{after_clearing, after_closing, after_reopening, freeze_after, freeze_fails, level_closed}, Holders.holders_in}
+use Rattle.freeze_levels.specs.{Freezes.{after_clearing, after_closing, after_reopening, after_undoing, at_freeze, freeze_after, freeze_fails, freeze_undone, level_closed}, Holders.holders_in}
+use Rattle.freeze_laws.proofs.stages.Facts.{at_level}
 use Rattle.freeze_levels.specs.declared.freezes.{Freeze.Freeze, FreezeStep.FreezeStep}
 use Rattle.node_words.specs.{Phases.clear_after, declared.marks.ClearMarks.ClearMarks}
 use Rattle.percpu_rwsem.specs.Writers.{at_down_write, callback_step, down_write_after, down_write_summed, enter_step, exit_made, passed_awaited, sections_awaited, up_write_after}
@@ -15,7 +16,8 @@ use Rattle.percpu_rwsem.specs.declared.writers.{UpWrite.UpWrite, UpWriteStep.UpW
 use Rattle.gate_world.specs.{Fits.FreezeFits, declared.config.Config.Config}
 use Rattle.gate_schedules.proofs.operations.deadlocks.BlockedCloses.{StaysAtLevel, down_stays}
 use Rattle.progress_laws.specs.StepsLeft.{closed_left, closing_left, closing_tries, freeze_left, freeze_tries, opening_left, opening_tries}
-use Rattle.progress_laws.proofs.{AllNearer.exchange_few, WaitKinds.NextIs}
+use Rattle.gate_schedules.specs.operations.Ranks.{exchange_rank}
+use Rattle.progress_laws.proofs.{AllNearer.exchange_few, Nearer.by_wait, WaitKinds.NextIs}
 
 -- the loads of a sum, which may begin again once
 abbrev sum_tries : ℕ → ℕ
@@ -46,6 +48,10 @@ freeze_ahead processors FreezeStep.LoadsHolders = 0
 freeze_ahead processors (FreezeStep.Holds beside) = 0
 freeze_ahead processors FreezeStep.CompletesReadOnly = 0
 freeze_ahead processors (FreezeStep.Closes d) = closing_ahead processors d.step + closed_ahead processors d.level
+freeze_ahead processors (FreezeStep.Waits d) = closing_ahead processors d.step + closed_ahead processors d.level
+freeze_ahead processors (FreezeStep.Undoes level transition code) = 3 * (level - 1) + 1
+freeze_ahead processors (FreezeStep.LocksToUndo code) = 0
+freeze_ahead processors (FreezeStep.GivesUp level code) = 3 * (level - 1)
 freeze_ahead processors FreezeStep.LocksAgain = closed_ahead processors 1
 freeze_ahead processors FreezeStep.SetsPageFault = closed_ahead processors 1
 freeze_ahead processors (FreezeStep.Cleans marks) = closed_ahead processors 2
@@ -68,6 +74,8 @@ opening_room (UpWriteStep.Exits x) = 2
 
 abbrev pub freeze_room : ℕ → FreezeStep → ℕ
 freeze_room processors (FreezeStep.Closes d) = closing_room processors d.step
+freeze_room processors (FreezeStep.Waits d) = closing_room processors d.step
+freeze_room processors (FreezeStep.Undoes level transition code) = 2
 freeze_room processors (FreezeStep.Reopens u code) = opening_room u.step
 freeze_room processors step = 1
 
@@ -94,6 +102,9 @@ opening_small level (UpWriteStep.Exits x) three = omega (arith, three)
 
 pub ahead_small : (c : Config) (p : ℕ) (x : Freeze) (s : FreezeStep) → FreezeFits c x.holder s → freeze_ahead p s + freeze_room p s ≤ 6 * p + 25
 ahead_small c p x (FreezeStep.Closes d) f = omega (arith, closing_small p d.step, closed_small p d.level)
+ahead_small c p x (FreezeStep.Waits d) f = omega (arith, closing_small p d.step, closed_small p d.level)
+ahead_small c p x (FreezeStep.Undoes level transition code) f = omega (arith, f.1)
+ahead_small c p x (FreezeStep.GivesUp level code) f = omega (arith, f.1)
 ahead_small c p x (FreezeStep.Reopens u code) f = omega (arith, opening_small u.level u.step f.1)
 ahead_small c p x s f = omega arith
 
@@ -171,13 +182,19 @@ module _ (p : ℕ) (w : Words) where
       ]
 
   module _ (x : Freeze) where
+    closes_on : (d y : DownWrite) → y.level ≡ d.level → ClosingAhead p w d d.step y →
+        ComesAhead p (freeze_left x (FreezeStep.Closes d)) (freeze_ahead p (FreezeStep.Closes d)) (freeze_tries w (FreezeStep.Closes d))
+        (Next.Go (at_freeze x (FreezeStep.Closes y)))
+    closes_on d y level h =
+        (omega (arith, h.0, ap (closed_ahead p) level), λ lt. omega (arith, h.1 (omega (arith, lt, ap (closed_left x) level)), ap (closed_ahead p) level))
+
     closes_ahead : (d : DownWrite) (next : Next DownWrite) (action : Option Action) → StaysAtLevel d next action → LevelAhead p w d d.step next →
         ComesAhead p (freeze_left x (FreezeStep.Closes d)) (freeze_ahead p (FreezeStep.Closes d)) (freeze_tries w (FreezeStep.Closes d))
         (after_closing x d.level next)
-    closes_ahead d (Next.Go y) action level h =
-        (omega (arith, h.0, ap (closed_ahead p) level), λ lt. omega (arith, h.1 (omega (arith, lt, ap (closed_left x) level)), ap (closed_ahead p) level))
+    closes_ahead d (Next.Go y) action level h = closes_on d y level h
     closes_ahead d (Next.Wait y) action level h =
-        (omega (arith, h.0, ap (closed_ahead p) level), λ lt. omega (arith, h.1 (omega (arith, lt, ap (closed_left x) level)), ap (closed_ahead p) level))
+        by_wait (λ z. ComesAhead p (freeze_left x (FreezeStep.Closes d)) (freeze_ahead p (FreezeStep.Closes d)) (freeze_tries w (FreezeStep.Closes d))
+        (Next.Wait (at_freeze x z))) y y.step (closes_on d y level h) (closes_on d y level h)
     closes_ahead d (Next.Done answer) action level h =
         let n = closed_next d.level x.nodes in (omega (arith, h, n.0), λ lt. omega (arith, h, n.0, n.1))
 
@@ -191,6 +208,20 @@ module _ (p : ℕ) (w : Words) where
     exits_ahead u code t TransitionNext.Undefined = (omega arith, λ lt. absurd (omega (arith, lt)))
     exits_ahead u code t (TransitionNext.Made s) =
         let n = fails_next (u.level - 1) code in (omega (arith, n.0), λ lt. omega (arith, n.0, n.1))
+
+    -- a level that is given up: a sum has a try left, at which it is
+    gives_up_ahead : (level : ℕ) → 1 ≤ level → level ≤ 3 → 3 * (level - 1) + 3 ≤ closed_ahead p level
+    gives_up_ahead level one three = at_level (λ i. 3 * (i - 1) + 3 ≤ closed_ahead p i) (omega arith, omega arith, omega arith) level one three
+
+    undone_next : (level code : ℕ) → (freeze_ahead p (freeze_undone level code) ≤ 3 * (level - 1)) × (freeze_room p (freeze_undone level code) ≡ 1)
+    undone_next level code = elim (eqb_tells level 1) [ inl h ↦ rw h.0 (omega arith, refl) | inr h ↦ rw h.0 (omega arith, refl) ]
+
+    undoes_ahead : (level code : ℕ) (t : Transition) (next : TransitionNext) →
+        ComesAhead p (2 * level + 2) (3 * (level - 1) + 1) (exchange_rank (w.sync level) t) (after_undoing x level code next)
+    undoes_ahead level code t (TransitionNext.More y) = (omega arith, λ lt. absurd (omega (arith, lt)))
+    undoes_ahead level code t TransitionNext.Undefined = (omega arith, λ lt. absurd (omega (arith, lt)))
+    undoes_ahead level code t (TransitionNext.Made s) =
+        let n = undone_next level code in (omega (arith, n.0), λ lt. omega (arith, n.0, n.1))
 
     opens_ahead : (u : UpWrite) (code : ℕ) (s : UpWriteStep) (found : ℕ) → 1 ≤ u.level →
         ComesAhead p (opening_left u.level s) (opening_ahead u.level s) (opening_tries w u s) (after_reopening x u.level code (up_write_after u s found).0)
@@ -225,6 +256,15 @@ module _ (p : ℕ) (w : Words) where
         elim (eqb_tells found 0) [ inl h ↦ rw h.0 (omega arith, λ lt. omega arith) | inr h ↦ rw h.0 (omega arith, λ lt. omega arith) ]
     ahead_falls c (FreezeStep.Closes d) found hook f =
         closes_ahead d (down_write_after d d.step found).0 (down_write_after d d.step found).1 (down_stays d d.step found) (closing_falls d d.step found)
+    ahead_falls c (FreezeStep.Waits d) found (Ok answer) f =
+        closes_ahead d (down_write_after d d.step found).0 (down_write_after d d.step found).1 (down_stays d d.step found) (closing_falls d d.step found)
+    ahead_falls c (FreezeStep.Waits d) found (Err code) f =
+        let h = gives_up_ahead d.level f.0.0 f.0.1 in (omega (arith, h), λ lt. omega (arith, h))
+    ahead_falls c (FreezeStep.Undoes level transition code) found hook f = undoes_ahead level code transition (transition_after on_exit transition found)
+    ahead_falls c (FreezeStep.LocksToUndo code) found hook f =
+        elim (eqb_tells found 0) [ inl h ↦ rw h.0 (omega arith, λ lt. omega arith) | inr h ↦ rw h.0 (omega arith, λ lt. omega arith) ]
+    ahead_falls c (FreezeStep.GivesUp level code) found hook f =
+        let n = fails_next (level - 1) code in (omega (arith, n.0), λ lt. omega (arith, n.0, n.1))
     ahead_falls c FreezeStep.LocksAgain found hook f =
         elim (eqb_tells found 0) [ inl h ↦ rw h.0 (omega arith, λ lt. omega arith) | inr h ↦ rw h.0 (omega arith, λ lt. omega arith) ]
     ahead_falls c (FreezeStep.Cleans marks) found hook f = clears_ahead marks (clear_after marks found).0

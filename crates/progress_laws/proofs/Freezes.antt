@@ -4,19 +4,21 @@ use Rattle.std.proofs.lemmas.Bool.{cases_Bool, eq-eqb, Decides.eqb_tells}
 use Rattle.std.specs.Prelude.{Err, Ok, nat_lt, ◌==◌, ◌-◌, Option}
 use Rattle.access_model.specs.{Holders.{held_by, is_unheld, with_holder}, declared.{actions.Action.Action, replies.Next.Next}}
 use Rattle.cpu_words.specs.{Hooks.HookAnswer, Touches.{found_by}, Words.{Words, read}, declared.names.WordName.WordName}
-use Rattle.freeze_levels.specs.{Freezes.{after_clearing, after_closing, after_reopening, freeze_after, freeze_fails, freeze_next, level_closed}, Holders.holders_in}
+use Rattle.freeze_levels.specs.{Freezes.{after_clearing, after_closing, after_reopening, after_undoing, at_freeze, freeze_after, freeze_fails, freeze_next, freeze_undone, level_closed}, Holders.holders_in}
 use Rattle.freeze_levels.specs.{Thaws.{after_opening, thaw_after, thaw_next, thaw_opens}, declared.{freezes.{Freeze.Freeze, FreezeStep.FreezeStep}, thaws.{Thaw.Thaw, ThawStep.ThawStep}}}
 use Rattle.gate_world.specs.{Fits.{Fits, FreezeFits, PhaseFits, ThawFits}, Levels.sync_role_of, Roles.{freeze_position, position_sync, sync_beside, thaw_position}}
 use Rattle.gate_world.specs.{Rules.{Fitting, IsGood}, Views.held_of, Worlds.{World, found_at, words_after}, declared.{config.Config.Config, work.Phase.Phase}}
 use Rattle.node_words.specs.{Phases.{clear_after, clear_next}, declared.marks.ClearMarks.{ClearMarks}}
-use Rattle.freeze_laws.specs.levels.Operations.{down_write_role, up_write_role}
-use Rattle.percpu_rwsem.specs.{Writers.{down_write_after, down_write_next, up_write_after, up_write_next}}
+use Rattle.freeze_laws.{proofs.stages.Facts.at_level, specs.levels.Operations.{down_write_role, up_write_role}}
+use Rattle.percpu_rwsem.specs.{SyncWords.on_exit, Transitions.transition_after}
+use Rattle.percpu_rwsem.specs.Writers.{down_write_after, down_write_next, exit_made, up_write_after, up_write_next}
+use Rattle.percpu_rwsem.specs.declared.transitions.{Transition.Transition, TransitionNext.TransitionNext}
 use Rattle.percpu_rwsem.specs.declared.writers.{DownWrite.DownWrite, DownWriteStep.DownWriteStep, UpWrite.UpWrite, UpWriteStep.UpWriteStep}
 use Rattle.gate_schedules.proofs.{frames.Words.load_same, operations.deadlocks.{BlockedCloses.{StaysAtLevel, down_stays}, RankDecreases.after_event}}
 use Rattle.progress_laws.specs.StepsLeft.{closed_left, closing_left, closing_tries, freeze_left, freeze_tries, opening_left, opening_tries, thaw_left, thaw_tries}
 use Rattle.progress_laws.specs.Waiting.{freeze_waits, thaw_waits}
 use Rattle.progress_laws.proofs.{Calls.{lock_found, lock_free}, Levels.{ClosingNears, ClosingStays, OpeningNears, closing_nears, closing_stays, opening_nears}}
-use Rattle.progress_laws.proofs.Nearer.{NearsBy, NearsPhase, StaysBy, phase_nears, phase_stays}
+use Rattle.progress_laws.proofs.Nearer.{NearsBy, NearsPhase, StaysBy, by_wait, freeze_waits_on, phase_nears, phase_stays}
 
 -- what comes after a step of a freeze, and of a thaw
 abbrev FreezeNears : Words → Words → ℕ → ℕ → Next Freeze → Type 0
@@ -37,25 +39,37 @@ closed_next x level some =
     ]
 
 -- after an event of the closing of a level
+closes_on : (w after : Words) (x : Freeze) (d : DownWrite) (s : DownWriteStep) (y : DownWrite) → y.level ≡ d.level → ClosingNears w after d s (Next.Go y) →
+    FreezeNears w after (closing_left d.tasks s + closed_left x d.level) (closing_tries w d s) (Next.Go (at_freeze x (FreezeStep.Closes y)))
+closes_on w after x d s y level (inl h) = inl (omega (arith, h, ap (closed_left x) level))
+closes_on w after x d s y level (inr (inl h)) = absurd (omega (arith, h.1))
+closes_on w after x d s y level (inr (inr h)) = inr (inr (omega (arith, h.0, ap (closed_left x) level), omega arith, h.2, h.3))
+
 closes_near : (w after : Words) (x : Freeze) (d : DownWrite) (s : DownWriteStep) (next : Next DownWrite) (action : Option Action) → 1 ≤ x.nodes →
     StaysAtLevel d next action → ClosingNears w after d s next →
     FreezeNears w after (closing_left d.tasks s + closed_left x d.level) (closing_tries w d s) (after_closing x d.level next)
-closes_near w after x d s (Next.Go y) action some level (inl h) = inl (omega (arith, h, ap (closed_left x) level))
-closes_near w after x d s (Next.Go y) action some level (inr (inl h)) = absurd (omega (arith, h.1))
-closes_near w after x d s (Next.Go y) action some level (inr (inr h)) =
-    inr (inr (omega (arith, h.0, ap (closed_left x) level), omega arith, h.2, h.3))
-closes_near w after x d s (Next.Wait y) action some level (inl h) = inl (omega (arith, h, ap (closed_left x) level))
-closes_near w after x d s (Next.Wait y) action some level (inr (inl h)) = absurd (omega (arith, h.1))
-closes_near w after x d s (Next.Wait y) action some level (inr (inr h)) =
-    inr (inr (omega (arith, h.0, ap (closed_left x) level), omega arith, h.2, h.3))
+closes_near w after x d s (Next.Go y) action some level h = closes_on w after x d s y level h
+closes_near w after x d s (Next.Wait y) action some level h =
+    by_wait (λ z. FreezeNears w after (closing_left d.tasks s + closed_left x d.level) (closing_tries w d s) (Next.Wait (at_freeze x z))) y y.step
+    (closes_on w after x d s y level h) (closes_on w after x d s y level h)
 closes_near w after x d s (Next.Done answer) action some level h = inl (omega (arith, closed_next x d.level some))
+
+abbrev FreezeStays : Words → (a n : ℕ) → Next Freeze → Type 0
+FreezeStays w a n next =
+    StaysBy (λ (y : Freeze). freeze_waits w y.step ≡ true) (λ (y : Freeze). freeze_left y y.step) (λ (y : Freeze). 0)
+    (λ (y : Freeze). freeze_tries w y.step) a 0 n next
+
+stays_on : (w : Words) (x : Freeze) (d : DownWrite) (s : DownWriteStep) (y : DownWrite) → y.level ≡ d.level → ClosingStays w d s (Next.Go y) →
+    FreezeStays w (closing_left d.tasks s + closed_left x d.level) (closing_tries w d s) (Next.Go (at_freeze x (FreezeStep.Closes y)))
+stays_on w x d s y level h = (h.0, omega (arith, h.1, ap (closed_left x) level), refl, h.3)
 
 closes_stay : (w : Words) (x : Freeze) (d : DownWrite) (s : DownWriteStep) (next : Next DownWrite) (action : Option Action) →
     StaysAtLevel d next action → ClosingStays w d s next →
-    StaysBy (λ (y : Freeze). freeze_waits w y.step ≡ true) (λ (y : Freeze). freeze_left y y.step) (λ (y : Freeze). 0)
-    (λ (y : Freeze). freeze_tries w y.step) (closing_left d.tasks s + closed_left x d.level) 0 (closing_tries w d s) (after_closing x d.level next)
-closes_stay w x d s (Next.Go y) action level h = (h.0, omega (arith, h.1, ap (closed_left x) level), refl, h.3)
-closes_stay w x d s (Next.Wait y) action level h = (h.0, omega (arith, h.1, ap (closed_left x) level), refl, h.3)
+    FreezeStays w (closing_left d.tasks s + closed_left x d.level) (closing_tries w d s) (after_closing x d.level next)
+closes_stay w x d s (Next.Go y) action level h = stays_on w x d s y level h
+closes_stay w x d s (Next.Wait y) action level h =
+    by_wait (λ z. FreezeStays w (closing_left d.tasks s + closed_left x d.level) (closing_tries w d s) (Next.Wait (at_freeze x z))) y y.step
+    (stays_on w x d s y level h) (stays_on w x d s y level h)
 closes_stay w x d s (Next.Done answer) action level h = absurd h
 
 clears_near : (w after : Words) (x : Freeze) (marks : ClearMarks) (found : ℕ) → marks.node < marks.nodes →
@@ -67,6 +81,13 @@ clears_near w after x marks found lt =
 fails_left : (x : Freeze) (level code : ℕ) → 1 ≤ level → freeze_left x (freeze_fails (level - 1) code) < 2 * level
 fails_left x level code one =
     elim (eqb_tells (level - 1) 0) [ inl h ↦ rw h.0 (omega (arith, one)) | inr h ↦ rw h.0 (omega (arith, one)) ]
+
+-- a level that is given up has fewer steps left than one that is closed
+gives_up_left : (x : Freeze) (level : ℕ) → 1 ≤ level → level ≤ 3 → 2 * level + 2 < closed_left x level
+gives_up_left x level one three = at_level (λ i. 2 * i + 2 < closed_left x i) (omega arith, omega arith, omega arith) level one three
+
+undone_left : (x : Freeze) (level code : ℕ) → freeze_left x (freeze_undone level code) < 2 * level + 2
+undone_left x level code = elim (eqb_tells level 1) [ inl h ↦ rw h.0 (omega (arith, h.1)) | inr h ↦ rw h.0 (omega arith) ]
 
 opens_left : (level : ℕ) → 1 ≤ level → thaw_left (thaw_opens (level - 1)) < 2 * level
 opens_left level one =
@@ -81,6 +102,15 @@ module _ (c : Config) (w : World) (good : IsGood c w) (t : ℕ) (lt : t < c.task
     reopens_near x code (Next.Wait y) h = absurd h
     reopens_near x code (Next.Done answer) h = inl (omega (arith, h, fails_left x u.level code one))
 
+    undoes_near : (x : Freeze) (code : ℕ) (transition : Transition) (n : TransitionNext) →
+        OpeningNears c w good t lt u one three after (UpWriteStep.Exits transition) (exit_made u n) →
+        FreezeNears w.words after (2 * u.level + 2) (opening_tries w.words u (UpWriteStep.Exits transition)) (after_undoing x u.level code n)
+    undoes_near x code transition (TransitionNext.More y) (level, inl h) = absurd (omega (arith, h))
+    undoes_near x code transition (TransitionNext.More y) (level, inr h) = inr (inr (omega arith, omega arith, h.1, h.2))
+    undoes_near x code transition TransitionNext.Undefined (level, inl h) = absurd (omega (arith, h))
+    undoes_near x code transition TransitionNext.Undefined (level, inr h) = inr (inr (omega arith, omega arith, h.1, h.2))
+    undoes_near x code transition (TransitionNext.Made s) h = inl (omega (arith, undone_left x u.level code))
+
     thaws_near : (x : Thaw) (next : Next UpWrite) → OpeningNears c w good t lt u one three after s next →
         ThawNears w.words after (opening_left u.level s) (opening_tries w.words u s) (after_opening x u.level next)
     thaws_near x (Next.Go y) (level, inl h) = inl h
@@ -90,7 +120,7 @@ module _ (c : Config) (w : World) (good : IsGood c w) (t : ℕ) (lt : t < c.task
 
   module _ (x : Freeze) (some : 1 ≤ x.nodes) where
     freeze_nears : (hook : HookAnswer) (s : FreezeStep) → ((i : ℕ) → sync_role_of i (w.views t).phase ≡ position_sync i (freeze_position s)) →
-        FreezeFits c x.holder s → freeze_waits w.words s ≡ false →
+        FreezeFits c x.holder s → freeze_waits_on w.words s hook ≡ false →
         FreezeNears w.words (after_event w.words (freeze_next x s hook)) (freeze_left x s) (freeze_tries w.words s)
         (freeze_after x s (found_by (freeze_next x s hook).1 (read w.words (freeze_next x s hook).0)) hook).0
     freeze_nears hook FreezeStep.Locks role fits free = rw (lock_free w.words free) (inl (omega arith))
@@ -114,6 +144,23 @@ module _ (c : Config) (w : World) (good : IsGood c w) (t : ℕ) (lt : t < c.task
         closes_near w.words (after_event w.words (down_write_next d d.step)) x d d.step (down_write_after d d.step found).0
         (down_write_after d d.step found).1 some (down_stays d d.step found)
         (closing_nears c w good t lt d fits.0 fits.1 fits.3 d.step (role d.level ∙ here) fits.4 free)
+    freeze_nears (Ok answer) (FreezeStep.Waits d) role fits free =
+        let here : position_sync d.level (freeze_position (FreezeStep.Waits d)) ≡ down_write_role d.step =
+        ap (λ q. sync_beside q (nat_lt d.level d.level) (down_write_role d.step)) (eq-eqb d.level d.level refl) in
+        let found : ℕ = found_by (down_write_next d d.step).1 (read w.words (down_write_next d d.step).0) in
+        closes_near w.words (after_event w.words (down_write_next d d.step)) x d d.step (down_write_after d d.step found).0
+        (down_write_after d d.step found).1 some (down_stays d d.step found)
+        (closing_nears c w good t lt d fits.0.0 fits.0.1 fits.0.3 d.step (role d.level ∙ here) fits.0.4 free)
+    freeze_nears (Err code) (FreezeStep.Waits d) role fits free = inl (omega (arith, gives_up_left x d.level fits.0.0 fits.0.1))
+    freeze_nears hook (FreezeStep.Undoes level transition code) role fits free =
+        let u : UpWrite = record { level = level; step = UpWriteStep.Exits transition } in
+        let here : position_sync level (freeze_position (FreezeStep.Undoes level transition code)) ≡ up_write_role u.step =
+        ap (λ q. sync_beside q (nat_lt level level) (up_write_role u.step)) (eq-eqb level level refl) in
+        undoes_near u fits.0 fits.1 (after_event w.words (up_write_next u u.step)) u.step x code transition
+        (transition_after on_exit transition (found_by (up_write_next u u.step).1 (read w.words (up_write_next u u.step).0)))
+        (opening_nears c w good t lt u fits.0 fits.1 u.step (role level ∙ here))
+    freeze_nears hook (FreezeStep.LocksToUndo code) role fits free = rw (lock_free w.words free) (inl (omega arith))
+    freeze_nears hook (FreezeStep.GivesUp level code) role fits free = inl (omega (arith, fails_left x level code fits.0))
     freeze_nears hook FreezeStep.LocksAgain role fits free = rw (lock_free w.words free) (inl (omega arith))
     freeze_nears hook FreezeStep.SetsPageFault role fits free = inl (omega arith)
     freeze_nears hook (FreezeStep.Cleans marks) role fits free =
@@ -130,10 +177,9 @@ module _ (c : Config) (w : World) (good : IsGood c w) (t : ℕ) (lt : t < c.task
         (opening_nears c w good t lt u fits.0 fits.1 u.step (role u.level ∙ here))
     freeze_nears hook (FreezeStep.Releases answer) role fits free = tt
 
-    freeze_stays : (hook : HookAnswer) (s : FreezeStep) → FreezeFits c x.holder s → freeze_waits w.words s ≡ true →
+    freeze_stays : (hook : HookAnswer) (s : FreezeStep) → FreezeFits c x.holder s → freeze_waits_on w.words s hook ≡ true →
         (after_event w.words (freeze_next x s hook) ≡ w.words) ×
-        StaysBy (λ (y : Freeze). freeze_waits w.words y.step ≡ true) (λ (y : Freeze). freeze_left y y.step) (λ (y : Freeze). 0)
-        (λ (y : Freeze). freeze_tries w.words y.step) (freeze_left x s) 0 (freeze_tries w.words s)
+        FreezeStays w.words (freeze_left x s) (freeze_tries w.words s)
         (freeze_after x s (found_by (freeze_next x s hook).1 (read w.words (freeze_next x s hook).0)) hook).0
     freeze_stays hook FreezeStep.Locks fits waits =
         let z : (w.words.umount == 0) ≡ false = lock_found w.words waits in
@@ -144,6 +190,16 @@ module _ (c : Config) (w : World) (good : IsGood c w) (t : ℕ) (lt : t < c.task
           h.0,
           closes_stay w.words x d d.step (down_write_after d d.step found).0 (down_write_after d d.step found).1 (down_stays d d.step found) h.1,
         )
+    freeze_stays (Ok answer) (FreezeStep.Waits d) fits waits =
+        let found : ℕ = found_by (down_write_next d d.step).1 (read w.words (down_write_next d d.step).0) in
+        let h = closing_stays c w good t lt d fits.0.0 fits.0.1 fits.0.3 d.step fits.0.4 waits in (
+          h.0,
+          closes_stay w.words x d d.step (down_write_after d d.step found).0 (down_write_after d d.step found).1 (down_stays d d.step found) h.1,
+        )
+    freeze_stays (Err code) (FreezeStep.Waits d) fits waits = absurd (true≢false (sym waits))
+    freeze_stays hook (FreezeStep.LocksToUndo code) fits waits =
+        let z : (w.words.umount == 0) ≡ false = lock_found w.words waits in
+        rw z (load_same w.words WordName.Umount, (waits, refl, refl, refl))
     freeze_stays hook FreezeStep.LocksAgain fits waits =
         let z : (w.words.umount == 0) ≡ false = lock_found w.words waits in
         rw z (load_same w.words WordName.Umount, (waits, refl, refl, refl))

@@ -12,12 +12,17 @@ pub mod WaitKinds
 pub mod FreezeAlone
 pub mod Sweeps
 pub mod FirstReply
+pub mod Measured
 pub mod Rounds
 pub mod WaitFree
 pub mod Blame
+pub mod OneFreeze
 pub mod FairlyBlocked
+pub mod BarredStarts
 pub mod NobodyReplies
 pub mod Remaining
 pub mod LostStays
 pub mod NeverReplies
+pub mod GivingUp
+pub mod Undone
 mod Worked

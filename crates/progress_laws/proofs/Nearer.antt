@@ -1,13 +1,62 @@
 -- What a step that doesn't wait leaves: fewer steps that nobody can undo; or those of a start, with each `block` as it was; or those of an exchange or
 -- a sum, with all words as they were.
-use Rattle.std.proofs.{Common.{◌≡◌, ℕ, ◌<◌, ◌≤◌, inl, true, false, arith}}
-use Rattle.std.specs.Prelude.{◌⊎◌, Some}
+use Rattle.std.proofs.{Common.{◌≡◌, ◌∙◌, ℕ, ◌<◌, ◌≤◌, ap, inl, refl, sym, true, true≢false, false, arith}}
+use Rattle.std.specs.Prelude.{◌⊎◌, Err, Ok, Some, Bool}
 use Rattle.access_model.specs.{Replies.map_next, declared.replies.Next.Next}
 use Rattle.cpu_words.specs.{Hooks.HookAnswer, Words.Words}
 use Rattle.gate_world.specs.{Configs.IsWithin, Rules.IsGood, Work.after_of, Worlds.{World, found_at, words_after}}
 use Rattle.gate_world.specs.declared.{config.Config.Config, work.Phase.Phase}
 use Rattle.gate_schedules.specs.operations.Unblocked.{RankDecreases}
-use Rattle.progress_laws.specs.{StepsLeft.{start_steps, steps_left, tries_left}, Waiting.{is_outside, must_wait}}
+use Rattle.freeze_levels.specs.declared.{freezes.FreezeStep.FreezeStep, hooks.HookKind.TheVariants.{KeepWaiting}}
+use Rattle.freeze_levels.specs.Freezes.{closing_waits, freeze_hook}
+use Rattle.gate_world.specs.Work.{hook_of}
+use Rattle.percpu_rwsem.specs.declared.writers.{DownWrite.DownWrite, DownWriteStep.DownWriteStep}
+use Rattle.progress_laws.specs.{StepsLeft.{start_steps, steps_left, tries_left}, Waiting.{freeze_waits, is_outside, must_wait}}
+
+-- a freeze that has to wait does so with this answer: with an error it gives its level up
+abbrev pub freeze_waits_on : Words → FreezeStep → HookAnswer → Bool
+freeze_waits_on w (FreezeStep.Waits d) (Err code) = false
+freeze_waits_on w s hook = freeze_waits w s
+
+-- the same of a phase of any layer
+abbrev pub waits_on : Words → Phase → HookAnswer → Bool
+waits_on w (Phase.Freezes x) hook = freeze_waits_on w x.step hook
+waits_on w phase hook = must_wait w phase
+
+-- what need not wait does so with no answer
+freeze_goes_on : (w : Words) (s : FreezeStep) (hook : HookAnswer) → freeze_waits w s ≡ false → freeze_waits_on w s hook ≡ false
+freeze_goes_on w (FreezeStep.Waits d) (Ok answer) free = free
+freeze_goes_on w (FreezeStep.Waits d) (Err code) free = refl
+freeze_goes_on w s hook free = free
+
+pub goes_on : (w : Words) (phase : Phase) (hook : HookAnswer) → must_wait w phase ≡ false → waits_on w phase hook ≡ false
+goes_on w (Phase.Freezes x) hook free = freeze_goes_on w x.step hook free
+goes_on w phase hook free = free
+
+freeze_on : (w : Words) (s : FreezeStep) (hook : HookAnswer) → freeze_waits_on w s hook ≡ true → freeze_waits w s ≡ true
+freeze_on w (FreezeStep.Waits d) (Ok answer) waits = waits
+freeze_on w (FreezeStep.Waits d) (Err code) waits = absurd (true≢false (sym waits))
+freeze_on w s hook waits = waits
+
+pub on_waits : (w : Words) (phase : Phase) (hook : HookAnswer) → waits_on w phase hook ≡ true → must_wait w phase ≡ true
+on_waits w (Phase.Freezes x) hook waits = freeze_on w x.step hook waits
+on_waits w phase hook waits = waits
+
+-- what has to wait does so where `keep_waiting` says to
+freeze_patient : (w : Words) (s : FreezeStep) (hook : HookAnswer) → (freeze_hook s ≡ Some KeepWaiting → hook ≡ Ok tt) → freeze_waits w s ≡ true →
+    freeze_waits_on w s hook ≡ true
+freeze_patient w (FreezeStep.Waits d) hook patient waits = ap (freeze_waits_on w (FreezeStep.Waits d)) (patient refl) ∙ waits
+freeze_patient w s hook patient waits = waits
+
+pub patient_waits : (w : Words) (phase : Phase) (hook : HookAnswer) → (hook_of phase ≡ Some KeepWaiting → hook ≡ Ok tt) → must_wait w phase ≡ true →
+    waits_on w phase hook ≡ true
+patient_waits w (Phase.Freezes x) hook patient waits = freeze_patient w x.step hook patient waits
+patient_waits w phase hook patient waits = waits
+
+-- what is so of a freeze that closes a level, and of one that is asked there whether to wait on, is so where its down-write waits
+pub by_wait : (P : FreezeStep → Type 0) (d : DownWrite) (s : DownWriteStep) → P (FreezeStep.Closes d) → P (FreezeStep.Waits d) → P (closing_waits d s)
+by_wait P d (DownWriteStep.Sums sum) goes waits = waits
+by_wait P d s goes waits = goes
 
 -- of what comes next, by these numbers of it, where those before it are these
 abbrev pub NearsBy : {P : Type 0} (left starts tries : P → ℕ) (a b d : ℕ) (same_block same_words : Type 0) → Next P → Type 0
@@ -36,10 +85,10 @@ StaysWaiting w p next =
 -- of each phase
 pub record NearsPhase (c : Config) (phase : Phase) : Type 0 where
   pub nears : IsWithin c → (w : World) → IsGood c w → (t : ℕ) → t < c.tasks → (hook : HookAnswer) → (w.views t).phase ≡ Some phase →
-      must_wait w.words phase ≡ false →
+      waits_on w.words phase hook ≡ false →
       ComesNearer w.words (words_after w.words phase hook) phase (after_of phase (found_at w.words phase hook) hook).0
   pub stays : IsWithin c → (w : World) → IsGood c w → (t : ℕ) → t < c.tasks → (hook : HookAnswer) → (w.views t).phase ≡ Some phase →
-      must_wait w.words phase ≡ true → is_outside w.words phase ≡ false →
+      waits_on w.words phase hook ≡ true → is_outside w.words phase ≡ false →
       (words_after w.words phase hook ≡ w.words) × StaysWaiting w.words phase (after_of phase (found_at w.words phase hook) hook).0
 
 -- fewer steps that nobody can undo

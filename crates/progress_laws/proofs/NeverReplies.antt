@@ -4,7 +4,7 @@ use Rattle.access_model.specs.declared.errors.GateError.{GateError}
 use Rattle.std.proofs.lemmas.Bool.{cases_lt, eq-eqb, ltb-false}
 use Rattle.std.proofs.Common.{◌≡◌, ℕ, suc, ◌<◌, ◌≤◌, Bool, true, false, true≢false, refl, sym, ap, ◌∙◌, inl, inr, subst, arith, List, [], ◌∷◌}
 use Rattle.std.proofs.lemmas.Bool.{cases_Bool, ne_eqb, Decides.eqb_tells}
-use Rattle.std.specs.Prelude.{◌==◌, ◌%◌, ◌+◌, ◌&&◌, if◌then◌else◌, ◌⊎◌, Some, is_some, nat_lt}
+use Rattle.std.specs.Prelude.{Err, Ok, ◌==◌, ◌%◌, ◌+◌, ◌&&◌, if◌then◌else◌, ◌⊎◌, Some, is_some, nat_lt}
 use Rattle.access_model.specs.{declared.{replies.Next.Next}}
 use Rattle.cpu_words.specs.{Hooks.HookAnswer, Sums.lead, Touches.{found_by, wrap_add}, Words.{Words, read}}
 use Rattle.cpu_words.specs.gate_counts.{Gates.{Barring, BarringHolds, admitted, unread}, Levels.{barring_of, level_as_gate}}
@@ -17,7 +17,8 @@ use Rattle.gate_schedules.proofs.levels.Counts.{held_bit}
 use Rattle.composite_ops.specs.{file_closes.Phases.then_frees, write_access.Phases.{then_gives_back, then_wants}}
 use Rattle.composite_ops.specs.declared.{file_closes.phases.ClosePhase.ClosePhase, write_access.phases.WritePhase.WritePhase}
 use Rattle.freeze_laws.specs.levels.Roles.{closed}
-use Rattle.freeze_levels.specs.{Freezes.{after_closing, freeze_after, freeze_next}, Thaws.{thaw_after, thaw_next}}
+use Rattle.freeze_levels.specs.{Freezes.{after_closing, freeze_after, freeze_hook, freeze_next}, Thaws.{thaw_after, thaw_next}}
+use Rattle.freeze_levels.specs.declared.hooks.HookKind.TheVariants.{KeepWaiting}
 use Rattle.freeze_levels.specs.declared.{freezes.{Freeze.Freeze, FreezeStep.FreezeStep}, thaws.{Thaw.Thaw, ThawStep.ThawStep}}
 use Rattle.gated_tree.specs.{Phases.{snapshot_after, snapshot_locked_out, snapshot_next}, declared.{phases.TreePhase.TreePhase, snapshots.{Snapshot.Snapshot, SnapshotStep.SnapshotStep}}}
 use Rattle.mount_counts.specs.{Phases.{change_after, change_next, has_flag, hold_found, lock_failed, want_after, want_next}, Remounts.{remount_after, remount_next}, Roles.has_hold}
@@ -27,13 +28,13 @@ use Rattle.percpu_rwsem.specs.{Readers.{down_read_after, down_read_next, step_fo
 use Rattle.percpu_rwsem.specs.declared.readers.{DownRead.DownRead}
 use Rattle.gate_world.specs.{Beginnings.refusal, Configs.IsWithin, Fits.{DownWriteStepFits, FreezeFits, PhaseFits}, Levels.{at_level, inside, is_frozen_whole, level_role_of, sync_role_of}}
 use Rattle.gate_world.specs.{Rules.{AtLevel, IsGood, LevelHoldsIn, Sections, SyncAt, SyncHoldsIn, owns, role_of}}
-use Rattle.gate_world.specs.{Views.{held_of, holds_level, phase_after}, Work.after_of, Worlds.{World, after_step, begin_of, begin_refusal, words_after, found_at, happens, run, task_of}}
+use Rattle.gate_world.specs.{Views.{held_of, holds_level, phase_after}, Work.{after_of, hook_of}, Worlds.{World, after_step, begin_of, begin_refusal, words_after, found_at, happens, run, task_of}}
 use Rattle.gate_world.specs.declared.{config.Config.Config, entries.Entry.{Entry, TheVariants.{Begins, Steps}}, operations.Op.Op, views.View.View, work.Phase.Phase}
 use Rattle.gate_schedules.proofs.{levels.Facts.blocked_slow, operations.deadlocks.{BlockedStarts.{StaysKept, start_stays}, RankDecreases.{happens_is, stands_after}}}
 use Rattle.gate_schedules.proofs.{operations.deadlocks.WhoCanStep.fits_at, schedules.Schedule.happens_keeps}
 use Rattle.gate_schedules.specs.operations.Progress.{is_admitted}
-use Rattle.progress_laws.specs.{LostTasks.HoldIsLost, LostForEver.{AreOfOthers, LevelIsLost, LockIsLost, MeetsAtCallback, MeetsAtClosing, MeetsAtFreeze, MeetsHold, MeetsLevel, MeetsLost, MeetsSection, NeverReplies}}
-use Rattle.progress_laws.proofs.{LostStays.{same_entry, words_tell}, NobodyReplies.{GoesOnKept, goes_as, start_section}, Levels.lead_last, Rounds.{absent_is, idle_is}}
+use Rattle.progress_laws.specs.{Answers.{AllAnswerSo, AnswersSo, IsPatientWith}, LostTasks.HoldIsLost, LostForEver.{AreOfOthers, LevelIsLost, LockIsLost, MeetsAtCallback, MeetsAtClosing, MeetsAtFreeze, MeetsHold, MeetsLevel, MeetsLost, MeetsSection, NeverReplies}}
+use Rattle.progress_laws.proofs.{LostStays.{same_entry, words_tell}, Nearer.by_wait, BarredStarts.start_section, NobodyReplies.{GoesOnKept, goes_as, not_patient}, Levels.lead_last, Measured.{absent_is, idle_is}}
 
 abbrev is_start : Phase → Bool
 is_start (Phase.DownReads r) = true
@@ -152,7 +153,9 @@ module _ (c : Config) (lim : IsWithin c) (lost : ℕ → Bool) where
   freeze_later : (w next : World) → SameLost w next → (s : FreezeStep) → MeetsAtFreeze c lost w s → MeetsAtFreeze c lost next s
   freeze_later w next same FreezeStep.Locks h = lock_later w next same h
   freeze_later w next same FreezeStep.LocksAgain h = lock_later w next same h
+  freeze_later w next same (FreezeStep.LocksToUndo code) h = lock_later w next same h
   freeze_later w next same (FreezeStep.Closes d) h = closing_later w next same d d.step h
+  freeze_later w next same (FreezeStep.Waits d) h = closing_later w next same d d.step h
   freeze_later w next same s h = absurd h
 
   callback_later : (w next : World) → SameLost w next → (s : CallbackStep) → MeetsAtCallback c lost w s → MeetsAtCallback c lost next s
@@ -254,39 +257,45 @@ module _ (c : Config) (lim : IsWithin c) (lost : ℕ → Bool) where
         ]
     closing_there t lt d s one three processors fits role h = absurd h
 
+    closes_there : (x : Freeze) (level : ℕ) (next : Next DownWrite) → GoesOnKept (λ (y : DownWrite). MeetsAtClosing c lost w y y.step) next →
+        GoesOnKept (λ (y : Freeze). MeetsAtFreeze c lost w y.step) (after_closing x level next)
+    closes_there x level (Next.Go y) k = k
+    closes_there x level (Next.Wait y) k = by_wait (MeetsAtFreeze c lost w) y y.step k k
+    closes_there x level (Next.Done answer) k = absurd k
+
     freeze_there : (t : ℕ) → t < c.tasks → (x : Freeze) (hook : HookAnswer) (s : FreezeStep) → FreezeFits c x.holder s →
-        ((i : ℕ) → level_role_of i (w.views t).phase ≡ position_count i (freeze_position s)) → MeetsAtFreeze c lost w s →
+        (freeze_hook s ≡ Some KeepWaiting → hook ≡ Ok tt) → ((i : ℕ) → level_role_of i (w.views t).phase ≡ position_count i (freeze_position s)) → MeetsAtFreeze c lost w s →
         GoesOnKept (λ (y : Freeze). MeetsAtFreeze c lost w y.step)
         (freeze_after x s (found_by (freeze_next x s hook).1 (read w.words (freeze_next x s hook).0)) hook).0
-    freeze_there t lt x hook FreezeStep.Locks fits role h = rw (lock_there h) h
-    freeze_there t lt x hook FreezeStep.LocksAgain fits role h = rw (lock_there h) h
-    freeze_there t lt x hook (FreezeStep.Closes d) fits role h =
-        closes (down_write_after d d.step (found_by (down_write_next d d.step).1 (read w.words (down_write_next d d.step).0))).0
+    freeze_there t lt x hook FreezeStep.Locks fits patient role h = rw (lock_there h) h
+    freeze_there t lt x hook FreezeStep.LocksAgain fits patient role h = rw (lock_there h) h
+    freeze_there t lt x hook (FreezeStep.LocksToUndo code) fits patient role h = rw (lock_there h) h
+    freeze_there t lt x hook (FreezeStep.Closes d) fits patient role h =
+        closes_there x d.level (down_write_after d d.step (found_by (down_write_next d d.step).1 (read w.words (down_write_next d d.step).0))).0
         (closing_there t lt d d.step fits.0 fits.1 fits.3 fits.4
         (role d.level ∙ ap (λ b. count_beside b (nat_lt d.level d.level) (down_count_role d.step)) (eq-eqb d.level d.level refl)) h)
-      where
-        closes : (next : Next DownWrite) → GoesOnKept (λ (y : DownWrite). MeetsAtClosing c lost w y y.step) next →
-            GoesOnKept (λ (y : Freeze). MeetsAtFreeze c lost w y.step) (after_closing x d.level next)
-        closes (Next.Go y) k = k
-        closes (Next.Wait y) k = k
-        closes (Next.Done answer) k = absurd k
-    freeze_there t lt x hook s fits role h = absurd h
+    freeze_there t lt x (Ok answer) (FreezeStep.Waits d) fits patient role h =
+        closes_there x d.level (down_write_after d d.step (found_by (down_write_next d d.step).1 (read w.words (down_write_next d d.step).0))).0
+        (closing_there t lt d d.step fits.0.0 fits.0.1 fits.0.3 fits.0.4
+        (role d.level ∙ ap (λ b. count_beside b (nat_lt d.level d.level) (down_count_role d.step)) (eq-eqb d.level d.level refl)) h)
+    freeze_there t lt x (Err code) (FreezeStep.Waits d) fits patient role h = not_patient (Err code) refl (patient refl)
+    freeze_there t lt x hook s fits patient role h = absurd h
 
     -- its own step leaves it where it meets the same
-    step_meets : (t : ℕ) → t < c.tasks → (hook : HookAnswer) (p : Phase) → (w.views t).phase ≡ Some p → PhaseFits c t (held_of (w.views t)) p → MeetsLost c lost w p →
-        GoesOnKept (MeetsLost c lost w) (after_of p (found_at w.words p hook) hook).0
-    step_meets t lt hook (Phase.Mounts (MountPhase.Want x)) at f h =
+    step_meets : (t : ℕ) → t < c.tasks → (hook : HookAnswer) (p : Phase) → (w.views t).phase ≡ Some p → PhaseFits c t (held_of (w.views t)) p →
+        (hook_of p ≡ Some KeepWaiting → hook ≡ Ok tt) → MeetsLost c lost w p → GoesOnKept (MeetsLost c lost w) (after_of p (found_at w.words p hook) hook).0
+    step_meets t lt hook (Phase.Mounts (MountPhase.Want x)) at f patient h =
         goes_as Phase.Mounts (MeetsLost c lost w) _ (goes_as MountPhase.Want (λ y. MeetsLost c lost w (Phase.Mounts y)) _ (hold_at x f.0 h))
-    step_meets t lt hook (Phase.Mounts (MountPhase.Change x)) at f h =
+    step_meets t lt hook (Phase.Mounts (MountPhase.Change x)) at f patient h =
         goes_as Phase.Mounts (MeetsLost c lost w) _ (goes_as MountPhase.Change (λ y. MeetsLost c lost w (Phase.Mounts y)) _
         (kept_more (λ (y : Change). (y.step ≡ ChangeStep.Locks) × (y.wait ≡ true)) (λ (y : Change). MeetsLost c lost w (Phase.Mounts (MountPhase.Change y)))
         (λ y k. (k.0, k.1, h.2)) _ (change_goes w.words x x.step h.0 h.1 (lock_there h.2))))
-    step_meets t lt hook (Phase.Remounts x) at f h =
+    step_meets t lt hook (Phase.Remounts x) at f patient h =
         goes_as Phase.Remounts (MeetsLost c lost w) _
         (kept_more (λ (y : Remount). y.step ≡ RemountStep.Locks) (λ (y : Remount). MeetsLost c lost w (Phase.Remounts y)) (λ y k. (k, h.1)) _
         (remount_goes w.words x x.step hook h.0 (lock_there h.1)))
-    step_meets t lt hook (Phase.DownReads r) at f h = goes_as Phase.DownReads (MeetsLost c lost w) _ (start_there r f.0 f.1 h)
-    step_meets t lt hook (Phase.Writes (WritePhase.Takes m r)) at f h =
+    step_meets t lt hook (Phase.DownReads r) at f patient h = goes_as Phase.DownReads (MeetsLost c lost w) _ (start_there r f.0 f.1 h)
+    step_meets t lt hook (Phase.Writes (WritePhase.Takes m r)) at f patient h =
         goes_as Phase.Writes (MeetsLost c lost w) _ (takes _ (start_there r f.0.0 f.0.1 h))
       where
         takes : (next : Next DownRead) → GoesOnKept (MeetsLevel c lost w) next →
@@ -294,26 +303,26 @@ module _ (c : Config) (lim : IsWithin c) (lost : ℕ → Bool) where
         takes (Next.Go x) k = k
         takes (Next.Wait x) k = k
         takes (Next.Done answer) k = absurd k
-    step_meets t lt hook (Phase.Writes (WritePhase.Wants x)) at f h = goes_as Phase.Writes (MeetsLost c lost w) _ (wants _ (hold_at x f.0.0 h))
+    step_meets t lt hook (Phase.Writes (WritePhase.Wants x)) at f patient h = goes_as Phase.Writes (MeetsLost c lost w) _ (wants _ (hold_at x f.0.0 h))
       where
         wants : (next : Next Want) → GoesOnKept (MeetsHold c lost w) next →
             GoesOnKept (λ (y : WritePhase). MeetsLost c lost w (Phase.Writes y)) (then_gives_back x.mount x.cpu next)
         wants (Next.Go y) k = k
         wants (Next.Wait y) k = k
         wants (Next.Done answer) k = absurd k
-    step_meets t lt hook (Phase.Freezes x) at f h =
-        goes_as Phase.Freezes (MeetsLost c lost w) _ (freeze_there t lt x hook x.step f.5 (λ i. ap (level_role_of i) at) h)
-    step_meets t lt hook (Phase.Callbacks b) at f h = goes_as Phase.Callbacks (MeetsLost c lost w) _ (callback_there b b.step h)
-    step_meets t lt hook (Phase.Thaws x) at f h =
+    step_meets t lt hook (Phase.Freezes x) at f patient h =
+        goes_as Phase.Freezes (MeetsLost c lost w) _ (freeze_there t lt x hook x.step f.5 patient (λ i. ap (level_role_of i) at) h)
+    step_meets t lt hook (Phase.Callbacks b) at f patient h = goes_as Phase.Callbacks (MeetsLost c lost w) _ (callback_there b b.step h)
+    step_meets t lt hook (Phase.Thaws x) at f patient h =
         goes_as Phase.Thaws (MeetsLost c lost w) _
         (kept_more (λ (y : Thaw). y.step ≡ ThawStep.Locks) (λ (y : Thaw). MeetsLost c lost w (Phase.Thaws y)) (λ y k. (k, h.1)) _
         (thaw_goes w.words x x.step hook h.0 (lock_there h.1)))
-    step_meets t lt hook (Phase.Trees (TreePhase.Snapshot x)) at f h =
+    step_meets t lt hook (Phase.Trees (TreePhase.Snapshot x)) at f patient h =
         goes_as Phase.Trees (MeetsLost c lost w) _ (goes_as TreePhase.Snapshot (λ y. MeetsLost c lost w (Phase.Trees y)) _
         (kept_more (λ (y : Snapshot). (y.step ≡ SnapshotStep.Locks) × (y.wait ≡ true))
         (λ (y : Snapshot). MeetsLost c lost w (Phase.Trees (TreePhase.Snapshot y)))
         (λ y k. (k.0, k.1, h.2)) _ (snapshot_goes w.words x x.step h.0 h.1 (lock_there h.2))))
-    step_meets t lt hook (Phase.Closes (ClosePhase.Enters n node r)) at f h =
+    step_meets t lt hook (Phase.Closes (ClosePhase.Enters n node r)) at f patient h =
         goes_as Phase.Closes (MeetsLost c lost w) _ (enters _ (start_there r f.2.0 f.2.1 h))
       where
         enters : (next : Next DownRead) → GoesOnKept (MeetsLevel c lost w) next →
@@ -321,7 +330,7 @@ module _ (c : Config) (lim : IsWithin c) (lost : ℕ → Bool) where
         enters (Next.Go x) k = k
         enters (Next.Wait x) k = k
         enters (Next.Done answer) k = absurd k
-    step_meets t lt hook p at f h = absurd h
+    step_meets t lt hook p at f patient h = absurd h
 
   not_begun : (w : World) (u : ℕ) (op : Op) (p : Phase) → (w.views u).phase ≡ Some p → happens c w (Begins u op) ≡ w
   not_begun w u op p at =
@@ -366,35 +375,38 @@ module _ (c : Config) (lim : IsWithin c) (lost : ℕ → Bool) where
     section_entry w good e y (λ is. true≢false (sym dead ∙ (ap lost is ∙ live))),
   )
 
-  entry_meets : (w : World) → IsGood c w → (t : ℕ) → t < c.tasks → (e : Entry) → lost (task_of e) ≡ false → MeetsAt w t → MeetsAt (happens c w e) t
-  entry_meets w good t lt e live (p, at, h) =
+  entry_meets : (w : World) → IsGood c w → (t : ℕ) → t < c.tasks → (e : Entry) → lost (task_of e) ≡ false → AnswersSo (IsPatientWith t) w e →
+      MeetsAt w t → MeetsAt (happens c w e) t
+  entry_meets w good t lt e live patient (p, at, h) =
       elim (eqb_tells t (task_of e)) [
         | inr ne ↦
             let v : (happens c w e).views t ≡ w.views t = same_entry c t w e ne.1 in
             (p, ap (λ (x : View). x.phase) v ∙ at, meets_later w (happens c w e) same p h)
-        | inl is ↦ mine e is.1 live
+        | inl is ↦ mine e is.1 live patient
       ]
     where
       same : SameLost w (happens c w e)
       same = same_lost w good e live
 
-      mine : (e : Entry) → t ≡ task_of e → lost (task_of e) ≡ false → MeetsAt (happens c w e) t
-      mine (Begins u op) is live =
+      mine : (e : Entry) → t ≡ task_of e → lost (task_of e) ≡ false → AnswersSo (IsPatientWith t) w e → MeetsAt (happens c w e) t
+      mine (Begins u op) is live patient =
           subst (λ (v : World). MeetsAt v t) (sym (not_begun w u op p (sym (ap (λ x. (w.views x).phase) is) ∙ at))) (p, at, h)
-      mine (Steps u hook) is live =
+      mine (Steps u hook) is live patient =
           let next : World = after_step w t p hook in
           let there : happens c w (Steps u hook) ≡ next = ap (λ x. happens c w (Steps x hook)) (sym is) ∙ happens_is c w t lt hook p at in
           let keeps : SameLost w next = subst (SameLost w) there (same_lost w good (Steps u hook) live) in
           subst (λ (v : World). MeetsAt v t) (sym there)
           (own_step w good t lt p at hook keeps (after_of p (found_at w.words p hook) hook).0 (stands_after c w t lt hook p at)
-          (step_meets w good t lt hook p at (fits_at c w good t lt p at) h))
+          (step_meets w good t lt hook p at (fits_at c w good t lt p at)
+          (λ asks. patient p (sym (ap (λ x. (w.views x).phase) is) ∙ at) asks (sym is)) h))
 
-  run_meets : (es : List Entry) (w : World) → IsGood c w → (t : ℕ) → t < c.tasks → AreOfOthers lost es → MeetsAt w t → MeetsAt (run c w es) t
-  run_meets [] w good t lt others h = h
-  run_meets (e ∷ es) w good t lt others h =
-      run_meets es (happens c w e) (happens_keeps c lim w good e).0 t lt others.1 (entry_meets w good t lt e others.0 h)
+  run_meets : (es : List Entry) (w : World) → IsGood c w → (t : ℕ) → t < c.tasks → AreOfOthers lost es → AllAnswerSo (IsPatientWith t) c w es →
+      MeetsAt w t → MeetsAt (run c w es) t
+  run_meets [] w good t lt others patient h = h
+  run_meets (e ∷ es) w good t lt others patient h =
+      run_meets es (happens c w e) (happens_keeps c lim w good e).0 t lt others.1 patient.1 (entry_meets w good t lt e others.0 patient.0 h)
 
   pub never_replies : (w : World) → IsGood c w → NeverReplies c lost w
-  never_replies w good t lt p at h es others =
-      let m : MeetsAt (run c w es) t = run_meets es w good t lt others (p, at, h) in
+  never_replies w good t lt p at h es others patient =
+      let m : MeetsAt (run c w es) t = run_meets es w good t lt others patient (p, at, h) in
       (m.0, m.1)

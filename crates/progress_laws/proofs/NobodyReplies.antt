@@ -1,29 +1,31 @@
 -- Where all have to wait, no steps of theirs are a reply, not even those of starts that count themselves again at a closed level.
 use Rattle.std.proofs.Common.{◌≡◌, ℕ, zero, suc, ◌+◌, ◌*◌, ◌<◌, ◌≤◌, Bool, true, false, true≢false, refl, sym, ap, ◌∙◌, inl, inr, subst, arith, add-one}
 use Rattle.std.proofs.{Math.Path.{fun_ext}, lemmas.Bool.{cases_Bool, cases_lt, ltb-true, ltb-false, eq-eqb, ne_eqb, Decides.eqb_tells}}
-use Rattle.std.specs.Prelude.{◌%◌, ◌==◌, ◌&&◌, not, nat_lt, Option, None, Some, List, [], ◌∷◌, if◌then◌else◌}
-use Rattle.finite_sums.{proofs.Totals.{total_add, total_at, total_bound, total_le, total_none, total_same, update_at, update_off}, specs.Sums.{total, update}}
+use Rattle.std.specs.Prelude.{Err, Ok, ◌%◌, ◌==◌, ◌&&◌, not, nat_lt, Option, None, Some, List, [], ◌∷◌, if◌then◌else◌}
+use Rattle.finite_sums.{proofs.Totals.{total_add, total_at, total_bound, total_le, total_none, total_same, update_at, update_off}, specs.Sums.{total}}
 use Rattle.access_model.specs.{Histories.levels_of, Replies.map_next, declared.{replies.Next.Next}}
-use Rattle.cpu_words.specs.{Hooks.HookAnswer, Sums.{lead}, Touches.{found_by, wrap_add, wrap_sub}, Words.{Words, read}, declared.{names.WordName.WordName, sums.Sum.Sum}}
+use Rattle.cpu_words.specs.{Hooks.HookAnswer, Sums.{lead}, Touches.{found_by, wrap_add}, Words.{Words, read}, declared.{sums.Sum.Sum}}
 use Rattle.cpu_words.specs.gate_counts.{Gates.{Barring, BarringHolds, GateView, admitted, below, counted, unread}, Levels.{LevelRole, barring_of, level_as_gate, processor_of}}
-use Rattle.cpu_words.proofs.gate_counts.{Events.words_sum, Numbers.{below_le, below_step, lead_down, lead_up}}
+use Rattle.cpu_words.proofs.gate_counts.{Events.words_sum, Numbers.{below_le, below_step}}
 use Rattle.composite_ops.specs.{file_closes.Phases.then_frees, write_access.Phases.{after as write_after, then_wants}}
 use Rattle.gated_tree.specs.Phases.{after as tree_after}
 use Rattle.mount_counts.specs.{Phases.{after as mount_after}, Remounts.remount_after}
 use Rattle.composite_ops.specs.declared.{file_closes.phases.ClosePhase.ClosePhase, write_access.phases.WritePhase.WritePhase}
-use Rattle.freeze_levels.specs.{Thaws.thaw_after, Freezes.{after_closing, freeze_after, freeze_next}, declared.freezes.{Freeze.Freeze, FreezeStep.FreezeStep}}
+use Rattle.freeze_levels.specs.{Thaws.thaw_after, Freezes.{after_closing, freeze_after, freeze_hook, freeze_next}, declared.freezes.{Freeze.Freeze, FreezeStep.FreezeStep}}
+use Rattle.freeze_levels.specs.declared.hooks.HookKind.TheVariants.{KeepWaiting}
 use Rattle.percpu_rwsem.specs.{Callbacks.{callback_after, callback_looked, callback_next}, Graces.looked}
 use Rattle.percpu_rwsem.specs.{Readers.{at_down_read, down_read_after, down_read_next, step_found}, SyncWords.unpack, Writers.{down_write_after, down_write_next, sections_awaited}}
 use Rattle.percpu_rwsem.specs.declared.{callbacks.{Callback.Callback, CallbackStep.CallbackStep}, grace.{Grace.Grace, GraceNext.GraceNext}, readers.{DownRead.DownRead, DownReadStep.DownReadStep}}
 use Rattle.percpu_rwsem.specs.declared.writers.{DownWrite.DownWrite, DownWriteStep.DownWriteStep}
 use Rattle.gate_world.specs.{Configs.IsWithin, Fits.{DownWriteStepFits, FreezeFits, PhaseFits, ReadFits}, Levels.{at_level, is_frozen_whole, level_role_of, sync_role_of}, Roles.{count_beside, count_role_if, down_count_role, freeze_position, position_count, read_count_role, read_level_role}}
-use Rattle.gate_world.specs.{Rules.{AtLevel, IsGood, LevelHoldsIn, SyncAt, SyncHoldsIn}, Views.{actions_after, held_of, holds_level, phase_after, view_after}, Work.after_of, Worlds.{World, after_step, found_at, happens, run, value_at}}
+use Rattle.gate_world.specs.{Rules.{AtLevel, IsGood, LevelHoldsIn, SyncAt, SyncHoldsIn}, Views.{actions_after, held_of, holds_level, phase_after, view_after}, Work.{after_of, hook_of}, Worlds.{World, after_step, found_at, happens, run, value_at}}
 use Rattle.gate_world.specs.declared.{config.Config.Config, entries.Entry.{Entry, TheVariants.{Begins, Steps}}, views.View.View, work.Phase.Phase}
-use Rattle.gate_schedules.proofs.{frames.Words.load_same, levels.{Counts.held_bit, Facts.blocked_slow}, operations.deadlocks.{RankDecreases.{after_event, happens_is, stands_after}, WhoCanStep.fits_at}}
+use Rattle.gate_schedules.proofs.{levels.{Counts.held_bit, Facts.blocked_slow}, operations.deadlocks.{RankDecreases.{after_event, happens_is, stands_after}, WhoCanStep.fits_at}}
 use Rattle.gate_schedules.specs.operations.Progress.{IsUnderWay, is_admitted}
-use Rattle.progress_laws.specs.{LostTasks.{AllWait, AreLiveSteps, CallbackIsBlockedBy, ClosingIsBlockedBy, FreezeIsBlockedBy, IsBlockedBy, NobodyReplies}}
+use Rattle.progress_laws.specs.{Answers.{AllAnswerSo, AnswersSo, IsPatient}, LostTasks.{AllWait, AreLiveSteps, CallbackIsBlockedBy, ClosingIsBlockedBy, FreezeIsBlockedBy, IsBlockedBy, NobodyReplies}}
 use Rattle.progress_laws.proofs.{AllNearer.phase_comes, Blame.{both, each_is_blocked, nonzero, not_zero}, Calls.lock_found, FairlyBlocked.{start_wait, waits_out}}
-use Rattle.progress_laws.proofs.{Levels.{LookStays, begun_lead, lead_last, lead_on, look_stays}, Nearer.{StaysBy, StaysWaiting}, Rounds.{absent_is, after_good, idle_is}}
+use Rattle.progress_laws.proofs.{Levels.{LookStays, begun_lead, lead_last, lead_on, look_stays}, Nearer.{StaysBy, StaysWaiting, by_wait, patient_waits}, Measured.{absent_is, after_good, idle_is}}
+use Rattle.progress_laws.proofs.BarredStarts.{ComesTo, barred_next, sought_by, start_elsewhere, start_lead, start_next, start_out, start_section, start_words}
 use Rattle.progress_laws.specs.StepsLeft.{start_steps, steps_left, tries_left}
 use Rattle.progress_laws.specs.Waiting.{callback_waits, closing_waits, freeze_waits, grace_waits, is_outside, lock_taken, must_wait, was_found}
 
@@ -66,6 +68,7 @@ module _ (c : Config) (lost : ℕ → Bool) (v : Words) (held : ℕ → ℕ → 
 
   abbrev FreezeKept : FreezeStep → Type 0
   FreezeKept (FreezeStep.Closes d) = ClosingKept d d.step
+  FreezeKept (FreezeStep.Waits d) = ClosingKept d d.step
   FreezeKept s = freeze_waits v s ≡ true
 
   abbrev CallbackKept : CallbackStep → Type 0
@@ -96,84 +99,6 @@ KeptAt c lost w p = KeptIn c lost w.words (held_in w) (sought_in w) p
 -- each operation under way of a task that isn't lost
 abbrev AllKept : Config → (ℕ → Bool) → World → Type 0
 AllKept c lost w = (t : ℕ) → t < c.tasks → lost t ≡ false → (p : Phase) → (w.views t).phase ≡ Some p → KeptAt c lost w p
-
--- the steps of a start at a closed level
-abbrev barred_next : DownReadStep → DownReadStep
-barred_next DownReadStep.EntersSection = DownReadStep.LoadsSync
-barred_next DownReadStep.LoadsSync = DownReadStep.CountsUpSlow
-barred_next DownReadStep.CountsUpSlow = DownReadStep.LoadsBlock
-barred_next DownReadStep.LoadsBlock = DownReadStep.CountsDown
-barred_next DownReadStep.CountsDown = DownReadStep.LeavesBlocked
-barred_next DownReadStep.LeavesBlocked = DownReadStep.EntersSection
-barred_next s = s
-
-abbrev ComesTo : {P : Type 0} → P → Next P → Type 0
-ComesTo x (Next.Go y) = y ≡ x
-ComesTo x (Next.Wait y) = y ≡ x
-ComesTo x (Next.Done answer) = ⊥
-
-abbrev sought_by : ℕ → DownReadStep → ℕ
-sought_by cpu s = processor_of (read_count_role cpu s)
-
-module _ (w : Words) (r : DownRead) (wait : r.wait ≡ true) (set : w.block r.level ≡ 1)
-    (slow : step_found (unpack (w.sync r.level)) ≡ DownReadStep.CountsUpSlow) where
-  start_next : (s : DownReadStep) → is_admitted s ≡ false →
-      ComesTo (at_down_read r (barred_next s)) (down_read_after r s (found_by (down_read_next r s).1 (read w (down_read_next r s).0))).0 ×
-      ((down_read_after r s (found_by (down_read_next r s).1 (read w (down_read_next r s).0))).1 ≡ None)
-  start_next DownReadStep.EntersSection out = (refl, refl)
-  start_next DownReadStep.LoadsSync out = (ap (at_down_read r) slow, refl)
-  start_next DownReadStep.CountsUpFast out = absurd (true≢false out)
-  start_next DownReadStep.CountsUpSlow out = (refl, refl)
-  start_next DownReadStep.LoadsBlock out = let z : (w.block r.level == 0) ≡ false = ne_eqb (w.block r.level) 0 (λ e. omega (arith, e, set)) in rw z (refl, refl)
-  start_next DownReadStep.CountsDown out = (refl, refl)
-  start_next DownReadStep.LeavesAdmitted out = absurd (true≢false out)
-  start_next DownReadStep.LeavesBlocked out = rw wait (refl, refl)
-
-  start_out : (s : DownReadStep) → is_admitted s ≡ false → is_admitted (barred_next s) ≡ false
-  start_out s out = grind arith
-
-module _ (w : Words) (r : DownRead) where
-  abbrev after : DownReadStep → Words
-  after s = after_event w (down_read_next r s)
-
-  -- its addition and subtraction move a sum's lead as what it seeks
-  start_lead : (s : DownReadStep) → is_admitted s ≡ false → (processors k sum : ℕ) → r.cpu < processors →
-      lead processors (w.level r.level) k sum ≤ 100000 → below k (sought_by r.cpu s) ≤ lead processors (w.level r.level) k sum →
-      lead processors ((after s).level r.level) k sum + below k (sought_by r.cpu s) ≡
-      lead processors (w.level r.level) k sum + below k (sought_by r.cpu (barred_next s))
-  start_lead DownReadStep.EntersSection out processors k sum lp small some = refl
-  start_lead DownReadStep.LoadsSync out processors k sum lp small some =
-      ap (λ (v : Words). lead processors (v.level r.level) k sum + below k 0) (load_same w (WordName.Sync r.level))
-  start_lead DownReadStep.CountsUpFast out processors k sum lp small some = absurd (true≢false out)
-  start_lead DownReadStep.CountsUpSlow out processors k sum lp small some =
-      let e : (after DownReadStep.CountsUpSlow).level r.level ≡ update (w.level r.level) r.cpu (wrap_add (w.level r.level r.cpu) 1) =
-      update_at w.level r.level (update (w.level r.level) r.cpu (wrap_add (w.level r.level r.cpu) 1)) in
-      omega (arith, ap (λ f. lead processors f k sum) e, lead_up processors k sum (w.level r.level) r.cpu lp small)
-  start_lead DownReadStep.LoadsBlock out processors k sum lp small some =
-      ap (λ (v : Words). lead processors (v.level r.level) k sum + below k (suc r.cpu)) (load_same w (WordName.Block r.level))
-  start_lead DownReadStep.CountsDown out processors k sum lp small some =
-      let e : (after DownReadStep.CountsDown).level r.level ≡ update (w.level r.level) r.cpu (wrap_sub (w.level r.level r.cpu) 1) =
-      update_at w.level r.level (update (w.level r.level) r.cpu (wrap_sub (w.level r.level r.cpu) 1)) in
-      omega (arith, ap (λ f. lead processors f k sum) e, lead_down processors k sum (w.level r.level) r.cpu lp (omega (arith, some)))
-  start_lead DownReadStep.LeavesAdmitted out processors k sum lp small some = absurd (true≢false out)
-  start_lead DownReadStep.LeavesBlocked out processors k sum lp small some = refl
-
-  start_elsewhere : (s : DownReadStep) (j : ℕ) → (j ≡ r.level → ⊥) → (after s).level j ≡ w.level j
-  start_elsewhere DownReadStep.EntersSection j ne = refl
-  start_elsewhere DownReadStep.LoadsSync j ne = ap (λ (v : Words). v.level j) (load_same w (WordName.Sync r.level))
-  start_elsewhere DownReadStep.CountsUpFast j ne = update_off w.level r.level (update (w.level r.level) r.cpu (wrap_add (w.level r.level r.cpu) 1)) j ne
-  start_elsewhere DownReadStep.CountsUpSlow j ne = update_off w.level r.level (update (w.level r.level) r.cpu (wrap_add (w.level r.level r.cpu) 1)) j ne
-  start_elsewhere DownReadStep.LoadsBlock j ne = ap (λ (v : Words). v.level j) (load_same w (WordName.Block r.level))
-  start_elsewhere DownReadStep.CountsDown j ne = update_off w.level r.level (update (w.level r.level) r.cpu (wrap_sub (w.level r.level r.cpu) 1)) j ne
-  start_elsewhere DownReadStep.LeavesAdmitted j ne = refl
-  start_elsewhere DownReadStep.LeavesBlocked j ne = refl
-
-  -- no word that others wait by changes but its own section
-  start_words : (s : DownReadStep) → ((after s).umount ≡ w.umount) × ((after s).flags ≡ w.flags) × ((after s).block ≡ w.block)
-  start_words s = grind arith
-
-  pub start_section : (s : DownReadStep) (y : ℕ) → (y ≡ r.task → ⊥) → (after s).section y ≡ w.section y
-  start_section s y ne = grind (arith, update_off)
 
 module _ (c : Config) (lim : IsWithin c) (lost : ℕ → Bool) where
   module _ (w : World) (good : IsGood c w) where
@@ -246,6 +171,14 @@ module _ (c : Config) (lim : IsWithin c) (lost : ℕ → Bool) where
         let b : (total c.processors (w.words.level d.level) % 18446744073709551616 == 0) ≡ false =
         ne_eqb _ 0 (λ e. omega (arith, e, first.ahead, begun_lead c.processors (w.words.level d.level))) in
         rw (processors, a, b) refl
+
+-- an error doesn't say to wait on
+abbrev pub is_error : HookAnswer → Bool
+is_error (Ok answer) = false
+is_error (Err code) = true
+
+pub not_patient : {A : Type 0} (hook : HookAnswer) → is_error hook ≡ true → hook ≡ Ok tt → A
+not_patient hook error e = absurd (true≢false (sym error ∙ ap is_error e))
 
 -- what comes next goes on, and is kept
 abbrev pub GoesOnKept : {P : Type 0} → (P → Type 0) → Next P → Type 0
@@ -320,27 +253,35 @@ module _ (c : Config) (lim : IsWithin c) (lost : ℕ → Bool) (w : World) (good
       GoesOnKept (λ (y : DownWrite). (y.level ≡ d.level) × ClosingIn y y.step) next →
       GoesOnKept (λ (y : Freeze). FreezeIn y.step) (after_closing x level next)
   freeze_closes_goes x level d (Next.Go y) h = h.1
-  freeze_closes_goes x level d (Next.Wait y) h = h.1
+  freeze_closes_goes x level d (Next.Wait y) h = by_wait FreezeIn y y.step h.1 h.1
   freeze_closes_goes x level d (Next.Done answer) h = absurd h
 
-  freeze_goes : (x : Freeze) (s : FreezeStep) (hook : HookAnswer) → FreezeFits c x.holder s → FreezeIn s →
+  freeze_goes : (x : Freeze) (s : FreezeStep) (hook : HookAnswer) → FreezeFits c x.holder s → (freeze_hook s ≡ Some KeepWaiting → hook ≡ Ok tt) →
+      FreezeIn s →
       GoesOnKept (λ (y : Freeze). FreezeIn y.step) (freeze_after x s (found_by (freeze_next x s hook).1 (read w.words (freeze_next x s hook).0)) hook).0 ×
       ((freeze_after x s (found_by (freeze_next x s hook).1 (read w.words (freeze_next x s hook).0)) hook).1 ≡ None)
-  freeze_goes x FreezeStep.Locks hook fits kept = rw (lock_found w.words kept) (kept, refl)
-  freeze_goes x (FreezeStep.Closes d) hook fits kept =
+  freeze_goes x FreezeStep.Locks hook fits patient kept = rw (lock_found w.words kept) (kept, refl)
+  freeze_goes x (FreezeStep.Closes d) hook fits patient kept =
       let h = closing_goes d d.step fits.0 fits.1 fits.3 fits.4 kept in
       (freeze_closes_goes x d.level d (down_write_after d d.step (found_by (down_write_next d d.step).1 (read w.words (down_write_next d d.step).0))).0 h.0, h.1)
-  freeze_goes x FreezeStep.LocksAgain hook fits kept = rw (lock_found w.words kept) (kept, refl)
-  freeze_goes x s hook fits kept = absurd (true≢false (sym kept))
+  freeze_goes x (FreezeStep.Waits d) (Ok answer) fits patient kept =
+      let h = closing_goes d d.step fits.0.0 fits.0.1 fits.0.3 fits.0.4 kept in
+      (freeze_closes_goes x d.level d (down_write_after d d.step (found_by (down_write_next d d.step).1 (read w.words (down_write_next d d.step).0))).0 h.0, h.1)
+  freeze_goes x (FreezeStep.Waits d) (Err code) fits patient kept = not_patient (Err code) refl (patient refl)
+  freeze_goes x (FreezeStep.LocksToUndo code) hook fits patient kept = rw (lock_found w.words kept) (kept, refl)
+  freeze_goes x FreezeStep.LocksAgain hook fits patient kept = rw (lock_found w.words kept) (kept, refl)
+  freeze_goes x s hook fits patient kept = absurd (true≢false (sym kept))
+
+  closing_waiting : (d : DownWrite) (s : DownWriteStep) → 1 ≤ d.level → d.level ≤ 3 → d.processors ≡ c.processors → ClosingIn d s →
+      closing_waits w.words d s ≡ true
+  closing_waiting d (DownWriteStep.AwaitsSections g) one three processors kept = kept.0
+  closing_waiting d (DownWriteStep.Sums sum) one three processors kept = sum_waiting c lim lost w good d sum one three processors kept
+  closing_waiting d s one three processors kept = absurd kept
 
   freeze_waiting : (x : Freeze) (s : FreezeStep) → FreezeFits c x.holder s → FreezeIn s → freeze_waits w.words s ≡ true
   freeze_waiting x (FreezeStep.Closes d) fits kept = closing_waiting d d.step fits.0 fits.1 fits.3 kept
-    where
-      closing_waiting : (d : DownWrite) (s : DownWriteStep) → 1 ≤ d.level → d.level ≤ 3 → d.processors ≡ c.processors → ClosingIn d s →
-          closing_waits w.words d s ≡ true
-      closing_waiting d (DownWriteStep.AwaitsSections g) one three processors kept = kept.0
-      closing_waiting d (DownWriteStep.Sums sum) one three processors kept = sum_waiting c lim lost w good d sum one three processors kept
-      closing_waiting d s one three processors kept = absurd kept
+  freeze_waiting x (FreezeStep.Waits d) fits kept = closing_waiting d d.step fits.0.0 fits.0.1 fits.0.3 kept
+  freeze_waiting x (FreezeStep.LocksToUndo code) fits kept = kept
   freeze_waiting x FreezeStep.Locks fits kept = kept
   freeze_waiting x FreezeStep.LocksAgain fits kept = kept
   freeze_waiting x s fits kept = absurd (true≢false (sym kept))
@@ -519,6 +460,10 @@ module _ (c : Config) (lim : IsWithin c) (lost : ℕ → Bool) (w : World) (good
     freeze_still u lu x (FreezeStep.Closes d) fits is kept =
         closing_still u lu d d.step fits.0 fits.1
         (is d.level ∙ ap (λ b. count_beside b (nat_lt d.level d.level) (down_count_role d.step)) (eq-eqb d.level d.level refl)) kept
+    freeze_still u lu x (FreezeStep.Waits d) fits is kept =
+        closing_still u lu d d.step fits.0.0 fits.0.1
+        (is d.level ∙ ap (λ b. count_beside b (nat_lt d.level d.level) (down_count_role d.step)) (eq-eqb d.level d.level refl)) kept
+    freeze_still u lu x (FreezeStep.LocksToUndo code) fits is kept = lock_still kept
     freeze_still u lu x FreezeStep.Locks fits is kept = lock_still kept
     freeze_still u lu x FreezeStep.LocksAgain fits is kept = lock_still kept
     freeze_still u lu x s fits is kept = absurd (true≢false (sym kept))
@@ -606,7 +551,8 @@ module _ (c : Config) (lim : IsWithin c) (lost : ℕ → Bool) (w : World) (good
     start_by outer go wait (Next.Done answer) is here silent = absurd is
 
   -- a step that has to wait
-  module _ (waits : must_wait w.words p ≡ true) (out : is_outside w.words p ≡ false) (silent : (after_of p (found_at w.words p hook) hook).1 ≡ None) where
+  module _ (waits : must_wait w.words p ≡ true) (patient : hook_of p ≡ Some KeepWaiting → hook ≡ Ok tt) (out : is_outside w.words p ≡ false)
+      (silent : (after_of p (found_at w.words p hook) hook).1 ≡ None) where
     waits_then : (coming : Next Phase) → (next.views t).phase ≡ phase_after coming → StaysWaiting w.words p coming → GoesOnKept (KeptAt c lost w) coming →
         next.words ≡ w.words → Stepped
     waits_then (Next.Go q) here stays kept same = record {
@@ -625,7 +571,7 @@ module _ (c : Config) (lim : IsWithin c) (lost : ℕ → Bool) (w : World) (good
 
     wait_stepped : GoesOnKept (KeptAt c lost w) (after_of p (found_at w.words p hook) hook).0 → Stepped
     wait_stepped kept =
-        let h = (phase_comes c p).stays lim w good t lt hook at waits out in
+        let h = (phase_comes c p).stays lim w good t lt hook at (patient_waits w.words p hook patient waits) out in
         waits_then (after_of p (found_at w.words p hook) hook).0 (stands_after c w t lt hook p at) h.1 kept h.0
 
 -- what has to wait plainly adds no action
@@ -640,15 +586,15 @@ module _ (c : Config) (lim : IsWithin c) (lost : ℕ → Bool) (w : World) (good
   write_kept (WritePhase.Wants x) h = h
   write_kept y h = absurd (true≢false (sym h))
 
-  step_kept : (p : Phase) → (at : (w.views t).phase ≡ Some p) → PhaseFits c t (held_of (w.views t)) p → KeptAt c lost w p →
-      Stepped c lim lost w good t lt live p at hook
-  step_kept (Phase.DownReads r) at f kept =
+  step_kept : (p : Phase) → (at : (w.views t).phase ≡ Some p) → PhaseFits c t (held_of (w.views t)) p → (hook_of p ≡ Some KeepWaiting → hook ≡ Ok tt) →
+      KeptAt c lost w p → Stepped c lim lost w good t lt live p at hook
+  step_kept (Phase.DownReads r) at f patient kept =
       let p : Phase = Phase.DownReads r in
       let found : ℕ = found_by (down_read_next r r.step).1 (read w.words (down_read_next r r.step).0) in
       let s = start_steps_to c lim lost w good t lt live p at hook r f kept Phase.DownReads refl (λ i. refl) (λ i x. refl) (λ x h. h) in
       start_by c lim lost w good t lt live p at hook r f kept Phase.DownReads refl (λ i. refl) (λ i x. refl) (λ x h. h)
       (λ n. map_next Phase.DownReads n) (λ x. refl) (λ x. refl) (down_read_after r r.step found).0 s.0 (stands_after c w t lt hook p at) s.1
-  step_kept (Phase.Writes (WritePhase.Takes m r)) at f kept =
+  step_kept (Phase.Writes (WritePhase.Takes m r)) at f patient kept =
       let p : Phase = Phase.Writes (WritePhase.Takes m r) in
       let to : DownRead → Phase = λ x. Phase.Writes (WritePhase.Takes m x) in
       let found : ℕ = found_by (down_read_next r r.step).1 (read w.words (down_read_next r r.step).0) in
@@ -656,7 +602,7 @@ module _ (c : Config) (lim : IsWithin c) (lost : ℕ → Bool) (w : World) (good
       start_by c lim lost w good t lt live p at hook r f.0 kept to refl (λ i. refl) (λ i x. refl) (λ x h. h)
       (λ n. map_next Phase.Writes (then_wants m r.cpu n)) (λ x. refl) (λ x. refl) (down_read_after r r.step found).0 s.0
       (stands_after c w t lt hook p at) s.1
-  step_kept (Phase.Closes (ClosePhase.Enters f node r)) at fits kept =
+  step_kept (Phase.Closes (ClosePhase.Enters f node r)) at fits patient kept =
       let p : Phase = Phase.Closes (ClosePhase.Enters f node r) in
       let to : DownRead → Phase = λ x. Phase.Closes (ClosePhase.Enters f node x) in
       let found : ℕ = found_by (down_read_next r r.step).1 (read w.words (down_read_next r r.step).0) in
@@ -664,12 +610,12 @@ module _ (c : Config) (lim : IsWithin c) (lost : ℕ → Bool) (w : World) (good
       start_by c lim lost w good t lt live p at hook r fits.2 kept to refl (λ i. refl) (λ i x. refl) (λ x h. h)
       (λ n. map_next Phase.Closes (then_frees f node r.cpu n)) (λ x. refl) (λ x. refl) (down_read_after r r.step found).0 s.0
       (stands_after c w t lt hook p at) s.1
-  step_kept (Phase.Freezes x) at f kept =
-      let g = freeze_goes c lim lost w good x x.step hook f.5 kept in
-      wait_stepped c lim lost w good t lt live (Phase.Freezes x) at hook (freeze_waiting c lim lost w good x x.step f.5 kept) refl g.1
+  step_kept (Phase.Freezes x) at f patient kept =
+      let g = freeze_goes c lim lost w good x x.step hook f.5 patient kept in
+      wait_stepped c lim lost w good t lt live (Phase.Freezes x) at hook (freeze_waiting c lim lost w good x x.step f.5 kept) patient refl g.1
       (goes_as Phase.Freezes (KeptAt c lost w) (freeze_after x x.step (found_at w.words (Phase.Freezes x) hook) hook).0 g.0)
-  step_kept (Phase.Callbacks b) at f kept =
-      wait_stepped c lim lost w good t lt live (Phase.Callbacks b) at hook (callback_waiting c lim lost w good b.step kept) refl (callback_silent b b.step kept)
+  step_kept (Phase.Callbacks b) at f patient kept =
+      wait_stepped c lim lost w good t lt live (Phase.Callbacks b) at hook (callback_waiting c lim lost w good b.step kept) patient refl (callback_silent b b.step kept)
       (goes_as Phase.Callbacks (KeptAt c lost w) (callback_after b b.step (found_at w.words (Phase.Callbacks b) hook)).0
       (callback_goes c lim lost w good b b.step kept))
     where
@@ -677,30 +623,30 @@ module _ (c : Config) (lim : IsWithin c) (lost : ℕ → Bool) (w : World) (good
           (callback_after b s (found_by (callback_next b s).1 (read w.words (callback_next b s).0))).1 ≡ None
       callback_silent b (CallbackStep.AwaitsSections g) k = refl
       callback_silent b s k = absurd k
-  step_kept (Phase.Mounts x) at f kept =
-      wait_stepped c lim lost w good t lt live (Phase.Mounts x) at hook kept refl (plain_silent w.words (Phase.Mounts x) hook refl kept)
+  step_kept (Phase.Mounts x) at f patient kept =
+      wait_stepped c lim lost w good t lt live (Phase.Mounts x) at hook kept patient refl (plain_silent w.words (Phase.Mounts x) hook refl kept)
       (goes_waiting Phase.Mounts w.words (KeptAt c lost w) _ _ _ (mount_after x (found_at w.words (Phase.Mounts x) hook) hook).0 (λ y h. h)
       ((phase_comes c (Phase.Mounts x)).stays lim w good t lt hook at kept refl).1)
-  step_kept (Phase.Remounts x) at f kept =
-      wait_stepped c lim lost w good t lt live (Phase.Remounts x) at hook kept refl (plain_silent w.words (Phase.Remounts x) hook refl kept)
+  step_kept (Phase.Remounts x) at f patient kept =
+      wait_stepped c lim lost w good t lt live (Phase.Remounts x) at hook kept patient refl (plain_silent w.words (Phase.Remounts x) hook refl kept)
       (goes_waiting Phase.Remounts w.words (KeptAt c lost w) _ _ _ (remount_after x x.step (found_at w.words (Phase.Remounts x) hook) hook).0 (λ y h. h)
       ((phase_comes c (Phase.Remounts x)).stays lim w good t lt hook at kept refl).1)
-  step_kept (Phase.Thaws x) at f kept =
-      wait_stepped c lim lost w good t lt live (Phase.Thaws x) at hook kept refl (plain_silent w.words (Phase.Thaws x) hook refl kept)
+  step_kept (Phase.Thaws x) at f patient kept =
+      wait_stepped c lim lost w good t lt live (Phase.Thaws x) at hook kept patient refl (plain_silent w.words (Phase.Thaws x) hook refl kept)
       (goes_waiting Phase.Thaws w.words (KeptAt c lost w) _ _ _ (thaw_after x x.step (found_at w.words (Phase.Thaws x) hook) hook).0 (λ y h. h)
       ((phase_comes c (Phase.Thaws x)).stays lim w good t lt hook at kept refl).1)
-  step_kept (Phase.Trees x) at f kept =
-      wait_stepped c lim lost w good t lt live (Phase.Trees x) at hook kept refl (plain_silent w.words (Phase.Trees x) hook refl kept)
+  step_kept (Phase.Trees x) at f patient kept =
+      wait_stepped c lim lost w good t lt live (Phase.Trees x) at hook kept patient refl (plain_silent w.words (Phase.Trees x) hook refl kept)
       (goes_waiting Phase.Trees w.words (KeptAt c lost w) _ _ _ (tree_after x (found_at w.words (Phase.Trees x) hook) hook).0 (λ y h. h)
       ((phase_comes c (Phase.Trees x)).stays lim w good t lt hook at kept refl).1)
-  step_kept (Phase.Writes (WritePhase.Wants x)) at f kept =
+  step_kept (Phase.Writes (WritePhase.Wants x)) at f patient kept =
       let p : Phase = Phase.Writes (WritePhase.Wants x) in
-      wait_stepped c lim lost w good t lt live p at hook kept refl (plain_silent w.words p hook refl kept)
+      wait_stepped c lim lost w good t lt live p at hook kept patient refl (plain_silent w.words p hook refl kept)
       (goes_waiting Phase.Writes w.words (KeptAt c lost w) _ _ _ (write_after (WritePhase.Wants x) (found_at w.words p hook)).0 write_kept
       ((phase_comes c p).stays lim w good t lt hook at kept refl).1)
-  step_kept (Phase.UpReads u) at f kept = absurd (true≢false (sym kept))
-  step_kept (Phase.Writes x) at f kept = absurd (true≢false (sym kept))
-  step_kept (Phase.Closes x) at f kept = absurd (true≢false (sym kept))
+  step_kept (Phase.UpReads u) at f patient kept = absurd (true≢false (sym kept))
+  step_kept (Phase.Writes x) at f patient kept = absurd (true≢false (sym kept))
+  step_kept (Phase.Closes x) at f patient kept = absurd (true≢false (sym kept))
 
 module _ (c : Config) (lim : IsWithin c) (lost : ℕ → Bool) where
   same_phase : (a b : Phase) → Some a ≡ Some b → a ≡ b
@@ -738,6 +684,8 @@ module _ (c : Config) (lim : IsWithin c) (lost : ℕ → Bool) where
       freeze : (x : Freeze) (s : FreezeStep) → FreezeFits c x.holder s → freeze_waits w.words s ≡ true → FreezeIsBlockedBy c lost w s →
           FreezeKept c lost w.words (held_in w) (sought_in w) s
       freeze x (FreezeStep.Closes d) fits waits by = closing d d.step fits.0 fits.1 fits.3 waits by
+      freeze x (FreezeStep.Waits d) fits waits by = closing d d.step fits.0.0 fits.0.1 fits.0.3 waits by
+      freeze x (FreezeStep.LocksToUndo code) fits waits by = waits
       freeze x FreezeStep.Locks fits waits by = waits
       freeze x FreezeStep.LocksAgain fits waits by = waits
       freeze x s fits waits by = absurd (true≢false (sym waits))
@@ -760,10 +708,10 @@ module _ (c : Config) (lim : IsWithin c) (lost : ℕ → Bool) where
   Kept w next = AllKept c lost next × ((t : ℕ) → t < c.tasks → IsUnderWay w t → IsUnderWay next t)
 
   step_keeps : (w : World) → IsGood c w → AllKept c lost w → (t : ℕ) → t < c.tasks → lost t ≡ false → (hook : HookAnswer) →
-      (o : Option Phase) → (w.views t).phase ≡ o → Kept w (happens c w (Steps t hook))
-  step_keeps w good all t lt live hook None at = subst (Kept w) (sym (idle_is c lim lost w t lt hook at)) (all, λ u lu on. on)
-  step_keeps w good all t lt live hook (Some p) at =
-      let s : Stepped c lim lost w good t lt live p at hook = step_kept c lim lost w good t lt live hook p at (fits_at c w good t lt p at) (all t lt live p at) in
+      AnswersSo IsPatient w (Steps t hook) → (o : Option Phase) → (w.views t).phase ≡ o → Kept w (happens c w (Steps t hook))
+  step_keeps w good all t lt live hook patient None at = subst (Kept w) (sym (idle_is c lim lost w t lt hook at)) (all, λ u lu on. on)
+  step_keeps w good all t lt live hook patient (Some p) at =
+      let s : Stepped c lim lost w good t lt live p at hook = step_kept c lim lost w good t lt live hook p at (fits_at c w good t lt p at) (patient p at) (all t lt live p at) in
       subst (Kept w) (sym (happens_is c w t lt hook p at)) (
         λ u lu lives o is. elim (eqb_tells u t) [
           | inl e ↦
@@ -781,17 +729,17 @@ module _ (c : Config) (lim : IsWithin c) (lost : ℕ → Bool) where
         ],
       )
 
-  run_keeps : (es : List Entry) (w : World) → IsGood c w → AllKept c lost w → AreLiveSteps lost es → Kept w (run c w es)
-  run_keeps [] w good all steps = (all, λ t lt on. on)
-  run_keeps (Begins t op ∷ es) w good all steps = absurd steps
-  run_keeps (Steps t hook ∷ es) w good all steps =
+  run_keeps : (es : List Entry) (w : World) → IsGood c w → AllKept c lost w → AreLiveSteps lost es → AllAnswerSo IsPatient c w es → Kept w (run c w es)
+  run_keeps [] w good all steps patient = (all, λ t lt on. on)
+  run_keeps (Begins t op ∷ es) w good all steps patient = absurd steps
+  run_keeps (Steps t hook ∷ es) w good all steps patient =
       let first : Kept w (happens c w (Steps t hook)) = elim (cases_lt t c.tasks) [
-        | inl l ↦ step_keeps w good all t l steps.0 hook (w.views t).phase refl
+        | inl l ↦ step_keeps w good all t l steps.0 hook patient.0 (w.views t).phase refl
         | inr ge ↦ subst (Kept w) (sym (absent_is c lim lost w t ge hook)) (all, λ u lu on. on)
       ] in
       let rest : Kept (happens c w (Steps t hook)) (run c (happens c w (Steps t hook)) es) =
-      run_keeps es (happens c w (Steps t hook)) (after_good c lim lost w good (Steps t hook)) first.0 steps.1 in
+      run_keeps es (happens c w (Steps t hook)) (after_good c lim lost w good (Steps t hook)) first.0 steps.1 patient.1 in
       (rest.0, λ u lu on. rest.1 u lu (first.1 u lu on))
 
 pub nobody_replies : (c : Config) → IsWithin c → (lost : ℕ → Bool) (w : World) → IsGood c w → NobodyReplies c lost w
-nobody_replies c lim lost w good all es steps = (run_keeps c lim lost es w good (begins_kept c lim lost w good all) steps).1
+nobody_replies c lim lost w good all es steps patient = (run_keeps c lim lost es w good (begins_kept c lim lost w good all) steps patient).1

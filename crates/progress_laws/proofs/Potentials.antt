@@ -10,7 +10,7 @@ mul_more a (suc n) k =
     let f : (a + suc n) * k ≡ (a + n) * k + k = ap (λ z. z * k) e ∙ suc-mul (a + n) k in
     omega (arith, f, mul_more a n k)
 
-mul_comm : (a b : ℕ) → a * b ≡ b * a
+pub mul_comm : (a b : ℕ) → a * b ≡ b * a
 mul_comm a b = grind arith
 
 pub mul_le : (a b k : ℕ) → a ≤ b → a * k ≤ b * k
@@ -19,7 +19,7 @@ mul_le a b k le =
     omega (arith, mul_more a (b - a) k, ap (λ z. z * k) e)
 
 -- a number and a rest below its unit
-unit_falls : (u u' r d d' : ℕ) → u' < u → d' < r → u' * r + d' < u * r + d
+pub unit_falls : (u u' r d d' : ℕ) → u' < u → d' < r → u' * r + d' < u * r + d
 unit_falls u u' r d d' lt small = omega (arith, suc-mul u' r, mul_le (suc u') u r (omega (arith, lt)), small)
 
 module _ (r a a' k k' b b' d d' : ℕ) where

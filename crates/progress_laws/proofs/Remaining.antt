@@ -1,7 +1,7 @@
 -- Where all have to wait, what keeps them in the end: a frozen level, an idle task inside one, or what a lost task left behind.
 use Rattle.std.proofs.Common.{◌≡◌, ℕ, ◌<◌, ◌≤◌, Bool, true, false, true≢false, refl, sym, ap, ◌∙◌, inl, inr, arith}
-use Rattle.std.proofs.lemmas.Bool.{cases_Bool}
-use Rattle.std.specs.Prelude.{Some}
+use Rattle.std.proofs.lemmas.Bool.{cases_Bool, eq-eqb}
+use Rattle.std.specs.Prelude.{Some, if◌then◌else◌}
 use Rattle.cpu_words.specs.{Words.Words, gate_counts.{Gates.{below, counted, unread}, Levels.{level_as_gate, processor_of}}}
 use Rattle.composite_ops.specs.declared.{file_closes.phases.ClosePhase.ClosePhase, write_access.phases.WritePhase.WritePhase}
 use Rattle.gated_tree.specs.declared.{phases.TreePhase.TreePhase}
@@ -11,7 +11,7 @@ use Rattle.percpu_rwsem.specs.declared.writers.{DownWrite.DownWrite, DownWriteSt
 use Rattle.freeze_levels.specs.declared.{freezes.{Freeze.Freeze, FreezeStep.FreezeStep}}
 use Rattle.freeze_laws.specs.levels.Roles.{closed}
 use Rattle.gate_world.specs.{Fits.{FreezeFits, PhaseFits, ReadStepFits}, Levels.{at_level, level_role_of, sync_role_of}, Roles.freeze_owns}
-use Rattle.gate_world.specs.{Rules.{IsGood, owns}, Views.{held_of, holds_level}, Worlds.World, declared.{config.Config.Config, work.Phase.Phase}}
+use Rattle.gate_world.specs.{Rules.{IsGood, owns}, Shown.{freeze_closing, is_summing}, Views.{held_of, holds_level}, Worlds.World, declared.{config.Config.Config, work.Phase.Phase}}
 use Rattle.gate_schedules.proofs.{levels.Counts.held_bit, operations.deadlocks.WhoCanStep.{fits_at, holds_below, holds_not_none, open_above}}
 use Rattle.progress_laws.specs.LostTasks.{AllWait, CallbackIsBlockedBy, ClosingIsBlockedBy, CountIsStuck, FreezeIsBlockedBy, FreezeSums, HoldIsLost, IsBlockedBy}
 use Rattle.progress_laws.specs.LostTasks.{LevelIsStuck, LockIsStuck, Remains, SectionIsLost, WaitsForRemains}
@@ -83,16 +83,21 @@ module _ (c : Config) (lost : ℕ → Bool) (w : World) (good : IsGood c w) (all
 
   -- a freeze that closes a level
   closing_remains : (y : ℕ) → y < c.tasks → lost y ≡ false → (x : Freeze) → (w.views y).phase ≡ Some (Phase.Freezes x) → (d : DownWrite) →
-      x.step ≡ FreezeStep.Closes d → 1 ≤ d.level → d.level ≤ 3 → (s : DownWriteStep) → d.step ≡ s → ClosingIsBlockedBy c lost w d s → Remains c lost w
-  closing_remains y ly live x at d is one three (DownWriteStep.AwaitsSections g) step by = section_remains g.task by
-  closing_remains y ly live x at d is one three (DownWriteStep.Sums sum) step by =
-      count_remains d.level one three (y, ly, live, x, d, sum, at, is, step, refl) by
-  closing_remains y ly live x at d is one three s step by = absurd by
+      1 ≤ d.level → d.level ≤ 3 → (s : DownWriteStep) → freeze_closing d.level x.step ≡ is_summing d.level d.level s → ClosingIsBlockedBy c lost w d s →
+      Remains c lost w
+  closing_remains y ly live x at d one three (DownWriteStep.AwaitsSections g) sums by = section_remains g.task by
+  closing_remains y ly live x at d one three (DownWriteStep.Sums sum) sums by =
+      count_remains d.level one three (y, ly, live, x, at, sums ∙ ap (λ b. if b then 1 else 0) (eq-eqb d.level d.level refl)) by
+  closing_remains y ly live x at d one three s sums by = absurd by
 
   -- a freeze that owns `umount` and has to wait closes a level
   owner_remains : (y : ℕ) → y < c.tasks → lost y ≡ false → (x : Freeze) → (w.views y).phase ≡ Some (Phase.Freezes x) → (s : FreezeStep) →
       x.step ≡ s → FreezeFits c x.holder s → freeze_owns s ≡ 1 → freeze_waits w.words s ≡ true → FreezeIsBlockedBy c lost w s → Remains c lost w
-  owner_remains y ly live x at (FreezeStep.Closes d) is fits own waits by = closing_remains y ly live x at d is fits.0 fits.1 d.step refl by
+  owner_remains y ly live x at (FreezeStep.Closes d) is fits own waits by =
+      closing_remains y ly live x at d fits.0 fits.1 d.step (ap (freeze_closing d.level) is) by
+  owner_remains y ly live x at (FreezeStep.Waits d) is fits own waits by =
+      closing_remains y ly live x at d fits.0.0 fits.0.1 d.step (ap (freeze_closing d.level) is) by
+  owner_remains y ly live x at (FreezeStep.LocksToUndo code) is fits own waits by = absurd (omega (arith, own))
   owner_remains y ly live x at FreezeStep.Locks is fits own waits by = absurd (omega (arith, own))
   owner_remains y ly live x at FreezeStep.LocksAgain is fits own waits by = absurd (omega (arith, own))
   owner_remains y ly live x at s is fits own waits by = absurd (true≢false (sym waits))
@@ -112,7 +117,11 @@ module _ (c : Config) (lost : ℕ → Bool) (w : World) (good : IsGood c w) (all
 
   freeze_remains : (y : ℕ) → y < c.tasks → lost y ≡ false → (x : Freeze) → (w.views y).phase ≡ Some (Phase.Freezes x) →
       (s : FreezeStep) → x.step ≡ s → FreezeFits c x.holder s → freeze_waits w.words s ≡ true → FreezeIsBlockedBy c lost w s → Remains c lost w
-  freeze_remains y ly live x at (FreezeStep.Closes d) is fits waits by = closing_remains y ly live x at d is fits.0 fits.1 d.step refl by
+  freeze_remains y ly live x at (FreezeStep.Closes d) is fits waits by =
+      closing_remains y ly live x at d fits.0 fits.1 d.step (ap (freeze_closing d.level) is) by
+  freeze_remains y ly live x at (FreezeStep.Waits d) is fits waits by =
+      closing_remains y ly live x at d fits.0.0 fits.0.1 d.step (ap (freeze_closing d.level) is) by
+  freeze_remains y ly live x at (FreezeStep.LocksToUndo code) is fits waits by = lock_remains by
   freeze_remains y ly live x at FreezeStep.Locks is fits waits by = lock_remains by
   freeze_remains y ly live x at FreezeStep.LocksAgain is fits waits by = lock_remains by
   freeze_remains y ly live x at s is fits waits by = absurd (true≢false (sym waits))

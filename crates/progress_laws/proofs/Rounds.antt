@@ -1,240 +1,125 @@
 -- In each round the potential falls, or all have to wait; and then they do so in each further round.
-use Rattle.std.proofs.Common.{◌≡◌, ℕ, zero, suc, ◌<◌, ◌≤◌, Bool, true, false, true≢false, refl, sym, ap, ◌∙◌, inl, inr, subst, arith}
-use Rattle.std.proofs.lemmas.Bool.{cases_Bool, cases_lt, le-ltb, lt-ltb, Decides.eqb_tells}
-use Rattle.std.specs.Prelude.{◌⊎◌, ◌++◌, Option, None, Some, Ok, List, [], ◌∷◌, length}
+use Rattle.std.proofs.Common.{◌≡◌, ℕ, zero, suc, ◌<◌, Bool, true, false, true≢false, refl, sym, ap, ◌∙◌, inl, inr, subst, arith}
+use Rattle.std.proofs.lemmas.Bool.{cases_Bool, Decides.eqb_tells}
+use Rattle.std.specs.Prelude.{◌⊎◌, ◌++◌, Option, None, Some, List, [], ◌∷◌}
 use Rattle.cpu_words.specs.{Hooks.HookAnswer, Words.Words}
-use Rattle.gate_world.specs.{Configs.IsWithin, Rules.IsGood, Worlds.{World, after_step, happens, run, step_of, task_of}}
+use Rattle.gate_world.specs.{Configs.IsWithin, Rules.IsGood, Worlds.{World, after_step, happens, run}}
 use Rattle.gate_world.specs.declared.{config.Config.Config, entries.Entry.{Entry, TheVariants.{Begins, Steps}}, work.Phase.Phase}
-use Rattle.gate_schedules.proofs.{operations.deadlocks.{RankDecreases.happens_is}, schedules.Schedule.happens_keeps}
 use Rattle.gate_schedules.specs.operations.Progress.{IsUnderWay}
-use Rattle.progress_laws.specs.{FairRounds.{AreRounds, IsAwake, IsRound, MayAllStep, MayStep, IsServed, RoundsExist, SettlesFairly, StaysSettled, rests_at, run_all}, LostTasks.AllWait}
-use Rattle.progress_laws.specs.{StepsLeft.{potential, start_room, try_room, turns_left}, Waiting.{is_outside, must_wait}}
-use Rattle.progress_laws.proofs.{AllNearer.outside_waits, Settling.{IsRoomy, next_roomy, others_same, step_falls, step_same, step_stays, waits_at, waits_of}}
-
--- what some entries leave: a lower potential; or the same, with the same tasks that have to wait, and only such have taken steps
-abbrev pub Leaves : ℕ → ℕ → Config → World → List Entry → World → Type 0
-Leaves starts tries c w es next =
-    (potential starts tries c next < potential starts tries c w) ⊎
-    ((potential starts tries c next ≡ potential starts tries c w) × ((y : ℕ) → waits_at next y ≡ waits_at w y) ×
-    ((t : ℕ) → t < c.tasks → IsServed c t w es → waits_at w t ≡ true))
+use Rattle.progress_laws.specs.{Answers.{AllAnswerSo, AnswersSo, IsPatient, RoundsAnswerSo}, LostTasks.AllWait}
+use Rattle.progress_laws.specs.FairRounds.{MayAllStep, MayStep, IsServed, RoundsExist, SettlesFairly, SettlesOnce, StaysSettled, rests_at, run_all}
+use Rattle.progress_laws.specs.{StepsLeft.{potential, start_room, try_room, turns_left}, Waiting.is_outside}
+use Rattle.progress_laws.proofs.{AllNearer.outside_waits, Measured.{IsStep, Keeps, Measures, after_good, by_entry, rounds_once, rounds_settle, run_keeps}}
+use Rattle.progress_laws.proofs.{Nearer.{on_waits, patient_waits, waits_on}, Settling.{IsRoomy, next_roomy, others_same, step_falls, step_same, step_stays, waits_at, waits_of}}
 
 -- who rests has to wait
 rest_waits : (w : Words) (p : Option Phase) → rests_at w p ≡ true → waits_of w p ≡ true
 rest_waits w None h = refl
 rest_waits w (Some phase) h = outside_waits w phase h
 
--- each that isn't lost has to wait, or is idle
-abbrev pub AllIn : Config → (ℕ → Bool) → World → Type 0
-AllIn c lost w = (t : ℕ) → t < c.tasks → lost t ≡ false → waits_at w t ≡ true
-
-all_in : (c : Config) (lost : ℕ → Bool) (w : World) → AllWait c lost w → AllIn c lost w
-all_in c lost w all t lt live = one (w.views t).phase refl
-  where
-    one : (p : Option Phase) → (w.views t).phase ≡ p → waits_of w.words p ≡ true
-    one None at = refl
-    one (Some phase) at = all t lt live phase at
-
-all_wait : (c : Config) (lost : ℕ → Bool) (w : World) → AllIn c lost w → AllWait c lost w
-all_wait c lost w all t lt live phase at = sym (ap (waits_of w.words) at) ∙ all t lt live
-
 module _ (c : Config) (lim : IsWithin c) (lost : ℕ → Bool) where
-  pub after_good : (w : World) → IsGood c w → (e : Entry) → IsGood c (happens c w e)
-  after_good w good e = (happens_keeps c lim w good e).0
+  -- each that isn't lost has to wait, or is idle
+  abbrev pub AllIn : World → Type 0
+  AllIn w = (t : ℕ) → t < c.tasks → lost t ≡ false → waits_at w t ≡ true
 
-  pub idle_is : (w : World) (t : ℕ) → t < c.tasks → (hook : HookAnswer) → (w.views t).phase ≡ None → happens c w (Steps t hook) ≡ w
-  idle_is w t lt hook at = rw (lt-ltb t c.tasks lt) (ap (step_of w t hook) at)
-
-  pub absent_is : (w : World) (t : ℕ) → c.tasks ≤ t → (hook : HookAnswer) → happens c w (Steps t hook) ≡ w
-  absent_is w t ge hook = rw (le-ltb t c.tasks ge) refl
-
-  -- an entry leaves no more room
-  entry_roomy : (starts tries : ℕ) (w : World) → IsGood c w → IsRoomy starts tries c w → (e : Entry) → MayStep lost w e →
-      IsRoomy starts tries c (happens c w e)
-  entry_roomy starts tries w good roomy (Begins t op) may = absurd may
-  entry_roomy starts tries w good roomy (Steps u hook) may =
-      elim (cases_lt u c.tasks) [
-        | inl lu ↦ stepped u lu (w.views u).phase refl
-        | inr ge ↦ subst (IsRoomy starts tries c) (sym (absent_is w u ge hook)) roomy
-      ]
+  all_in : (w : World) → AllWait c lost w → AllIn w
+  all_in w all t lt live = one (w.views t).phase refl
     where
-      stepped : (u : ℕ) → u < c.tasks → (p : Option Phase) → (w.views u).phase ≡ p → IsRoomy starts tries c (happens c w (Steps u hook))
-      stepped u lu None at = subst (IsRoomy starts tries c) (sym (idle_is w u lu hook at)) roomy
-      stepped u lu (Some phase) at =
-          subst (IsRoomy starts tries c) (sym (happens_is c w u lu hook phase at)) (next_roomy c lim w good u lu phase at hook starts tries roomy)
+      one : (p : Option Phase) → (w.views t).phase ≡ p → waits_of w.words p ≡ true
+      one None at = refl
+      one (Some phase) at = all t lt live phase at
 
-  run_roomy : (starts tries : ℕ) (es : List Entry) (w : World) → IsGood c w → IsRoomy starts tries c w → MayAllStep c lost w es →
-      IsRoomy starts tries c (run c w es)
-  run_roomy starts tries [] w good roomy may = roomy
-  run_roomy starts tries (e ∷ es) w good roomy may =
-      run_roomy starts tries es (happens c w e) (after_good w good e) (entry_roomy starts tries w good roomy e may.0) may.1
+  pub all_wait : (w : World) → AllIn w → AllWait c lost w
+  all_wait w all t lt live phase at = sym (ap (waits_of w.words) at) ∙ all t lt live
 
-  -- one step of a task that is there
-  step_leaves : (starts tries : ℕ) (w : World) → IsGood c w → IsRoomy starts tries c w → (t : ℕ) → t < c.tasks → (hook : HookAnswer) → IsAwake w t → (p : Option Phase) → (w.views t).phase ≡ p →
-      (potential starts tries c (happens c w (Steps t hook)) < potential starts tries c w) ⊎
-      ((potential starts tries c (happens c w (Steps t hook)) ≡ potential starts tries c w) × ((y : ℕ) → waits_at (happens c w (Steps t hook)) y ≡ waits_at w y) ×
-      (waits_at w t ≡ true))
-  step_leaves starts tries w good roomy t lt hook awake None at =
-      let same : happens c w (Steps t hook) ≡ w = idle_is w t lt hook at in
-      inr (ap (potential starts tries c) same, λ y. ap (λ (v : World). waits_at v y) same, ap (waits_of w.words) at)
-  step_leaves starts tries w good roomy t lt hook awake (Some phase) at =
-      subst (λ (v : World). (potential starts tries c v < potential starts tries c w) ⊎
-      ((potential starts tries c v ≡ potential starts tries c w) × ((y : ℕ) → waits_at v y ≡ waits_at w y) × (waits_at w t ≡ true)))
-      (sym (happens_is c w t lt hook phase at))
-      (elim (cases_Bool (must_wait w.words phase)) [
-        | inr free ↦ inl (step_falls c lim w good t lt phase at hook starts tries roomy free)
-        | inl waits ↦
-            let h = step_stays c lim w good t lt phase at hook waits (awake phase at) in
-            inr (h.0 starts tries, h.1, ap (waits_of w.words) at ∙ waits)
-      ])
+  -- the potential falls with each step that doesn't wait, whatever `keep_waiting` answers
+  potential_falls : (such : ℕ → HookAnswer → Type 0) (starts tries : ℕ) →
+      Measures c lim lost such waits_at (potential starts tries c) (IsRoomy starts tries c)
+  potential_falls such starts tries = record {
+    rest = λ w t rests. rest_waits w.words (w.views t).phase rests;
+    step = λ w good roomy t phase hook (lt, live, at, awake, answers). elim (cases_Bool (waits_on w.words phase hook)) [
+      | inr free ↦ inl (step_falls c lim w good t lt phase at hook starts tries roomy free)
+      | inl waits ↦
+          let h = step_stays c lim w good t lt phase at hook waits awake in
+          inr (h.0 starts tries, h.1, ap (waits_of w.words) at ∙ on_waits w.words phase hook waits)
+    ];
+    measured = λ w good roomy t phase hook (lt, live, at, awake, answers). next_roomy c lim w good t lt phase at hook starts tries roomy;
+  }
 
-  entry_leaves : (starts tries : ℕ) (w : World) → IsGood c w → IsRoomy starts tries c w → (e : Entry) → MayStep lost w e →
-      (potential starts tries c (happens c w e) < potential starts tries c w) ⊎
-      ((potential starts tries c (happens c w e) ≡ potential starts tries c w) × ((y : ℕ) → waits_at (happens c w e) y ≡ waits_at w y) ×
-      (task_of e < c.tasks → waits_at w (task_of e) ≡ true))
-  entry_leaves starts tries w good roomy (Begins t op) may = absurd may
-  entry_leaves starts tries w good roomy (Steps u hook) may =
-      elim (cases_lt u c.tasks) [
-        | inl lu ↦ elim (step_leaves starts tries w good roomy u lu hook may.1 (w.views u).phase refl) [
-          | inl falls ↦ inl falls
-          | inr same ↦ inr (same.0, same.1, λ l. same.2)
-        ]
-        | inr ge ↦
-            let same : happens c w (Steps u hook) ≡ w = absent_is w u ge hook in
-            inr (ap (potential starts tries c) same, λ y. ap (λ (v : World). waits_at v y) same, λ l. absurd (omega (arith, l, ge)))
-      ]
+  -- who has to wait does so with this answer
+  waits_so : (w : World) (t : ℕ) (phase : Phase) (hook : HookAnswer) → AllIn w → IsStep c lim lost IsPatient waits_at w t phase hook →
+      waits_on w.words phase hook ≡ true
+  waits_so w t phase hook all (lt, live, at, awake, patient) =
+      patient_waits w.words phase hook patient (sym (ap (waits_of w.words) at) ∙ all t lt live)
 
-  -- all entries of a round
-  pub run_leaves : (starts tries : ℕ) (es : List Entry) (w : World) → IsGood c w → IsRoomy starts tries c w → MayAllStep c lost w es →
-      Leaves starts tries c w es (run c w es)
-  run_leaves starts tries [] w good roomy may = inr (refl, λ y. refl, λ t lt served. rest_waits w.words (w.views t).phase served)
-  run_leaves starts tries (e ∷ es) w good roomy may =
-      let rest : Leaves starts tries c (happens c w e) es (run c (happens c w e) es) =
-      run_leaves starts tries es (happens c w e) (after_good w good e) (entry_roomy starts tries w good roomy e may.0) may.1 in
-      elim (entry_leaves starts tries w good roomy e may.0) [
-        | inl falls ↦ elim rest [
-          | inl lower ↦ inl (omega (arith, falls, lower))
-          | inr same ↦ inl (omega (arith, falls, same.0))
-        ]
-        | inr first ↦ elim rest [
-          | inl lower ↦ inl (omega (arith, first.0, lower))
-          | inr same ↦ inr (
-            same.0 ∙ first.0,
-            λ y. same.1 y ∙ first.1 y,
-            λ t lt served. elim served [
-              | inl now ↦ rest_waits w.words (w.views t).phase now
-              | inr later ↦ elim later [
-                | inl mine ↦ subst (λ x. waits_at w x ≡ true) mine (first.2 (subst (λ x. x < c.tasks) (sym mine) lt))
-                | inr after ↦ sym (first.1 t) ∙ same.2 t lt after
-              ]
-            ],
-          )
-        ]
-      ]
-
-  run_good : (es : List Entry) (w : World) → IsGood c w → IsGood c (run c w es)
-  run_good [] w good = good
-  run_good (e ∷ es) w good = run_good es (happens c w e) (after_good w good e)
-
-  -- a round in which the potential doesn't fall finds all waiting
-  round_leaves : (starts tries : ℕ) (es : List Entry) (w : World) → IsGood c w → IsRoomy starts tries c w → IsRound c lost w es →
-      (potential starts tries c (run c w es) < potential starts tries c w) ⊎ AllIn c lost (run c w es)
-  round_leaves starts tries es w good roomy round =
-      elim (run_leaves starts tries es w good roomy round.0) [
-        | inl lower ↦ inl lower
-        | inr same ↦ inr (λ t lt live. same.1 t ∙ same.2 t lt (round.1 t lt live))
-      ]
-
-  -- where all have to wait, no entry changes that
-  entry_keeps : (w : World) → IsGood c w → (e : Entry) → MayStep lost w e → AllIn c lost w → AllIn c lost (happens c w e)
-  entry_keeps w good (Begins t op) may all = absurd may
-  entry_keeps w good (Steps u hook) may all =
-      elim (cases_lt u c.tasks) [
-        | inl lu ↦ waiting u lu may (w.views u).phase refl
-        | inr ge ↦
-            let same : happens c w (Steps u hook) ≡ w = absent_is w u ge hook in
-            subst (AllIn c lost) (sym same) all
-      ]
-    where
-      waiting : (u : ℕ) → u < c.tasks → (lost u ≡ false) × IsAwake w u → (p : Option Phase) → (w.views u).phase ≡ p →
-          AllIn c lost (happens c w (Steps u hook))
-      waiting u lu may None at = subst (AllIn c lost) (sym (idle_is w u lu hook at)) all
-      waiting u lu may (Some phase) at =
-          let waits : must_wait w.words phase ≡ true = sym (ap (waits_of w.words) at) ∙ all u lu may.0 in
-          let h = step_stays c lim w good u lu phase at hook waits (may.1 phase at) in
-          subst (AllIn c lost) (sym (happens_is c w u lu hook phase at)) (λ t lt live. h.1 t ∙ all t lt live)
-
-  keeps_all : (es : List Entry) (w : World) → IsGood c w → MayAllStep c lost w es → AllIn c lost w → AllIn c lost (run c w es)
-  keeps_all [] w good may all = all
-  keeps_all (e ∷ es) w good may all =
-      keeps_all es (happens c w e) (after_good w good e) may.1 (entry_keeps w good e may.0 all)
-
-  rounds_keep : (rounds : List (List Entry)) (w : World) → IsGood c w → AreRounds c lost w rounds → AllIn c lost w → AllIn c lost (run_all c w rounds)
-  rounds_keep [] w good are all = all
-  rounds_keep (es ∷ rounds) w good are all =
-      rounds_keep rounds (run c w es) (run_good es w good) are.1 (keeps_all es w good are.0.0 all)
-
-  rounds_settle : (starts tries : ℕ) (rounds : List (List Entry)) (w : World) → IsGood c w → IsRoomy starts tries c w →
-      AreRounds c lost w rounds → potential starts tries c w < length rounds →
-      AllIn c lost (run_all c w rounds)
-  rounds_settle starts tries [] w good roomy are le = absurd (omega (arith, le))
-  rounds_settle starts tries (es ∷ rounds) w good roomy are le =
-      elim (round_leaves starts tries es w good roomy are.0) [
-        | inl lower ↦ rounds_settle starts tries rounds (run c w es) (run_good es w good) (run_roomy starts tries es w good roomy are.0.0) are.1 (omega (arith, lower, le))
-        | inr all ↦ rounds_keep rounds (run c w es) (run_good es w good) are.1 all
-      ]
-
-  pub rounds_good : (rounds : List (List Entry)) (w : World) → IsGood c w → IsGood c (run_all c w rounds)
-  rounds_good [] w good = good
-  rounds_good (es ∷ rounds) w good = rounds_good rounds (run c w es) (run_good es w good)
+  -- where all have to wait, no step changes that, if freezes are told to wait on
+  patient_keeps : Keeps c lim lost IsPatient waits_at
+  patient_keeps w good all t phase hook s =
+      let h = step_stays c lim w good t s.0 phase s.2 hook (waits_so w t phase hook all s) s.3 in λ u lu live. h.1 u ∙ all u lu live
 
   pub settles_fairly : (w : World) → IsGood c w → SettlesFairly c lost (turns_left c w) w
-  settles_fairly w good rounds are le =
-      all_wait c lost (run_all c w rounds)
-      (rounds_settle (start_room c w) (try_room c w) rounds w good (omega arith, omega arith) are (omega (arith, le)))
+  settles_fairly w good rounds are patient le =
+      all_wait (run_all c w rounds)
+      (rounds_settle c lim lost IsPatient waits_at (potential (start_room c w) (try_room c w) c) (IsRoomy (start_room c w) (try_room c w) c)
+      (potential_falls IsPatient (start_room c w) (try_room c w)) patient_keeps rounds w good (omega arith, omega arith) are patient (omega (arith, le)))
+
+  -- any answers
+  abbrev AnyAnswer : ℕ → HookAnswer → Type 0
+  AnyAnswer t hook = Unit {0}
+
+  any_answers : (es : List Entry) (w : World) → AllAnswerSo AnyAnswer c w es
+  any_answers [] w = tt
+  any_answers (Begins t op ∷ es) w = (tt, any_answers es (happens c w (Begins t op)))
+  any_answers (Steps t hook ∷ es) w = (λ phase at asks. tt, any_answers es (happens c w (Steps t hook)))
+
+  any_rounds : (rounds : List (List Entry)) (w : World) → RoundsAnswerSo AnyAnswer c w rounds
+  any_rounds [] w = tt
+  any_rounds (es ∷ rounds) w = (any_answers es w, any_rounds rounds (run c w es))
+
+  pub settles_once : (w : World) → IsGood c w → SettlesOnce c lost (turns_left c w) w
+  settles_once w good rounds are le =
+      let some = rounds_once c lim lost AnyAnswer waits_at (potential (start_room c w) (try_room c w) c) (IsRoomy (start_room c w) (try_room c w) c)
+      (potential_falls AnyAnswer (start_room c w) (try_room c w)) rounds w good (omega arith, omega arith) are (any_rounds rounds w) (omega (arith, le)) in
+      (some.0, some.1, some.2, all_wait (run_all c w some.0) some.3)
 
   -- where all have to wait, one entry changes no word, and is no reply
   abbrev Same : World → World → Type 0
   Same w next = (next.words ≡ w.words) × ((t : ℕ) → t < c.tasks → IsUnderWay w t → IsUnderWay next t)
 
-  entry_same : (w : World) → IsGood c w → (e : Entry) → MayStep lost w e → AllIn c lost w → Same w (happens c w e)
-  entry_same w good (Begins t op) may all = absurd may
-  entry_same w good (Steps u hook) may all =
-      elim (cases_lt u c.tasks) [
-        | inl lu ↦ same u lu may (w.views u).phase refl
-        | inr ge ↦ subst (Same w) (sym (absent_is w u ge hook)) (refl, λ t lt on. on)
-      ]
-    where
-      same : (u : ℕ) → u < c.tasks → (lost u ≡ false) × IsAwake w u → (p : Option Phase) → (w.views u).phase ≡ p → Same w (happens c w (Steps u hook))
-      same u lu may None at = subst (Same w) (sym (idle_is w u lu hook at)) (refl, λ t lt on. on)
-      same u lu may (Some phase) at =
-          let waits : must_wait w.words phase ≡ true = sym (ap (waits_of w.words) at) ∙ all u lu may.0 in
-          let h = step_same c lim w good u lu phase at hook waits (may.1 phase at) in
-          subst (Same w) (sym (happens_is c w u lu hook phase at)) (
-            h.0,
-            λ t lt on. elim (eqb_tells t u) [
-              | inl e ↦ subst (IsUnderWay (after_step w u phase hook)) (sym e.1) h.1
-              | inr ne ↦ (on.0, others_same c lim w good u lu phase at hook t ne.1 ∙ on.1)
-            ],
-          )
+  entry_same : (w : World) → IsGood c w → (e : Entry) → MayStep lost w e → AnswersSo IsPatient w e → AllIn w → Same w (happens c w e)
+  entry_same w good e may patient all =
+      by_entry c lim lost IsPatient waits_at (Same w) w e may patient (refl, λ t lt on. on) (λ t phase hook s.
+      let h = step_same c lim w good t s.0 phase s.2 hook (waits_so w t phase hook all s) s.3 in (
+        h.0,
+        λ u lu on. elim (eqb_tells u t) [
+          | inl e ↦ subst (IsUnderWay (after_step w t phase hook)) (sym e.1) h.1
+          | inr ne ↦ (on.0, others_same c lim w good t s.0 phase s.2 hook u ne.1 ∙ on.1)
+        ],
+      ))
 
-  run_same : (es : List Entry) (w : World) → IsGood c w → MayAllStep c lost w es → AllIn c lost w → Same w (run c w es)
-  run_same [] w good may all = (refl, λ t lt on. on)
-  run_same (e ∷ es) w good may all =
-      let first : Same w (happens c w e) = entry_same w good e may.0 all in
-      let rest : Same (happens c w e) (run c (happens c w e) es) =
-      run_same es (happens c w e) (after_good w good e) may.1 (entry_keeps w good e may.0 all) in
+  run_same : (es : List Entry) (w : World) → IsGood c w → MayAllStep c lost w es → AllAnswerSo IsPatient c w es → AllIn w → Same w (run c w es)
+  run_same [] w good may patient all = (refl, λ t lt on. on)
+  run_same (e ∷ es) w good may patient all =
+      let first : Same w (happens c w e) = entry_same w good e may.0 patient.0 all in
+      let kept : AllIn (happens c w e) = by_entry c lim lost IsPatient waits_at AllIn w e may.0 patient.0 all (patient_keeps w good all) in
+      let rest : Same (happens c w e) (run c (happens c w e) es) = run_same es (happens c w e) (after_good c lim lost w good e) may.1 patient.1 kept in
       (rest.0 ∙ first.0, λ t lt on. rest.1 t lt (first.1 t lt on))
 
   pub stays_settled : (w : World) → IsGood c w → StaysSettled c lost w
-  stays_settled w good waits es may =
-      let all : AllIn c lost w = all_in c lost w waits in
-      let same : Same w (run c w es) = run_same es w good may all in
-      (all_wait c lost (run c w es) (keeps_all es w good may all), same.0, same.1)
+  stays_settled w good waits es may patient =
+      let all : AllIn w = all_in w waits in
+      let same : Same w (run c w es) = run_same es w good may patient all in
+      (all_wait (run c w es) (run_keeps c lim lost IsPatient waits_at patient_keeps es w good may patient all), same.0, same.1)
+
+  -- what each entry of a round answers
+  abbrev AllSay : HookAnswer → World → List Entry → Type 0
+  AllSay answer w es = AllAnswerSo (λ t hook. hook ≡ answer) c w es
 
   -- one task after the other takes a step, if it isn't lost and doesn't rest
-  record RoundOf (n : ℕ) (w : World) : Type 0 where
+  record RoundOf (answer : HookAnswer) (n : ℕ) (w : World) : Type 0 where
     entries : List Entry
     may : MayAllStep c lost w entries
+    says : AllSay answer w entries
     serves : (t : ℕ) → t < n → lost t ≡ false → IsServed c t w entries
 
   rest_decides : (w : Words) (o : Option Phase) → (rests_at w o ≡ true) ⊎ ((phase : Phase) × (o ≡ Some phase) × (is_outside w phase ≡ false))
@@ -261,15 +146,21 @@ module _ (c : Config) (lim : IsWithin c) (lost : ℕ → Bool) where
   may_then w [] more may then_ = then_
   may_then w (e ∷ es) more may then_ = (may.0, may_then (happens c w e) es more may.1 then_)
 
-  one_round : (n : ℕ) (w : World) → RoundOf n w
-  one_round zero w = record { entries = []; may = tt; serves = λ t lt live. absurd (omega (arith, lt)) }
-  one_round (suc n) w =
-      let first : RoundOf n w = one_round n w in
+  says_then : (answer : HookAnswer) (w : World) (es more : List Entry) → AllSay answer w es → AllSay answer (run c w es) more →
+      AllSay answer w (es ++ more)
+  says_then answer w [] more says then_ = then_
+  says_then answer w (e ∷ es) more says then_ = (says.0, says_then answer (happens c w e) es more says.1 then_)
+
+  one_round : (answer : HookAnswer) (n : ℕ) (w : World) → RoundOf answer n w
+  one_round answer zero w = record { entries = []; may = tt; says = tt; serves = λ t lt live. absurd (omega (arith, lt)) }
+  one_round answer (suc n) w =
+      let first : RoundOf answer n w = one_round answer n w in
       let v : World = run c w first.entries in
       elim (cases_Bool (lost n)) [
         | inl dead ↦ record {
           entries = first.entries;
           may = first.may;
+          says = first.says;
           serves = λ t lt live. elim (eqb_tells t n) [
             | inl e ↦ absurd (true≢false (sym dead ∙ (sym (ap lost e.1) ∙ live)))
             | inr ne ↦ first.serves t (omega (arith, lt, ne.1)) live
@@ -279,14 +170,15 @@ module _ (c : Config) (lim : IsWithin c) (lost : ℕ → Bool) where
           | inl rests ↦ record {
             entries = first.entries ++ [];
             may = may_then w first.entries [] first.may tt;
+            says = says_then answer w first.entries [] first.says tt;
             serves = λ t lt live. elim (eqb_tells t n) [
               | inl e ↦ subst (λ x. IsServed c x w (first.entries ++ [])) (sym e.1) (served_then n w first.entries [] rests)
               | inr ne ↦ served_later t w first.entries [] (first.serves t (omega (arith, lt, ne.1)) live)
             ];
           }
           | inr s ↦ record {
-            entries = first.entries ++ (Steps n (Ok tt) ∷ []);
-            may = may_then w first.entries (Steps n (Ok tt) ∷ []) first.may (
+            entries = first.entries ++ (Steps n answer ∷ []);
+            may = may_then w first.entries (Steps n answer ∷ []) first.may (
               (
                 lives,
                 λ phase at.
@@ -294,18 +186,19 @@ module _ (c : Config) (lim : IsWithin c) (lost : ℕ → Bool) where
               ),
               tt,
             );
+            says = says_then answer w first.entries (Steps n answer ∷ []) first.says (λ phase at asks. refl, tt);
             serves = λ t lt live. elim (eqb_tells t n) [
-              | inl e ↦ subst (λ x. IsServed c x w (first.entries ++ (Steps n (Ok tt) ∷ []))) (sym e.1)
-                  (served_then n w first.entries (Steps n (Ok tt) ∷ []) (inr (inl refl)))
-              | inr ne ↦ served_later t w first.entries (Steps n (Ok tt) ∷ []) (first.serves t (omega (arith, lt, ne.1)) live)
+              | inl e ↦ subst (λ x. IsServed c x w (first.entries ++ (Steps n answer ∷ []))) (sym e.1)
+                  (served_then n w first.entries (Steps n answer ∷ []) (inr (inl refl)))
+              | inr ne ↦ served_later t w first.entries (Steps n answer ∷ []) (first.serves t (omega (arith, lt, ne.1)) live)
             ];
           }
         ]
       ]
 
   pub rounds_exist : (w : World) → RoundsExist c lost w
-  rounds_exist w zero = ([], tt, refl)
-  rounds_exist w (suc n) =
-      let first : RoundOf c.tasks w = one_round c.tasks w in
-      let more = rounds_exist (run c w first.entries) n in
-      (first.entries ∷ more.0, ((first.may, first.serves), more.1), ap suc more.2)
+  rounds_exist w answer zero = ([], tt, tt, refl)
+  rounds_exist w answer (suc n) =
+      let first : RoundOf answer c.tasks w = one_round answer c.tasks w in
+      let more = rounds_exist (run c w first.entries) answer n in
+      (first.entries ∷ more.0, ((first.may, first.serves), more.1), (first.says, more.2), ap suc more.3)

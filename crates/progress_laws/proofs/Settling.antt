@@ -17,7 +17,7 @@ use Rattle.progress_laws.specs.{LostTasks.{AllWait, SettlesAmong}, Waiting.{is_o
 use Rattle.progress_laws.specs.StepsLeft.{as_one, all_changes, all_start_steps, all_steps, all_tries, callback_tries, changes_left, changes_of, closing_tries, freeze_tries}
 use Rattle.progress_laws.specs.StepsLeft.{most_changes, most_steps, opening_tries, sum_left, thaw_tries, most_turns, potential, start_left, start_room, start_room_of, turns_left, try_room, try_room_of}
 use Rattle.progress_laws.specs.StepsLeft.{start_steps, start_steps_of, steps_left, steps_of, tries_left, tries_of}
-use Rattle.progress_laws.proofs.{AllNearer.{RoomFalls, phase_comes, room_falls, starts_small, steps_small, tries_small}, Changes.{CountsChanges, EndsBy, KeepsBy, SameLevels, changes_count, changes_small, waits_keep}, Nearer.{ComesNearer, StaysWaiting}}
+use Rattle.progress_laws.proofs.{AllNearer.{RoomFalls, phase_comes, room_falls, starts_small, steps_small, tries_small}, Changes.{CountsChanges, EndsBy, KeepsBy, SameLevels, changes_count, changes_small, waits_keep}, Nearer.{ComesNearer, StaysWaiting, goes_on, on_waits, waits_on}}
 use Rattle.progress_laws.proofs.Potentials.{as_one_small, moves_fall, steps_fall, total_lower_by, tries_fall}
 
 -- a start reads nothing but `block`
@@ -41,6 +41,8 @@ opening_same w after same u s = refl
 
 freeze_same : (w after : Words) → SameLevels w after → (s : FreezeStep) → freeze_tries after s ≡ freeze_tries w s
 freeze_same w after same (FreezeStep.Closes d) = closing_same w after same d d.step
+freeze_same w after same (FreezeStep.Waits d) = closing_same w after same d d.step
+freeze_same w after same (FreezeStep.Undoes level transition code) = ap (λ f. exchange_rank (f level) transition) same.1
 freeze_same w after same (FreezeStep.Reopens u code) = opening_same w after same u u.step
 freeze_same w after same s = refl
 
@@ -322,7 +324,7 @@ module _ (c : Config) (lim : IsWithin c) where
       falls_by (Next.Wait q) is h k = falls_to q is h k
       falls_by (Next.Done answer) is h k = ends_to is k
 
-    pub step_falls : (starts tries : ℕ) → IsRoomy starts tries c w → must_wait w.words phase ≡ false → potential starts tries c next < potential starts tries c w
+    pub step_falls : (starts tries : ℕ) → IsRoomy starts tries c w → waits_on w.words phase hook ≡ false → potential starts tries c next < potential starts tries c w
     step_falls starts tries roomy free =
         falls_by starts tries roomy (after_of phase (found_at w.words phase hook) hook).0 (stands_after c w t lt hook phase at)
         ((phase_comes c phase).nears lim w good t lt hook at free) (changes_count (starts + 1) c lim w good t lt hook phase at free)
@@ -395,23 +397,23 @@ module _ (c : Config) (lim : IsWithin c) where
     stays_by (Next.Wait q) is waits same keeps h = stays_to q is waits same keeps h
     stays_by (Next.Done answer) is waits same keeps h = absurd h
 
-    pub step_stays : must_wait w.words phase ≡ true → is_outside w.words phase ≡ false →
+    pub step_stays : waits_on w.words phase hook ≡ true → is_outside w.words phase ≡ false →
         ((starts tries : ℕ) → potential starts tries c next ≡ potential starts tries c w) × ((y : ℕ) → waits_at next y ≡ waits_at w y)
     step_stays waits out =
         let h = (phase_comes c phase).stays lim w good t lt hook at waits out in
-        stays_by (after_of phase (found_at w.words phase hook) hook).0 (stands_after c w t lt hook phase at) waits h.0
+        stays_by (after_of phase (found_at w.words phase hook) hook).0 (stands_after c w t lt hook phase at) (on_waits w.words phase hook waits) h.0
         (λ turn. waits_keep turn w.words hook phase waits (found_at w.words phase hook)) h.1
 
-    goes_on : (coming : Next Phase) → (next.views t).phase ≡ phase_after coming → StaysWaiting w.words phase coming → IsUnderWay next t
-    goes_on (Next.Go q) is h = (q, is)
-    goes_on (Next.Wait q) is h = (q, is)
-    goes_on (Next.Done answer) is h = absurd h
+    stays_on : (coming : Next Phase) → (next.views t).phase ≡ phase_after coming → StaysWaiting w.words phase coming → IsUnderWay next t
+    stays_on (Next.Go q) is h = (q, is)
+    stays_on (Next.Wait q) is h = (q, is)
+    stays_on (Next.Done answer) is h = absurd h
 
     -- it changes no word, and is no reply
-    pub step_same : must_wait w.words phase ≡ true → is_outside w.words phase ≡ false → (next.words ≡ w.words) × IsUnderWay next t
+    pub step_same : waits_on w.words phase hook ≡ true → is_outside w.words phase ≡ false → (next.words ≡ w.words) × IsUnderWay next t
     step_same waits out =
         let h = (phase_comes c phase).stays lim w good t lt hook at waits out in
-        (h.0, goes_on (after_of phase (found_at w.words phase hook) hook).0 (stands_after c w t lt hook phase at) h.1)
+        (h.0, stays_on (after_of phase (found_at w.words phase hook) hook).0 (stands_after c w t lt hook phase at) h.1)
 
     pub others_same : (x : ℕ) → (x ≡ t → ⊥) → (next.views x).phase ≡ (w.views x).phase
     others_same = beside
@@ -450,7 +452,7 @@ module _ (c : Config) (lim : IsWithin c) where
       SettlesAmong c lost n w
   settles_by lost starts tries zero w good roomy le =
       elim (wait_or_go lost w) [
-        | inl s ↦ absurd (omega (arith, le, step_falls w good s.0 s.1 s.3 s.4 (Ok tt) starts tries roomy s.5))
+        | inl s ↦ absurd (omega (arith, le, step_falls w good s.0 s.1 s.3 s.4 (Ok tt) starts tries roomy (goes_on w.words s.3 (Ok tt) s.5)))
         | inr all ↦ all
       ]
   settles_by lost starts tries (suc n) w good roomy le =
@@ -464,7 +466,7 @@ module _ (c : Config) (lim : IsWithin c) where
               subst (SettlesAmong c lost n) (sym (happens_is c w s.0 s.1 hook s.3 s.4))
               (settles_by lost starts tries n (after_step w s.0 s.3 hook) (step_good w good s.0 s.1 hook s.3 s.4)
               (next_roomy w good s.0 s.1 s.3 s.4 hook starts tries roomy)
-              (omega (arith, le, step_falls w good s.0 s.1 s.3 s.4 hook starts tries roomy s.5))),
+              (omega (arith, le, step_falls w good s.0 s.1 s.3 s.4 hook starts tries roomy (goes_on w.words s.3 hook s.5)))),
         )
         | inr all ↦ inl all
       ]

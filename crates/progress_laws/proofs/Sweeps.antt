@@ -12,7 +12,7 @@ use Rattle.percpu_rwsem.specs.declared.{callbacks.{Callback.Callback, CallbackSt
 use Rattle.gate_world.specs.{Configs.IsWithin, Fits.{GraceFits, PhaseFits}, Levels.sync_role_of, Rules.{IsGood, SyncAt, SyncHoldsIn}, Views.{held_of, phase_after}, Work.after_of}
 use Rattle.gate_world.specs.{Worlds.{World, after_step, found_at, words_after}, declared.{config.Config.Config, work.Phase.Phase}}
 use Rattle.gate_schedules.proofs.operations.deadlocks.{RankDecreases.stands_after, WhoCanStep.fits_at}
-use Rattle.progress_laws.specs.{Alone.alone_left, FirstReply.ReplyOr, Waiting.must_wait}
+use Rattle.progress_laws.specs.{Alone.alone_left, FirstReply.{ReplyOr, most_of_kinds}, Waiting.must_wait}
 use Rattle.progress_laws.specs.StepsLeft.{callback_changes, callback_left, callback_tries}
 use Rattle.progress_laws.proofs.{AllNearer.{close_steps, exchange_few, grace_few, phase_comes, starts_small, want_few, write_steps}, Alone.{HasRoom, step_alone}}
 use Rattle.progress_laws.proofs.{Nearer.ComesNearer, Potentials.total_lower, RunAlone.{Makes, NoneGoes, Stopped, and_then, no_nearer, runs, some_or_none}}
@@ -370,10 +370,10 @@ module _ (c : Config) (lim : IsWithin c) (lost : ℕ → Bool) where
   some_below (Some q) w = λ lt. absurd (omega (arith, lt))
 
   -- so a live call replies, or all of the first two kinds wait
-  pub first_kinds : (w : World) → IsGood c w → ReplyOr c lost (AllBelow c lim lost 2) (17 * c.tasks + 3 * (2 * c.tasks + 8)) w
+  pub first_kinds : (w : World) → IsGood c w → ReplyOr c lost (AllBelow c lim lost 2) (most_of_kinds c) w
   first_kinds w good =
       and_then c lim lost (AllBelow c lim lost 1) (AllBelow c lim lost 2) (17 * c.tasks) (3 * (2 * c.tasks + 8))
-      (17 * c.tasks + 3 * (2 * c.tasks + 8)) w (omega arith) good
+      (most_of_kinds c) w (omega arith) good
       (sweep c lim lost 0 17 quick_left quick_facts c.tasks (17 * c.tasks) (omega arith) w good (λ t lt live. some_below (w.views t).phase w.words)
       (omega (arith, total_bound c.tasks 1 (going c lim lost 0 w) (λ t lt. goes_one (lost t) (goes_in 0 w.words (w.views t).phase) (goes_le 0 w.words (w.views t).phase)))))
       (λ v sound all.

@@ -8,20 +8,20 @@ use Rattle.cpu_words.specs.{Hooks.HookAnswer, Touches.found_by, Words.{Words, pu
 use Rattle.composite_ops.specs.write_access.Phases.{next as write_next}
 use Rattle.composite_ops.specs.file_closes.Phases.{next as close_next}
 use Rattle.composite_ops.specs.declared.{file_closes.phases.ClosePhase.ClosePhase, write_access.phases.WritePhase.WritePhase}
-use Rattle.freeze_levels.specs.{Freezes.{after_clearing, after_closing, after_reopening, freeze_after, freeze_fails, freeze_next, level_closed}, Thaws.{thaw_after, thaw_next}}
+use Rattle.freeze_levels.specs.{Freezes.{after_clearing, after_closing, after_reopening, after_undoing, at_freeze, freeze_after, freeze_fails, freeze_next, freeze_undone, level_closed}, Thaws.{thaw_after, thaw_next}}
 use Rattle.freeze_levels.specs.declared.{freezes.{Freeze.Freeze, FreezeStep.FreezeStep}, thaws.{Thaw.Thaw, ThawStep.ThawStep}}
 use Rattle.gated_tree.specs.{Phases.{after as tree_after, next as tree_next, snapshot_after, snapshot_next}, declared.{phases.TreePhase.TreePhase, snapshots.{Snapshot.Snapshot, SnapshotStep.SnapshotStep}}}
 use Rattle.mount_counts.specs.{Phases.{has_flag, want_next, change_after, change_next}, Remounts.{remount_after, remount_next}}
 use Rattle.mount_counts.specs.declared.{phases.{Change.Change, ChangeStep.ChangeStep, MountPhase.MountPhase, Want.Want, WantStep.WantStep}, remounts.{Remount.Remount, RemountStep.RemountStep}}
 use Rattle.percpu_rwsem.specs.{Callbacks.{callback_after, callback_next}, Readers.{down_read_next}, Writers.{down_write_next}}
 use Rattle.percpu_rwsem.specs.declared.{callbacks.{Callback.Callback, CallbackStep.CallbackStep}, readers.{DownRead.DownRead, DownReadStep.DownReadStep}}
-use Rattle.percpu_rwsem.specs.declared.{transitions.Transition.Transition, writers.{DownWrite.DownWrite, DownWriteStep.DownWriteStep, UpWrite.UpWrite}}
+use Rattle.percpu_rwsem.specs.declared.{transitions.{Transition.Transition, TransitionNext.TransitionNext}, writers.{DownWrite.DownWrite, DownWriteStep.DownWriteStep, UpWrite.UpWrite}}
 use Rattle.percpu_rwsem.specs.Transitions.{transition_next}
 use Rattle.gate_world.specs.{Work.{after_of}, Worlds.{found_at, words_after}, declared.work.Phase.Phase}
 use Rattle.gate_schedules.specs.operations.Progress.{is_first_lock}
 use Rattle.gate_schedules.proofs.{frames.Words.load_same, operations.deadlocks.RankDecreases.after_event}
 use Rattle.node_words.specs.declared.marks.ClearMarks.{ClearMarks}
-use Rattle.progress_laws.proofs.Calls.{lock_free}
+use Rattle.progress_laws.proofs.{Calls.lock_free, Nearer.by_wait}
 use Rattle.progress_laws.specs.Waiting.{callback_waits, change_waits, freeze_waits, grace_waits, must_wait, remount_waits, snapshot_waits, start_waits, thaw_waits, tree_waits, want_waits}
 
 abbrev pub callback_kind : CallbackStep → ℕ
@@ -251,15 +251,23 @@ never_next w (Phase.Callbacks b) hook is free = claims b.step is
     claims s is = absurd (omega (arith, is))
 never_next w phase hook is free = absurd (omega (arith, is))
 
--- A freeze: once a hook has failed it opens its levels, and waits no more.
+-- A freeze: once a hook has failed it opens its levels, and waits no more, but for `umount` where it has given level 1 up.
 abbrev pub is_failing : FreezeStep → Bool
+is_failing (FreezeStep.Undoes level transition code) = true
+is_failing (FreezeStep.LocksToUndo code) = true
+is_failing (FreezeStep.GivesUp level code) = true
 is_failing (FreezeStep.Reopens u code) = true
 is_failing (FreezeStep.Releases answer) = true
 is_failing s = false
 
+-- it does so, or begins to with this answer
+abbrev pub fails_now : FreezeStep → HookAnswer → Bool
+fails_now (FreezeStep.Waits d) (Err code) = true
+fails_now s hook = is_failing s
+
 -- it comes to its first lock only by waiting there, and one that fails goes on failing
-abbrev pub FreezeGoes : FreezeStep → Next Freeze → Type 0
-FreezeGoes s next = NextIs (λ (y : Freeze). (is_first_lock y.step ≡ false) × (is_failing s ≡ true → is_failing y.step ≡ true)) next
+abbrev pub FreezeGoes : Bool → Next Freeze → Type 0
+FreezeGoes fails next = NextIs (λ (y : Freeze). (is_first_lock y.step ≡ false) × (fails ≡ true → is_failing y.step ≡ true)) next
 
 closed_is : (level nodes : ℕ) → is_first_lock (level_closed level nodes) ≡ false
 closed_is level nodes = grind arith
@@ -267,26 +275,40 @@ closed_is level nodes = grind arith
 fails_is : (level code : ℕ) → (is_first_lock (freeze_fails level code) ≡ false) × (is_failing (freeze_fails level code) ≡ true)
 fails_is level code = grind arith
 
-closing_goes : (x : Freeze) (level : ℕ) (d : DownWrite) (next : Next DownWrite) → FreezeGoes (FreezeStep.Closes d) (after_closing x level next)
-closing_goes x level d (Next.Go y) = (refl, λ h. absurd (true≢false (sym h)))
-closing_goes x level d (Next.Wait y) = (refl, λ h. absurd (true≢false (sym h)))
-closing_goes x level d (Next.Done answer) = (closed_is level x.nodes, λ h. absurd (true≢false (sym h)))
+closing_goes : (x : Freeze) (level : ℕ) (next : Next DownWrite) → FreezeGoes false (after_closing x level next)
+closing_goes x level (Next.Go y) = (refl, λ h. absurd (true≢false (sym h)))
+closing_goes x level (Next.Wait y) =
+    by_wait (λ z. FreezeGoes false (Next.Wait (at_freeze x z))) y y.step (refl, λ h. absurd (true≢false (sym h))) (refl, λ h. absurd (true≢false (sym h)))
+closing_goes x level (Next.Done answer) = (closed_is level x.nodes, λ h. absurd (true≢false (sym h)))
 
-clearing_goes : (x : Freeze) (marks : ClearMarks) (next : Next ClearMarks) → FreezeGoes (FreezeStep.Cleans marks) (after_clearing x next)
-clearing_goes x marks (Next.Go y) = (refl, λ h. absurd (true≢false (sym h)))
-clearing_goes x marks (Next.Wait y) = (refl, λ h. absurd (true≢false (sym h)))
-clearing_goes x marks (Next.Done answer) = (refl, λ h. absurd (true≢false (sym h)))
+clearing_goes : (x : Freeze) (next : Next ClearMarks) → FreezeGoes false (after_clearing x next)
+clearing_goes x (Next.Go y) = (refl, λ h. absurd (true≢false (sym h)))
+clearing_goes x (Next.Wait y) = (refl, λ h. absurd (true≢false (sym h)))
+clearing_goes x (Next.Done answer) = (refl, λ h. absurd (true≢false (sym h)))
 
-reopening_goes : (x : Freeze) (u : UpWrite) (level code : ℕ) (next : Next UpWrite) → FreezeGoes (FreezeStep.Reopens u code) (after_reopening x level code next)
-reopening_goes x u level code (Next.Go y) = (refl, λ h. refl)
-reopening_goes x u level code (Next.Wait y) = (refl, λ h. refl)
-reopening_goes x u level code (Next.Done answer) = ((fails_is (level - 1) code).0, λ h. (fails_is (level - 1) code).1)
+reopening_goes : (x : Freeze) (level code : ℕ) (next : Next UpWrite) → FreezeGoes true (after_reopening x level code next)
+reopening_goes x level code (Next.Go y) = (refl, λ h. refl)
+reopening_goes x level code (Next.Wait y) = (refl, λ h. refl)
+reopening_goes x level code (Next.Done answer) = ((fails_is (level - 1) code).0, λ h. (fails_is (level - 1) code).1)
+
+undone_is : (level code : ℕ) → (is_first_lock (freeze_undone level code) ≡ false) × (is_failing (freeze_undone level code) ≡ true)
+undone_is level code = grind arith
+
+undoing_goes : (x : Freeze) (level code : ℕ) (n : TransitionNext) → FreezeGoes true (after_undoing x level code n)
+undoing_goes x level code (TransitionNext.More y) = (refl, λ h. refl)
+undoing_goes x level code TransitionNext.Undefined = (refl, λ h. refl)
+undoing_goes x level code (TransitionNext.Made s) = ((undone_is level code).0, λ h. (undone_is level code).1)
 
 pub freeze_goes : (w : Words) (x : Freeze) (s : FreezeStep) (hook : HookAnswer) → freeze_waits w s ≡ false →
-    FreezeGoes s (freeze_after x s (found_by (freeze_next x s hook).1 (read w (freeze_next x s hook).0)) hook).0
-freeze_goes w x (FreezeStep.Closes d) hook free = closing_goes x d.level d _
-freeze_goes w x (FreezeStep.Reopens u code) hook free = reopening_goes x u u.level code _
-freeze_goes w x (FreezeStep.Cleans marks) hook free = clearing_goes x marks _
+    FreezeGoes (fails_now s hook) (freeze_after x s (found_by (freeze_next x s hook).1 (read w (freeze_next x s hook).0)) hook).0
+freeze_goes w x (FreezeStep.Closes d) hook free = closing_goes x d.level _
+freeze_goes w x (FreezeStep.Waits d) (Ok answer) free = closing_goes x d.level _
+freeze_goes w x (FreezeStep.Waits d) (Err code) free = (refl, λ h. refl)
+freeze_goes w x (FreezeStep.Undoes level transition code) hook free = undoing_goes x level code _
+freeze_goes w x (FreezeStep.LocksToUndo code) hook free = rw (lock_free w free) (refl, λ h. refl)
+freeze_goes w x (FreezeStep.GivesUp level code) hook free = ((fails_is (level - 1) code).0, λ h. (fails_is (level - 1) code).1)
+freeze_goes w x (FreezeStep.Reopens u code) hook free = reopening_goes x u.level code _
+freeze_goes w x (FreezeStep.Cleans marks) hook free = clearing_goes x _
 freeze_goes w x FreezeStep.Locks hook free = rw (lock_free w free) (refl, λ h. absurd (true≢false (sym h)))
 freeze_goes w x FreezeStep.LocksAgain hook free = rw (lock_free w free) (refl, λ h. absurd (true≢false (sym h)))
 freeze_goes w x s hook free = grind (arith, common_steps)
@@ -310,9 +332,14 @@ closing_keeps w d DownWriteStep.SetsBlock = (
 closing_keeps w d (DownWriteStep.Sums sum) = (beside_waits w (WordName.LevelCount d.level sum.words) _ refl, refl)
 
 -- a step of one that doesn't fail opens no level, and changes no section
-pub freeze_keeps : (w : Words) (x : Freeze) (s : FreezeStep) (hook : HookAnswer) → is_failing s ≡ false →
+pub freeze_keeps : (w : Words) (x : Freeze) (s : FreezeStep) (hook : HookAnswer) → fails_now s hook ≡ false →
     KeepsClosed w (after_event w (freeze_next x s hook)) × ((after_event w (freeze_next x s hook)).section ≡ w.section)
 freeze_keeps w x (FreezeStep.Closes d) hook on = closing_keeps w d d.step
+freeze_keeps w x (FreezeStep.Waits d) (Ok answer) on = closing_keeps w d d.step
+freeze_keeps w x (FreezeStep.Waits d) (Err code) on = absurd (true≢false on)
+freeze_keeps w x (FreezeStep.Undoes level transition code) hook on = absurd (true≢false on)
+freeze_keeps w x (FreezeStep.LocksToUndo code) hook on = absurd (true≢false on)
+freeze_keeps w x (FreezeStep.GivesUp level code) hook on = absurd (true≢false on)
 freeze_keeps w x (FreezeStep.Reopens u code) hook on = absurd (true≢false on)
 freeze_keeps w x (FreezeStep.Releases answer) hook on = absurd (true≢false on)
 freeze_keeps w x FreezeStep.SetsFs (Ok answer) on = (beside_waits w WordName.Stage _ refl, refl)

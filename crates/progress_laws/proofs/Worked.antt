@@ -1,9 +1,9 @@
 -- Worked schedules, by computing: who has to wait beside a task that is lost where it stands, and what a start can do that doesn't sleep.
-use Rattle.std.{proofs.Common.{◌≡◌, ℕ, zero, suc, true, List, [], ◌∷◌, ◌++◌, refl, false}, specs.Prelude.{Ok, replicate}}
+use Rattle.std.{proofs.Common.{◌≡◌, ℕ, zero, suc, true, List, [], ◌∷◌, ◌++◌, refl, false}, specs.Prelude.{Err, None, Ok, replicate, ◌==◌}}
 use Rattle.access_model.specs.declared.actions.Holder.{Holder}
 use Rattle.gate_world.specs.{Worlds.{run, opening}, declared.{config.Config.Config, operations.Op.Op}}
 use Rattle.gate_world.specs.declared.entries.Entry.{Entry, TheVariants.{Begins, Steps}}
-use Rattle.progress_laws.specs.{Alone.turns_alone, StepsLeft.turns_left}
+use Rattle.progress_laws.specs.{Alone.turns_alone, GivingUp.turns_to_give_up, StepsLeft.turns_left}
 use Rattle.progress_laws.proofs.Settling.{waits_at}
 
 -- three tasks, two processors, one mount
@@ -91,3 +91,39 @@ beside_start = refl
 -- and the freeze alone
 alone : turns_alone limits (run limits opening (Begins 0 (Op.Start 1 0 true) ∷ (Begins 1 (Op.Freeze Holder.User) ∷ []))) 1 ≡ 160
 alone = refl
+
+-- A freeze beside an idle task inside level 1 has summed its counts, and found it: asked whether to wait on, it has to wait.
+abbrev beside_idle : List Entry
+beside_idle = Begins 0 (Op.Start 1 0 true) ∷ steps 4 0 ++ (Begins 1 (Op.Freeze Holder.User) ∷ steps 15 1)
+
+asked_waits : waits_at (run limits opening beside_idle) 1 ≡ true
+asked_waits = refl
+
+-- told to, it does so through its next sum
+asks_again : waits_at (run limits opening (beside_idle ++ steps 2 1)) 1 ≡ true
+asks_again = refl
+
+-- told not to, it goes on, and has its reply after six steps more
+gives_up_goes : waits_at (run limits opening (beside_idle ++ (Steps 1 (Err 110) ∷ []))) 1 ≡ false
+gives_up_goes = refl
+
+gives_up_replies : ((run limits opening (beside_idle ++ (Steps 1 (Err 110) ∷ steps 5 1))).views 1).phase ≡ None
+gives_up_replies = refl
+
+-- it has to wait for `umount`, which it takes to store stage 0, where a change is lost that owns it
+abbrev lost_owner : List Entry
+lost_owner = beside_idle ++ (Begins 2 (Op.ChangeMount 0 true true) ∷ steps 1 2 ++ (Steps 1 (Err 110) ∷ steps 2 1))
+
+undoes_waits : waits_at (run limits opening lost_owner) 1 ≡ true
+undoes_waits = refl
+
+-- while a start that waited outside goes in
+opened : ((run limits opening lost_owner).words.block 1 == 0) ≡ true
+opened = refl
+
+-- where it gives up, so many turns are left from its wait: three for each of the 128 that are left anyhow, as its sum has two loads
+turns_of_one : turns_left limits (run limits opening beside_idle) ≡ 128
+turns_of_one = refl
+
+turns_to_its_reply : turns_to_give_up limits (run limits opening beside_idle) ≡ 384
+turns_to_its_reply = refl

@@ -18,8 +18,13 @@ ReplyOr c lost P (suc n) w =
 abbrev pub RepliesOrWaits : Config → (ℕ → Bool) → ℕ → World → Type 0
 RepliesOrWaits c lost n w = ReplyOr c lost (AllWait c lost) n w
 
--- The first reply is no farther: each start, want, write access and close, and each try to claim a callback, once and alone, which is 17 steps at
--- most; the callbacks that are claimed, of which each level has one at most; one freeze alone; and one operation that waits no more.
+-- Each start, want, write access and close, and each try to claim a callback, once and alone, which is 17 steps at most; and the callbacks that are
+-- claimed, of which each level has one at most.
+abbrev pub most_of_kinds : Config → ℕ
+most_of_kinds c = 17 * c.tasks + 3 * (2 * c.tasks + 8)
+
+-- The first reply is no farther: these; one freeze alone; these once more, where it gives level 1 up and can't have `umount`; and one operation that
+-- waits no more.
 abbrev pub most_to_reply : Config → ℕ
 most_to_reply c =
-    17 * c.tasks + 3 * (2 * c.tasks + 8) + (6 * c.tasks + 6 * c.processors + c.nodes + 59) + most_steps c
+    most_of_kinds c + (6 * c.tasks + 6 * c.processors + c.nodes + 59) + (most_of_kinds c + most_steps c)

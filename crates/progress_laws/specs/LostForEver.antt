@@ -15,7 +15,7 @@ use Rattle.freeze_levels.specs.declared.{freezes.FreezeStep.FreezeStep, thaws.Th
 use Rattle.composite_ops.specs.declared.{file_closes.phases.ClosePhase.ClosePhase, write_access.phases.WritePhase.WritePhase}
 use Rattle.gate_world.specs.declared.work.Phase.{Phase}
 use Rattle.gate_schedules.specs.operations.Progress.{IsUnderWay, is_admitted}
-use Rattle.progress_laws.specs.LostTasks.{HoldIsLost, SectionIsLost}
+use Rattle.progress_laws.specs.{Answers.{AllAnswerSo, IsPatientWith}, LostTasks.{HoldIsLost, SectionIsLost}}
 
 -- none of these entries, beginnings and steps, is of a lost task
 abbrev pub AreOfOthers : (ℕ → Bool) → List Entry → Type 0
@@ -81,7 +81,9 @@ MeetsAtClosing c lost w d step = ⊥
 abbrev pub MeetsAtFreeze : Config → (ℕ → Bool) → World → FreezeStep → Type 0
 MeetsAtFreeze c lost w FreezeStep.Locks = LockIsLost c lost w
 MeetsAtFreeze c lost w FreezeStep.LocksAgain = LockIsLost c lost w
+MeetsAtFreeze c lost w (FreezeStep.LocksToUndo code) = LockIsLost c lost w
 MeetsAtFreeze c lost w (FreezeStep.Closes d) = MeetsAtClosing c lost w d d.step
+MeetsAtFreeze c lost w (FreezeStep.Waits d) = MeetsAtClosing c lost w d d.step
 MeetsAtFreeze c lost w step = ⊥
 
 -- An operation that waits meets what a lost task has left: HOLD at its mount, `umount` at its lock, a closed level at its start, a section in its
@@ -99,8 +101,8 @@ MeetsLost c lost w (Phase.Trees phase) = MeetsAtTree c lost w phase
 MeetsLost c lost w (Phase.Closes (ClosePhase.Enters f node r)) = MeetsLevel c lost w r
 MeetsLost c lost w phase = ⊥
 
--- It never has its reply, whatever all others do and begin.
+-- It never has its reply, whatever all others do and begin; a freeze at its sum, if `keep_waiting` says to wait on.
 abbrev pub NeverReplies : Config → (ℕ → Bool) → World → Type 0
 NeverReplies c lost w =
     (t : ℕ) → t < c.tasks → (phase : Phase) → (w.views t).phase ≡ Some phase → MeetsLost c lost w phase → (es : List Entry) →
-    AreOfOthers lost es → IsUnderWay (run c w es) t
+    AreOfOthers lost es → AllAnswerSo (IsPatientWith t) c w es → IsUnderWay (run c w es) t

@@ -4,14 +4,13 @@ use Rattle.cpu_words.specs.{Hooks.HookAnswer, gate_counts.{Gates.counted, Levels
 use Rattle.gated_tree.specs.declared.{phases.TreePhase.TreePhase}
 use Rattle.mount_counts.specs.{Roles.has_hold, declared.phases.{MountPhase.MountPhase}}
 use Rattle.percpu_rwsem.specs.declared.{callbacks.CallbackStep.CallbackStep, writers.{DownWrite.DownWrite, DownWriteStep.DownWriteStep}}
-use Rattle.cpu_words.specs.declared.sums.Sum.{Sum}
 use Rattle.freeze_levels.specs.declared.{freezes.{Freeze.Freeze, FreezeStep.FreezeStep}}
 use Rattle.composite_ops.specs.declared.{file_closes.phases.ClosePhase.ClosePhase, write_access.phases.WritePhase.WritePhase}
 use Rattle.freeze_laws.specs.levels.Roles.{closed}
-use Rattle.gate_world.specs.{Levels.{at_level, inside, is_frozen_whole, sync_role_of}, Rules.{owns, role_of}, Worlds.{World, happens, run}}
+use Rattle.gate_world.specs.{Levels.{at_level, inside, is_frozen_whole, sync_role_of}, Rules.{owns, role_of}, Shown.freeze_closing, Worlds.{World, happens, run}}
 use Rattle.gate_world.specs.declared.{config.Config.Config, entries.Entry.{Entry, TheVariants.{Begins, Steps}}, work.Phase.Phase}
 use Rattle.gate_schedules.specs.operations.Progress.{IsHeldIdle, IsUnderWay}
-use Rattle.progress_laws.specs.Waiting.{must_wait}
+use Rattle.progress_laws.specs.{Answers.{AllAnswerSo, IsPatient}, Waiting.must_wait}
 
 -- each operation under way of a task that isn't lost has to wait
 abbrev pub AllWait : Config → (ℕ → Bool) → World → Type 0
@@ -65,6 +64,7 @@ ClosingIsBlockedBy c lost w d step = ⊥
 
 abbrev pub FreezeIsBlockedBy : Config → (ℕ → Bool) → World → FreezeStep → Type 0
 FreezeIsBlockedBy c lost w (FreezeStep.Closes d) = ClosingIsBlockedBy c lost w d d.step
+FreezeIsBlockedBy c lost w (FreezeStep.Waits d) = ClosingIsBlockedBy c lost w d d.step
 FreezeIsBlockedBy c lost w step = LockIsStuck c lost w
 
 abbrev pub CallbackIsBlockedBy : Config → (ℕ → Bool) → World → CallbackStep → Type 0
@@ -113,10 +113,12 @@ AreLiveSteps lost [] = Unit {0}
 AreLiveSteps lost (Begins t op ∷ es) = ⊥
 AreLiveSteps lost (Steps t hook ∷ es) = (lost t ≡ false) × AreLiveSteps lost es
 
--- Where all have to wait, no such steps, how many so ever, are a reply: neither those of starts that look again at a closed level.
+-- Where all have to wait, no such steps, how many so ever, are a reply: neither those of starts that look again at a closed level, nor those of a
+-- freeze that `keep_waiting` lets wait on.
 abbrev pub NobodyReplies : Config → (ℕ → Bool) → World → Type 0
 NobodyReplies c lost w =
-    AllWait c lost w → (es : List Entry) → AreLiveSteps lost es → (t : ℕ) → t < c.tasks → IsUnderWay w t → IsUnderWay (run c w es) t
+    AllWait c lost w → (es : List Entry) → AreLiveSteps lost es → AllAnswerSo IsPatient c w es → (t : ℕ) → t < c.tasks → IsUnderWay w t →
+    IsUnderWay (run c w es) t
 
 -- What a lost task may leave behind: the lock, HOLD at a mount, a closed level, a section that doesn't end, or a count at a level.
 abbrev pub LeavesBehind : World → ℕ → Type 0
@@ -130,8 +132,7 @@ LeavesBehind w y =
 -- a freeze that isn't lost sums the counts of this level, and has to wait
 abbrev pub FreezeSums : Config → (ℕ → Bool) → World → ℕ → Type 0
 FreezeSums c lost w i =
-    (y : ℕ) × (y < c.tasks) × (lost y ≡ false) × (x : Freeze) × (d : DownWrite) × (sum : Sum) × ((w.views y).phase ≡ Some (Phase.Freezes x)) ×
-    (x.step ≡ FreezeStep.Closes d) × (d.step ≡ DownWriteStep.Sums sum) × (d.level ≡ i)
+    (y : ℕ) × (y < c.tasks) × (lost y ≡ false) × (x : Freeze) × ((w.views y).phase ≡ Some (Phase.Freezes x)) × (freeze_closing i x.step ≡ 1)
 
 -- What keeps somebody in the end: all is frozen; or an idle task holds a level that a freeze has to pass; or a lost task has left something behind.
 abbrev pub Remains : Config → (ℕ → Bool) → World → Type 0

@@ -62,6 +62,10 @@ freeze_left x FreezeStep.CompletesReadOnly = 2
 freeze_left x FreezeStep.SetsWrite = 3 * level_left x.tasks + x.nodes + 12
 freeze_left x FreezeStep.Unlocks = 3 * level_left x.tasks + x.nodes + 11
 freeze_left x (FreezeStep.Closes d) = closing_left d.tasks d.step + closed_left x d.level
+freeze_left x (FreezeStep.Waits d) = closing_left d.tasks d.step + closed_left x d.level
+freeze_left x (FreezeStep.Undoes level transition code) = 2 * level + 2
+freeze_left x (FreezeStep.LocksToUndo code) = 3
+freeze_left x (FreezeStep.GivesUp level code) = 2 * level
 freeze_left x FreezeStep.LocksAgain = 2 * level_left x.tasks + x.nodes + 10
 freeze_left x FreezeStep.SetsPageFault = 2 * level_left x.tasks + x.nodes + 9
 freeze_left x (FreezeStep.Cleans marks) = level_left x.tasks + (marks.nodes - marks.node) + 9
@@ -160,6 +164,8 @@ callback_tries sync step = 1
 
 abbrev pub freeze_tries : Words → FreezeStep → ℕ
 freeze_tries w (FreezeStep.Closes d) = closing_tries w d d.step
+freeze_tries w (FreezeStep.Waits d) = closing_tries w d d.step
+freeze_tries w (FreezeStep.Undoes level transition code) = exchange_rank (w.sync level) transition
 freeze_tries w (FreezeStep.Reopens u code) = opening_tries w u u.step
 freeze_tries w step = 1
 
@@ -201,6 +207,10 @@ freeze_changes turn FreezeStep.LoadsHolders = 0
 freeze_changes turn (FreezeStep.Holds beside) = 0
 freeze_changes turn FreezeStep.CompletesReadOnly = 0
 freeze_changes turn (FreezeStep.Closes d) = closing_changes turn d.step + closed_changes turn d.level
+freeze_changes turn (FreezeStep.Waits d) = closing_changes turn d.step + closed_changes turn d.level
+freeze_changes turn (FreezeStep.Undoes level transition code) = (level - 1) * (turn + 1) + 1
+freeze_changes turn (FreezeStep.LocksToUndo code) = 0
+freeze_changes turn (FreezeStep.GivesUp level code) = (level - 1) * (turn + 1)
 freeze_changes turn FreezeStep.LocksAgain = closed_changes turn 1
 freeze_changes turn FreezeStep.SetsPageFault = closed_changes turn 1
 freeze_changes turn (FreezeStep.Cleans marks) = closed_changes turn 2

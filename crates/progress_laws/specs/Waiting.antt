@@ -66,6 +66,8 @@ closing_waits w d step = false
 abbrev pub freeze_waits : Words → FreezeStep → Bool
 freeze_waits w FreezeStep.Locks = lock_taken w
 freeze_waits w (FreezeStep.Closes d) = closing_waits w d d.step
+freeze_waits w (FreezeStep.Waits d) = closing_waits w d d.step
+freeze_waits w (FreezeStep.LocksToUndo code) = lock_taken w
 freeze_waits w FreezeStep.LocksAgain = lock_taken w
 freeze_waits w step = false
 

@@ -1,12 +1,14 @@
-//! What comes of every scheduler, and of tasks that are lost. It has no code: its functions state laws.
+//! What comes of every scheduler, of tasks that are lost, and of freezes that give up. It has no code: its functions state laws.
 #![tactic(auto)]
 
 ghost use Rattle.progress_laws.specs.Alone.{SettlesAlone};
-ghost use Rattle.progress_laws.specs.FairRounds.{BlockedAfterRounds, RoundsExist, SettlesFairly, StaysSettled};
+ghost use Rattle.progress_laws.specs.FairRounds.{BlockedAfterRounds, RoundsExist, SettlesFairly, SettlesOnce, StaysSettled};
 ghost use Rattle.progress_laws.specs.FirstReply.{RepliesOrWaits, most_to_reply};
+ghost use Rattle.progress_laws.specs.GivingUp.{RepliesOrWaitsForThaw, SettlesImpatiently, most_turns_to_give_up, turns_to_give_up};
 ghost use Rattle.progress_laws.specs.LostForEver.{NeverReplies, RemainsForEver};
 ghost use Rattle.progress_laws.specs.LostTasks.{EachIsBlockedBy, NobodyReplies, SettlesAmong, WaitsForRemains};
 ghost use Rattle.progress_laws.specs.StepsLeft.{most_turns, turns_left};
+ghost use Rattle.progress_laws.specs.Undone.{FailsUndone};
 ghost use Rattle.progress_laws.specs.WaitFreedom.{IsWaitFree};
 ghost use Rattle.gate_world.specs.Configs.{IsWithin};
 ghost use Rattle.gate_world.specs.Headline.{world_after};
@@ -39,9 +41,19 @@ pub fn a_task_alone_settles()
 {}
 
 /// Fair rounds: if nothing new begins, then after so many rounds, whoever schedules them, each operation under way has its reply or has to
-/// wait. Does nothing: its contract is the law.
+/// wait, as long as `FsHooks::keep_waiting` answers Ok (`patient`). Whatever it answers, so it was after one of these rounds (`once`). Does nothing:
+/// its contract is the law.
 pub fn fair_rounds_settle()
-    ensures { (c : Config) → IsWithin c → (lost : ℕ → Bool) (entries : List Entry) → SettlesFairly c lost (turns_left c (world_after c entries)) (world_after c entries) }
+    ensures patient { (c : Config) → IsWithin c → (lost : ℕ → Bool) (entries : List Entry) → SettlesFairly c lost (turns_left c (world_after c entries)) (world_after c entries) }
+    ensures once { (c : Config) → IsWithin c → (lost : ℕ → Bool) (entries : List Entry) → SettlesOnce c lost (turns_left c (world_after c entries)) (world_after c entries) }
+{}
+
+/// Where `keep_waiting` answers an error whenever it is asked, no freeze waits for who holds a level: after so many fair rounds each operation has its
+/// reply, and each freeze among them, or waits for a thaw (`replies`). Beside lost tasks it may also wait for what one of these has left
+/// (`beside_lost`). Does nothing: its contract is the law.
+pub fn no_freeze_waits_without_patience()
+    ensures replies { (c : Config) → IsWithin c → (entries : List Entry) → RepliesOrWaitsForThaw c (turns_to_give_up c (world_after c entries)) (world_after c entries) }
+    ensures beside_lost { (c : Config) → IsWithin c → (lost : ℕ → Bool) (entries : List Entry) → SettlesImpatiently c lost (turns_to_give_up c (world_after c entries)) (world_after c entries) }
 {}
 
 /// Where each operation under way of a task that isn't lost has to wait, each is kept by what is listed (`IsBlockedBy`). Does nothing: its contract
@@ -51,24 +63,24 @@ pub fn each_wait_is_kept_by_what_is_listed()
 {}
 
 /// Where each operation under way of a task that isn't lost has to wait, that stays: no step of such a task changes a word or is a reply, but
-/// for a start that looks again while its level is closed. Does nothing: its contract is the law.
+/// for a start that looks again while its level is closed, and a freeze that `keep_waiting` tells to give up. Does nothing: its contract is the law.
 pub fn what_waits_stays_so()
     ensures { (c : Config) → IsWithin c → (lost : ℕ → Bool) (entries : List Entry) → StaysSettled c lost (world_after c entries) }
 {}
 
-/// With no task lost, after so many fair rounds each operation under way has its reply or is blocked (`IsBlockedAt`). Does nothing: its contract
-/// is the law.
+/// With no task lost, after so many fair rounds in which `keep_waiting` answers Ok each operation under way has its reply or is blocked
+/// (`IsBlockedAt`). Does nothing: its contract is the law.
 pub fn fair_rounds_leave_the_blocked()
     ensures { (c : Config) → IsWithin c → (entries : List Entry) → BlockedAfterRounds c (turns_left c (world_after c entries)) (world_after c entries) }
 {}
 
-/// And that is exact: where all have to wait, no steps of tasks that aren't lost, in whatever order and number, are a reply. Does nothing: its
-/// contract is the law.
+/// And that is exact: where all have to wait, no steps of tasks that aren't lost, in whatever order and number, are a reply, as long as
+/// `keep_waiting` answers Ok. Does nothing: its contract is the law.
 pub fn nobody_replies_where_all_wait()
     ensures { (c : Config) → IsWithin c → (lost : ℕ → Bool) (entries : List Entry) → NobodyReplies c lost (world_after c entries) }
 {}
 
-/// There are as many rounds as one likes, whichever tasks are lost. Does nothing: its contract is the law.
+/// There are as many rounds as one likes, whichever tasks are lost and whatever `keep_waiting` answers. Does nothing: its contract is the law.
 pub fn rounds_go_on_for_ever()
     ensures { (c : Config) → IsWithin c → (lost : ℕ → Bool) (entries : List Entry) → RoundsExist c lost (world_after c entries) }
 {}
@@ -85,12 +97,21 @@ pub fn what_a_lost_task_leaves_stays()
     ensures { (c : Config) → IsWithin c → (lost : ℕ → Bool) (entries : List Entry) → RemainsForEver c lost (world_after c entries) }
 {}
 
-/// The number of turns in the laws above is the world's own, and has a bound in each configuration. Does nothing: its contract is the law.
-pub fn turns_have_a_bound()
-    ensures { (c : Config) → IsWithin c → (entries : List Entry) → turns_left c (world_after c entries) ≤ most_turns c }
+/// A freeze whose hook failed, one that gave up among them, has left nothing behind at its answer: the stage is 0, no level is closed, `umount` is
+/// free, its task holds what it held, and at most marks were cleared. Does nothing: its contract is the law.
+pub fn a_freeze_that_fails_is_undone()
+    ensures { (c : Config) → IsWithin c → (entries : List Entry) → FailsUndone c entries }
 {}
 
-/// An operation that meets what a lost task has left never has its reply, whatever all others do and begin. Does nothing: its contract is the law.
+/// The number of turns in the laws above is the world's own, and has a bound in each configuration, also where freezes give up (`giving_up`). Does
+/// nothing: its contract is the law.
+pub fn turns_have_a_bound()
+    ensures waiting { (c : Config) → IsWithin c → (entries : List Entry) → turns_left c (world_after c entries) ≤ most_turns c }
+    ensures giving_up { (c : Config) → IsWithin c → (entries : List Entry) → turns_to_give_up c (world_after c entries) ≤ most_turns_to_give_up c }
+{}
+
+/// An operation that meets what a lost task has left never has its reply, whatever all others do and begin; a freeze at its sum, as long as
+/// `keep_waiting` answers it Ok. Does nothing: its contract is the law.
 pub fn who_meets_it_never_replies()
     ensures { (c : Config) → IsWithin c → (lost : ℕ → Bool) (entries : List Entry) → NeverReplies c lost (world_after c entries) }
 {}

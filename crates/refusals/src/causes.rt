@@ -57,7 +57,7 @@ pub(crate) static CAUSES: [Cause; 12] = [
     (
         GateError::Hook(0),
         "",
-        "the file system itself failed, with a code of its own",
+        "the file system failed, or gave a freeze up, with a code of its own",
     ),
 ];
 

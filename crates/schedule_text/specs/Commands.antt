@@ -2,7 +2,7 @@
 use Rattle.std.specs.Prelude.{ℕ, Bool, true, false, if◌then◌else◌, List, codes, Option, Some, None, Ok, Err, bytes_eq}
 use Rattle.access_model.specs.declared.actions.{Holder.{Holder, TheVariants.{Kernel, User}}, Kind.{Kind, TheVariants.{File, Dir}}}
 use Rattle.cpu_words.specs.Hooks.{HookAnswer}
-use Rattle.freeze_levels.specs.declared.hooks.HookKind.{HookKind, TheVariants.{Sync, FreezeFs, UnfreezeFs, Reconfigure}}
+use Rattle.freeze_levels.specs.declared.hooks.HookKind.{HookKind, TheVariants.{Sync, FreezeFs, UnfreezeFs, Reconfigure, KeepWaiting}}
 use Rattle.schedule_text.specs.declared.commands.HookFailure.{HookFailure}
 
 -- the hook that a word names
@@ -11,7 +11,8 @@ hook_named word =
     if bytes_eq word (codes "sync") then Some Sync else
     if bytes_eq word (codes "freeze") then Some FreezeFs else
     if bytes_eq word (codes "unfreeze") then Some UnfreezeFs else
-    if bytes_eq word (codes "reconfigure") then Some Reconfigure else None
+    if bytes_eq word (codes "reconfigure") then Some Reconfigure else
+    if bytes_eq word (codes "wait") then Some KeepWaiting else None
 
 -- the kind of node that a word names
 unfoldable pub kind_named : List ℕ → Option Kind
@@ -31,6 +32,7 @@ is_hook Sync Sync = true
 is_hook FreezeFs FreezeFs = true
 is_hook UnfreezeFs UnfreezeFs = true
 is_hook Reconfigure Reconfigure = true
+is_hook KeepWaiting KeepWaiting = true
 is_hook hook other = false
 
 -- what a hook answers that an event asks, where one fails and all others answer Ok; Ok where the event asks none

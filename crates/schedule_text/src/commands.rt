@@ -77,6 +77,8 @@ pub fn hook_named(word: &[u8]) -> Option<HookKind>
         Some(HookKind::UnfreezeFs)
     } else if is_word(word, "reconfigure") {
         Some(HookKind::Reconfigure)
+    } else if is_word(word, "wait") {
+        Some(HookKind::KeepWaiting)
     } else {
         None
     }

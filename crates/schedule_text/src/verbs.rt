@@ -122,7 +122,7 @@ impl Verb {
         ensures most { result.most ≡ (row self).most }
     {
         match self {
-            Verb::Run => VerbRow::or_bare("run", "[sync|freeze|unfreeze|reconfigure CODE]", 4),
+            Verb::Run => VerbRow::or_bare("run", "[sync|freeze|unfreeze|reconfigure|wait CODE]", 4),
             Verb::Step => VerbRow::or_bare("step", "[CODE]", 3),
             Verb::Want => VerbRow::new("want", "M C", 4),
             Verb::TryWant => VerbRow::new("trywant", "M C", 4),
@@ -169,7 +169,7 @@ impl Verb {
             Verb::Change => "change_mount mnt_make_readonly change_mount_ro_state",
             Verb::TryChange => "try_change_mount",
             Verb::Remount => "remount_sb reconfigure_super",
-            Verb::Freeze => "freeze freeze_super freeze_bdev",
+            Verb::Freeze => "freeze freeze_super freeze_bdev try_freeze freeze_until",
             Verb::Thaw => "thaw thaw_super thaw_bdev",
             Verb::Create => "create vfs_create vfs_mkdir",
             Verb::Remove => "remove vfs_unlink",

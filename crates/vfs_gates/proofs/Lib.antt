@@ -23,3 +23,4 @@ pub mod AtOnce
 pub mod several_tasks
 pub mod call_laws
 pub use Rattle.gate_steps.proofs.call_events.Grown
+pub mod OwnHooks

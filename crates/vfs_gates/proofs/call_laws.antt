@@ -4,3 +4,4 @@ pub mod Blocked
 pub mod WaitFree
 pub mod Dropped
 pub mod TreeStays
+pub mod HookFailed

@@ -32,3 +32,5 @@ pub mod AtOnce
 pub use Rattle.gate_steps.specs.call_events.Runs
 pub use Rattle.gate_steps.specs.call_events.Asking
 pub use Rattle.gate_steps.specs.call_events.Grown
+pub mod Patience
+pub mod Undone

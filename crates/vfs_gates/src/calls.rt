@@ -127,7 +127,7 @@ impl Task {
         self.finish_begun(gates, begun)
     }
 
-    /// `__mnt_want_write` that doesn't wait: an access at a mount, taken on a processor.
+    /// `__mnt_want_write` that doesn't wait: an access at a mount, taken on a processor. It takes 6 steps at most, whatever other tasks do.
     ///
     /// # Errors
     ///
@@ -148,7 +148,7 @@ impl Task {
         self.perform(gates, Op::Want { mount, cpu, wait }, want)
     }
 
-    /// `__mnt_drop_write`: gives an access at a mount back, on any processor. It is never refused once it has begun.
+    /// `__mnt_drop_write`: gives an access at a mount back, on any processor. It is never refused once it has begun. It takes one step.
     ///
     /// # Errors
     ///
@@ -161,8 +161,8 @@ impl Task {
         self.perform(gates, op, MountPhase::Drop { mount, cpu })
     }
 
-    /// `sb_start_write_trylock` (`percpu_down_read_trylock`), at any level: goes inside a freeze level, 1 to 3, counted on a
-    /// processor.
+    /// `sb_start_write_trylock` (`percpu_down_read_trylock`), at any level: goes inside a freeze level, 1 to 3, counted on a processor. It
+    /// takes 6 steps at most, whatever other tasks do.
     ///
     /// # Errors
     ///
@@ -183,8 +183,8 @@ impl Task {
         self.perform(gates, Op::Start { level, cpu, wait }, read)
     }
 
-    /// `sb_end_write`, `sb_end_pagefault`, `sb_end_intwrite` (`percpu_up_read`): leaves a freeze level, on any processor. It is never
-    /// refused once it has begun.
+    /// `sb_end_write`, `sb_end_pagefault`, `sb_end_intwrite` (`percpu_up_read`): leaves a freeze level, on any processor. It is never refused
+    /// once it has begun. It takes one step.
     ///
     /// # Errors
     ///
@@ -196,8 +196,8 @@ impl Task {
         self.perform(gates, Op::End { level, cpu }, UpRead { level, cpu })
     }
 
-    /// `mnt_drop_write`: gives an access at a mount back and then leaves level 1, both on any processor. It is never refused
-    /// once it has begun.
+    /// `mnt_drop_write`: gives an access at a mount back and then leaves level 1, both on any processor. It is never refused once it has begun.
+    /// It takes two steps.
     ///
     /// # Errors
     ///
@@ -225,7 +225,7 @@ impl Task {
         }
     }
 
-    /// `mnt_make_readonly`, or its undoing, that doesn't wait.
+    /// `mnt_make_readonly`, or its undoing, that doesn't wait. It takes 7 steps at most, and one for each processor, whatever other tasks do.
     ///
     /// # Errors
     ///

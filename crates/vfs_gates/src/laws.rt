@@ -24,6 +24,7 @@ ghost use Rattle.gate_world.specs.declared.operations.Op.TheVariants.{ChangeMoun
 pub mod in_time;
 pub mod one_world;
 pub mod progress;
+pub mod undone;
 
 /// After a whole call, the last snapshot of its task is of a moment of the one history that the call leaves. Does nothing: its contract
 /// is the law.

@@ -4,7 +4,7 @@ ghost use Rattle.std.specs.Prelude.{◌≡◌, ◌≤◌, ◌<◌, ◌↔◌, �
 ghost use Rattle.gate_world.specs.Configs.{IsWithin};
 ghost use Rattle.gate_world.specs.declared.operations.Op.{Op as OpType};
 ghost use Rattle.gate_world.specs.declared.work.Phase.{Phase as PhaseType};
-ghost use Rattle.vfs_gates.specs.TaskStates.{SeatedTask, IsNothing};
+ghost use Rattle.vfs_gates.specs.TaskStates.{SeatedTask, IsNothing, level_asked};
 ghost use Rattle.gate_steps.specs.Rules.{first_known};
 ghost use Rattle.access_model.specs.Replies.{map_next};
 ghost use Rattle.gate_world.specs.Views.{phase_after};
@@ -15,7 +15,7 @@ use crate::calls::waits;
 use crate::gates::Gates;
 use crate::numbers::{Numbers, add_all, are_all, others_of};
 use access_model::{GateError, Next};
-use freeze_levels::HookKind;
+use freeze_levels::{Freeze, FreezeStep, HookKind};
 use gate_events::PendingOp;
 use gate_steps::call_events::{GhostSeat, Progress, Step, StepResult, TaskState, do_event};
 use gate_world::{Accesses, Config, Op, Phase};
@@ -218,6 +218,23 @@ impl Task {
         ensures { result ≡ asked_by self.now.phase }
     {
         self.state.phase?.wants_hook()
+    }
+
+    /// Returns the level, 1 to 3, of which a freeze asks `FsHooks::keep_waiting` by its next step; 0 where the next step reads no such answer.
+    pub fn level_waited(&self) -> u8
+        ensures { result ≡ level_asked self.now.phase }
+    {
+        match self.state.phase {
+            Some(
+                Phase::Freezes(
+                    Freeze {
+                        step: FreezeStep::Waits(write),
+                        ..
+                    },
+                ),
+            ) => write.level,
+            _ => 0,
+        }
     }
 
     /// Does the next event of the operation that has begun, in one atomic step, where a hook of the file system answers this. An idle

@@ -91,7 +91,8 @@ impl Task {
         self.finish_waiting(rt, gates)
     }
 
-    /// `vfs_create`, `vfs_mkdir`: makes an empty, clean file or directory in a directory, and tells the number of its node.
+    /// `vfs_create`, `vfs_mkdir`: makes an empty, clean file or directory in a directory, and tells the number of its node. It takes 3 steps at
+    /// most, and one for each node, whatever other tasks do.
     ///
     /// # Errors
     ///
@@ -111,7 +112,7 @@ impl Task {
     }
 
     /// `vfs_unlink`: frees a file's node, and gives its blocks back; where some task has the file open, it has its node and its blocks until
-    /// its last close.
+    /// its last close. It takes 4 steps at most, whatever other tasks do.
     ///
     /// # Errors
     ///
@@ -128,7 +129,7 @@ impl Task {
         outcome(self.call(gates, Op::Remove { file }, remove))
     }
 
-    /// `vfs_write` past a file's end: makes it larger by so many blocks, and dirty.
+    /// `vfs_write` past a file's end: makes it larger by so many blocks, and dirty. It takes 5 steps at most, whatever other tasks do.
     ///
     /// # Errors
     ///
@@ -147,7 +148,7 @@ impl Task {
         self.perform(gates, Op::Grow { file, blocks }, grow)
     }
 
-    /// `vfs_rename`: gives a file another directory.
+    /// `vfs_rename`: gives a file another directory. It takes 5 steps at most, whatever other tasks do.
     ///
     /// # Errors
     ///
@@ -165,7 +166,7 @@ impl Task {
         outcome(self.call(gates, Op::MoveTo { file, dir }, moving))
     }
 
-    /// `page_mkwrite`: makes a file dirty.
+    /// `page_mkwrite`: makes a file dirty. It takes two steps at most, whatever other tasks do.
     ///
     /// # Errors
     ///
@@ -177,7 +178,7 @@ impl Task {
         outcome(self.call(gates, Op::Fault { file }, mark(file, true)))
     }
 
-    /// A write-back: makes a file clean.
+    /// A write-back: makes a file clean. It takes two steps at most, whatever other tasks do.
     ///
     /// # Errors
     ///
@@ -189,8 +190,8 @@ impl Task {
         outcome(self.call(gates, Op::Flush { file }, mark(file, false)))
     }
 
-    /// `do_dentry_open`: opens a file, which is there until its last close, also where it is removed meanwhile. A task opens a file once.
-    /// No level and no mount is asked for.
+    /// `do_dentry_open`: opens a file, which is there until its last close, also where it is removed meanwhile. A task opens a file once. No
+    /// level and no mount is asked for. It takes two steps at most, whatever other tasks do.
     ///
     /// # Errors
     ///
@@ -207,8 +208,8 @@ impl Task {
         outcome(self.call(gates, Op::Open { file }, first))
     }
 
-    /// `__fput` that doesn't wait: closes a file that the task has open. The last close of a removed file frees it inside level 3, where
-    /// it is counted on a processor, and gives its blocks back.
+    /// `__fput` that doesn't wait: closes a file that the task has open. The last close of a removed file frees it inside level 3, where it is
+    /// counted on a processor, and gives its blocks back. It takes 10 steps at most, whatever other tasks do.
     ///
     /// # Errors
     ///
@@ -242,7 +243,8 @@ impl Task {
         outcome(self.run_waiting(rt, gates, Op::Close { file, cpu, wait }))
     }
 
-    /// A snapshot of the tree that doesn't wait, which `tree` shows from then on.
+    /// A snapshot of the tree that doesn't wait, which `tree` shows from then on. It takes 4 steps at most, and two for each node, whatever
+    /// other tasks do.
     ///
     /// # Errors
     ///

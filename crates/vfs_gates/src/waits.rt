@@ -276,13 +276,15 @@ impl Task {
     /// `freeze_super`: closes the three freeze levels, one after the other, waiting at each for who is inside, and freezes the file system.
     /// While another task has `umount` it waits. Where all is frozen for the other holder, it is held for this one, too, at once.
     /// `FsHooks::sync` is asked once, with levels 1 and 2 closed and the dirty marks cleared, and `FsHooks::freeze_fs` once, with all levels
-    /// closed; a superblock that is read-only is frozen at once, with no level closed and no hook asked. After an Ok nobody is inside a level
-    /// that was closed, nor comes inside, until a thaw.
+    /// closed; a superblock that is read-only is frozen at once, with no level closed and no hook asked. After each sum of a level that finds
+    /// somebody it pauses, and asks `FsHooks::keep_waiting` of that level; after an Err of this one it gives up. After an Ok nobody is inside a
+    /// level that was closed, nor comes inside, until a thaw.
     ///
     /// # Errors
     ///
     /// Busy where another freeze is under way, or its holder holds one already. Hook where a hook fails, and then the levels are open and the
-    /// file system is as it was, but for the dirty marks. Order, where the task is inside a level, as `begin`.
+    /// file system is as it was, but for the dirty marks; where it was `keep_waiting`, with its code. Order, where the task is inside a level, as
+    /// `begin`. `try_freeze` waits for nobody inside, and `freeze_within` no longer than a limit.
     pub fn freeze<R: Wait, H: TimedHooks>(
         &mut self,
         rt: &R,

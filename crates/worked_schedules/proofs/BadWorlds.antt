@@ -1,14 +1,14 @@
 -- Worlds and refusals that no schedule has, of which a clause says so: a wrong order of events, or a weaker rule, would have them.
-use Rattle.std.{proofs.Common.{◌≡◌, ℕ, zero, suc, ◌+◌, ◌%◌, ◌≤◌, true, refl, arith, sym, true≢false}, specs.Prelude.{Some, Ok, [], ◌∷◌}}
+use Rattle.std.{proofs.Common.{◌≡◌, ℕ, zero, suc, ◌+◌, ◌%◌, ◌≤◌, true, refl, arith, sym, true≢false}, specs.Prelude.{Some, Ok, Err, [], ◌∷◌}}
 use Rattle.finite_sums.specs.Sums.{total}
 use Rattle.access_model.specs.declared.{actions.Holder.Holder, errors.GateError.GateError, replies.Reply.Reply}
-use Rattle.cpu_words.specs.{Sums.{lead}, gate_counts.{Gates.{admitted, unread}, Levels.{level_as_gate}}}
+use Rattle.cpu_words.specs.{Sums.{lead}, Words.Words, gate_counts.{Gates.{admitted, unread}, Levels.{level_as_gate}}}
 use Rattle.gated_tree.specs.declared.{phases.TreePhase.TreePhase, snapshots.SnapshotStep.SnapshotStep}
 use Rattle.mount_counts.specs.Roles.{counted}
 use Rattle.mount_counts.specs.declared.phases.{Change.Change, ChangeStep.ChangeStep, MountPhase.MountPhase, WantStep.WantStep}
 use Rattle.percpu_rwsem.specs.declared.{readers.DownReadStep.DownReadStep, writers.DownWriteStep.DownWriteStep}
 use Rattle.freeze_levels.specs.declared.freezes.FreezeStep.{FreezeStep}
-use Rattle.gate_world.specs.{refusals.Causes.HasCause, Headline.{LevelsLead, SnapshotsStand}, Levels.at_level, Rules.at_mount, Views.opening_view, Worlds.{World, opening}}
+use Rattle.gate_world.specs.{refusals.Causes.HasCause, Headline.{LevelsLead, NothingIsLeft, SnapshotsStand}, Levels.at_level, Rules.{Holds, Stages, at_mount}, Views.opening_view, Worlds.{World, opening}}
 use Rattle.gate_world.specs.declared.{views.View.View, work.Phase.Phase}
 use Rattle.gate_schedules.specs.Leads.{MountsLead}
 use Rattle.worked_schedules.specs.Schedules.{small}
@@ -88,6 +88,54 @@ thawed = record {
 
 thawed_never : SnapshotsStand small thawed → ⊥
 thawed_never h = omega (arith, (h 0 _ 5 (omega arith) refl refl).0)
+
+-- a freeze at its release, once it has given level 1 up and stored stage 0, but left `block` set
+abbrev shut_words : Words
+shut_words = record opening.words { block = λ i. 1; umount = 1 }
+
+abbrev shut : World
+shut = record {
+  words = shut_words;
+  views =
+      views_of (at_phase (Phase.Freezes record {
+        holder = Holder.User;
+        task = 0;
+        tasks = 3;
+        processors = 2;
+        nodes = 2;
+        step = FreezeStep.Releases (Err (GateError.Hook 110));
+      })) opening_view;
+}
+
+-- no rule has it: nobody's is the level, and the stage isn't 4
+shut_never : Holds small shut Stages → ⊥
+shut_never h = omega (arith, h.blocks 1 (omega arith) (omega arith))
+
+-- the same after its release, with nothing under way
+abbrev left_shut : World
+left_shut = record { words = record shut_words { umount = 0 }; views = λ t. opening_view }
+
+left_shut_never : NothingIsLeft small left_shut → ⊥
+left_shut_never h = omega (arith, (h (λ t lt. refl)).levels_open 1 (omega arith) (omega arith))
+
+-- a freeze that has stored stage 0 while it sums level 1, with `block` set
+abbrev early_zero : World
+early_zero = record {
+  words = record opening.words { block = λ i. 1 };
+  views =
+      views_of (at_phase (Phase.Freezes record {
+        holder = Holder.User;
+        task = 0;
+        tasks = 3;
+        processors = 2;
+        nodes = 2;
+        step = FreezeStep.Waits record { level = 1; tasks = 3; processors = 2; step = DownWriteStep.Sums record { words = 0; total = 0 } };
+      })) opening_view;
+}
+
+-- a freeze has the stage that it stored last
+early_zero_never : Holds small early_zero Stages → ⊥
+early_zero_never h = omega (arith, h.knows 0 (omega arith))
 
 -- a change that is refused as busy where nothing is counted, by whatever event, be it its first
 early_never : (x : Change) → HasCause small 0 (opening ∷ []) (Phase.Mounts (MountPhase.Change x)) GateError.Busy → ⊥

@@ -4,3 +4,4 @@ mod CauseRows
 mod TimeRows
 mod BadWorlds
 mod KeptRows
+mod GivingUpRows

@@ -150,6 +150,15 @@ module _ {tasks processors block full : ℕ} {count : ℕ → ℕ} {at : ℕ →
       reopens e =
           writes Passed Out 0 full e refl refl (omega arith) (opens_gate good.gate t lt (ap (λ r. bars (barring_of r)) e) (alone e).0)
 
+      -- so it is where the writer gives up, while it sums
+      pub gives_up : (k sum : ℕ) → (at t).role ≡ Summing k sum → Becomes 0 full Out
+      gives_up k sum e =
+          let one : bars (barring_of (at t).role) ≡ 1 = ap (λ r. bars (barring_of r)) e in
+          let at_most : bars (barring_of (at t).role) ≤ total tasks (λ x. bars (barring_of (at x).role)) =
+          total_at tasks t (λ x. bars (barring_of (at x).role)) lt in
+          writes (Summing k sum) Out 0 full e refl refl (omega arith)
+          (opens_gate good.gate t lt one (omega (arith, one, at_most, good.known, good.gate.flag)))
+
       -- a freeze that is full leaves `block` to no task
       pub is_left_frozen : (at t).role ≡ Passed → Becomes block 1 Out
       is_left_frozen e =

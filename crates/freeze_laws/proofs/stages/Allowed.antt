@@ -5,9 +5,9 @@ use Rattle.access_model.specs.{Actions.MayDo, States.{Limits, State, IsClean}, d
 use Rattle.freeze_laws.proofs.stages.{EachEvent.{fewer, own_clean}, Positions.{owner_idle, passed_idle, passed_own}}
 use Rattle.freeze_laws.proofs.stages.StageLaws.{freeze_bound, own_remount, relied_on, ways}
 use Rattle.freeze_laws.specs.stages.Events.{Stages, Holds, RepresentsStages, StageEvent, Happens, action_of, cleaned, Advances, Begins, CancelsRemount, ClearsBlock, ClearsMark}
-use Rattle.freeze_laws.specs.stages.Events.{ClearsMarkReadOnly, Completes, Fails, FreezesAtOnce, HoldsOne, LeavesOne, Passes, SetsRemount, SetsWritable, Syncs, Thaws}
+use Rattle.freeze_laws.specs.stages.Events.{ClearsMarkReadOnly, Completes, Fails, GivesUp, FreezesAtOnce, HoldsOne, LeavesOne, Passes, SetsRemount, SetsWritable, Syncs, Thaws}
 use Rattle.freeze_laws.specs.stages.Events.{ThawsAtOnce}
-use Rattle.freeze_laws.specs.stages.Roles.{StageRole, Owning, Remounting, Freezing, Reopening, CleanBelow, Closing, HasPassed, KnowsStage, has_position, owns}
+use Rattle.freeze_laws.specs.stages.Roles.{StageRole, Owning, Remounting, Freezing, Reopening, CleanBelow, Before, Closing, HasPassed, KnowsStage, has_position, owns}
 use Rattle.freeze_laws.specs.stages.{Roles.{passed_by, remounts}, Shown.{AsksOthers}}
 
 -- the action that there is, or else this one
@@ -86,6 +86,12 @@ module _ (l : Limits) (x : Stages) (h : Holds l.tasks l.nodes x) (t : ℕ) (lt :
         | inl q ↦ inl (omega (arith, at_stage stage k, q.1), omega (arith, n, q.1))
         | inr q ↦ inr (inl (omega (arith, at_stage stage k, q.1, k, b, low), omega (arith, n, q.1, k, b, low)))
       ])
+  may (GivesUp stage new) x' (e, alike, known, c, p) action a asks =
+      let k : x.stage ≡ stage = relies (Freezing stage Before true) e in
+      let b : _ = freeze_bound l.tasks x h.stages t lt (Freezing stage Before true) e refl in
+      let n : s.passed ≡ stage - 1 = own_levels (Freezing stage Before true) e refl in
+      let at : s.stage ≡ stage = at_stage stage k in
+      subst (MayDo l s t) (some_inj a) (inr (inr (inr ((omega (arith, at, k, b), omega (arith, at, k, b)), omega (arith, at, n, k, b)))))
   may FreezesAtOnce x' (e, p) action a asks =
       let k : (x.stage ≡ 0) × (x.sb ≡ 1) = relies (Owning (Some 0) (Some 1)) e in
       subst (MayDo l s t) (some_inj a) (
@@ -103,10 +109,10 @@ module _ (l : Limits) (x : Stages) (h : Holds l.tasks l.nodes x) (t : ℕ) (lt :
       may_be (Action.Leave holder) action a asks (λ ask. (at_stage 4 (relies (Owning (Some 4) sb) e).0, ask))
   may Thaws x' (e, p) action a asks =
       let four : s.stage ≡ 4 = at_stage 4 (relies (Owning (Some 4) (Some 0)) e).0 in
-      may_be (Action.Stage 0) action a asks (λ ask. inr (inr (four, ask four)))
+      may_be (Action.Stage 0) action a asks (λ ask. inr (inr (inl (four, ask four))))
   may ThawsAtOnce x' (e, p) action a asks =
       let four : s.stage ≡ 4 = at_stage 4 (relies (Owning (Some 4) (Some 1)) e).0 in
-      may_be (Action.Stage 0) action a asks (λ ask. inr (inr (four, ask four)))
+      may_be (Action.Stage 0) action a asks (λ ask. inr (inr (inl (four, ask four))))
   may (Passes level clean owner) x' (e, c, p) action a asks =
       let k : x.stage ≡ level = relies (Freezing level Closing owner) e in
       let b : _ = freeze_bound l.tasks x h.stages t lt (Freezing level Closing owner) e refl in

@@ -1,10 +1,10 @@
 -- Each event keeps what holds of the stage and of the marks.
-use Rattle.std.{proofs.Common.{◌≡◌, ℕ, suc, ◌<◌, ◌≤◌, refl, sym, subst, arith}, specs.Prelude.{true, false, Some, None}}
+use Rattle.std.{proofs.Common.{◌≡◌, ℕ, suc, ◌-◌, ◌<◌, ◌≤◌, refl, sym, subst, arith}, specs.Prelude.{true, false, Some, None}}
 use Rattle.finite_sums.specs.Sums.{update}
 use Rattle.freeze_laws.proofs.stages.MarkLaws.{cleared_anew, washed, marked}
 use Rattle.freeze_laws.proofs.stages.StageLaws.{turns, relied_on, releases_open, begins, advances, completes, fails, freezes_at_once, thaws, thaws_at_once, sets_block}
-use Rattle.freeze_laws.proofs.stages.StageLaws.{turns_block, clears_block, sets_remount, clears_remount, sets_read_only, sets_writable}
-use Rattle.freeze_laws.specs.stages.Events.{Stages, Holds, StageEvent, Happens, LocksAgain, Releases, LetsGo, LoadsStage, LoadsSb, Advances, Syncs, Completes, Fails}
+use Rattle.freeze_laws.proofs.stages.StageLaws.{turns_block, unblocks, gives_up, clears_block, sets_remount, clears_remount, sets_read_only, sets_writable}
+use Rattle.freeze_laws.specs.stages.Events.{Stages, Holds, StageEvent, Happens, LocksAgain, Releases, LetsGo, LoadsStage, LoadsSb, Advances, Syncs, Completes, Fails, Unblocks, GivesUp}
 use Rattle.freeze_laws.specs.stages.Events.{SetsBlock, Passes, ClearsBlock, SetsRemount, Begins, CancelsRemount, ClearsMark, ClearsMarkReadOnly, ClearsRemount}
 use Rattle.freeze_laws.specs.stages.Events.{FreezesAtOnce, HoldsOne, LeavesOne, Locks, MarksNode, Recalls, ReleasesOpen, SetsReadOnly, SetsWritable, Stays, Thaws}
 use Rattle.freeze_laws.specs.stages.Events.{ThawsAtOnce, WashesNode}
@@ -33,6 +33,9 @@ module _ (tasks nodes : ℕ) (x : Stages) (h : Holds tasks nodes x) (t : ℕ) (l
 
   closing_clean : (level : ℕ) → CleanBelow (clean_at level Closing) x.dirty
   closing_clean level = grind arith
+
+  before_clean : (level : ℕ) → CleanBelow (clean_at level Before) x.dirty
+  before_clean level = grind arith
 
   passed_clean : (level clean : ℕ) → CleanBelow clean x.dirty → CleanBelow (clean_at level (HasPassed clean)) x.dirty
   passed_clean level clean c = grind arith
@@ -96,6 +99,14 @@ module _ (tasks nodes : ℕ) (x : Stages) (h : Holds tasks nodes x) (t : ℕ) (l
   after_kind (Fails stage clean) x' (e, low, p) = subst (Holds tasks nodes) (sym p) record {
     stages = fails tasks x h.stages t lt stage clean e;
     marks = same_marks 0 x.sb (Reopening stage) (λ s. absurd (omega (arith, s))) h.marks.read_only (none x.dirty);
+  }
+  after_kind (Unblocks level owner) x' (e, p) = subst (Holds tasks nodes) (sym p) record {
+    stages = unblocks tasks x h.stages t lt level owner e;
+    marks = quiet (Freezing level Before owner) (before_clean level);
+  }
+  after_kind (GivesUp stage new) x' (e, a, k, c, p) = subst (Holds tasks nodes) (sym p) record {
+    stages = gives_up tasks x h.stages t lt stage new e a k;
+    marks = same_marks 0 x.sb new (λ s. absurd (omega (arith, s))) h.marks.read_only c;
   }
   after_kind FreezesAtOnce x' (e, p) = subst (Holds tasks nodes) (sym p) record {
     stages = freezes_at_once tasks x h.stages t lt e;

@@ -1,12 +1,12 @@
 -- The effect of each event's action shows the stage after it, and an event without one leaves the stage that was shown.
-use Rattle.std.{proofs.Common.{◌≡◌, ℕ, zero, suc, ◌+◌, ◌*◌, ◌<◌, refl, sym, ap, ◌∙◌, subst, arith}, specs.Prelude.{◌==◌, ◌||◌, true, false, Some, None}}
+use Rattle.std.{proofs.Common.{◌≡◌, ℕ, zero, suc, ◌+◌, ◌-◌, ◌*◌, ◌<◌, refl, sym, ap, ◌∙◌, subst, arith}, specs.Prelude.{◌==◌, ◌||◌, true, false, Some, None}}
 use Rattle.finite_sums.specs.Sums.{update}
 use Rattle.access_model.specs.{States.State, declared.actions.Action.Action}
 use Rattle.freeze_laws.proofs.stages.{Changes.passed_moves, EachEvent.after_kind, Facts.full_is, Positions.passed_own}
 use Rattle.freeze_laws.proofs.stages.StageLaws.{advances, begins, clears_block, clears_remount, completes, fails, freeze_bound, freezes_at_once, own_remount, relied_on}
-use Rattle.freeze_laws.proofs.stages.StageLaws.{sets_block, sets_read_only, sets_remount, sets_writable, thaws, thaws_at_once, turns_block, ways}
+use Rattle.freeze_laws.proofs.stages.StageLaws.{sets_block, sets_read_only, sets_remount, sets_writable, thaws, thaws_at_once, turns_block, unblocks, gives_up, ways}
 use Rattle.freeze_laws.specs.stages.Events.{Stages, Holds, StageEvent, Happens, action_of, cleaned, playing, Advances, Begins, CancelsRemount, ClearsBlock, ClearsMark}
-use Rattle.freeze_laws.specs.stages.Events.{ClearsMarkReadOnly, ClearsRemount, Completes, Fails, FreezesAtOnce, HoldsOne, LeavesOne, LetsGo, LoadsSb, LoadsStage, Locks}
+use Rattle.freeze_laws.specs.stages.Events.{ClearsMarkReadOnly, ClearsRemount, Completes, Fails, Unblocks, GivesUp, FreezesAtOnce, HoldsOne, LeavesOne, LetsGo, LoadsSb, LoadsStage, Locks}
 use Rattle.freeze_laws.specs.stages.Events.{LocksAgain, MarksNode, Passes, Recalls, Releases, ReleasesOpen, SetsBlock, SetsReadOnly, SetsRemount, SetsWritable, Stays}
 use Rattle.freeze_laws.specs.stages.Events.{Syncs, Thaws, ThawsAtOnce, WashesNode}
 use Rattle.freeze_laws.specs.stages.Roles.{StageRole, Aside, Owning, Remounting, Freezing, Reopening, StagesHold, Before, Closing, HasPassed, KnowsStage, has_position}
@@ -115,6 +115,14 @@ module _ (tasks nodes : ℕ) (x : Stages) (h : Holds tasks nodes x) (t : ℕ) (l
       let b : _ = freeze_bound tasks x h.stages t lt (Freezing stage (HasPassed clean) true) e refl in
       shown_at (Fails stage clean) x' _ p (stage_shown 0 (Freezing stage (HasPassed clean) true) (Reopening stage) e
       (fails tasks x h.stages t lt stage clean e) (omega (arith, b, ways tasks x h.stages t lt)))
+  effect (Unblocks level owner) x' (e, p) =
+      shown_at (Unblocks level owner) x' _ p (quiet_shown (update x.block level 0) (Freezing level Closing owner)
+      (Freezing level Before owner) e
+      (unblocks tasks x h.stages t lt level owner e) refl)
+  effect (GivesUp stage new) x' (e, a, k, c, p) =
+      let b : _ = freeze_bound tasks x h.stages t lt (Freezing stage Before true) e refl in
+      shown_at (GivesUp stage new) x' _ p (stage_shown 0 (Freezing stage Before true) new e
+      (gives_up tasks x h.stages t lt stage new e a k) (omega (arith, b, a.passed_same, ways tasks x h.stages t lt)))
   effect FreezesAtOnce x' (e, p) =
       let k : (x.stage ≡ 0) × (x.sb ≡ 1) = relies (Owning (Some 0) (Some 1)) e in
       shown_at FreezesAtOnce x' _ p (stage_shown 4 (Owning (Some 0) (Some 1)) (Owning (Some 4) None) e

@@ -4,7 +4,7 @@ use Rattle.std.specs.Prelude.{Bool, true, Option, Some, None}
 use Rattle.finite_sums.{proofs.Totals.{total_at, each_updated}, specs.Sums.{update, total}}
 use Rattle.freeze_laws.proofs.stages.{Changes.{any_event, others_know}, Facts.{full_is, up_to_le, way_is, up_to_off, up_to_next, up_to_below}}
 use Rattle.freeze_laws.proofs.stages.Positions.{block_at, way, remount_own}
-use Rattle.freeze_laws.specs.stages.Events.{Stages, playing}
+use Rattle.freeze_laws.specs.stages.Events.{Stages, SameDuties, playing}
 use Rattle.freeze_laws.specs.stages.Roles.{StageRole, StagesHold, KnowsStage, under_way, freezes, has_position, Owning, Freezing, Reopening, Remounting, owns, closes}
 use Rattle.freeze_laws.specs.stages.Roles.{Before, HasPassed, remounts, closed_by, Closing, is_full, up_to, Aside}
 
@@ -151,6 +151,15 @@ module _ (tasks : ℕ) (x : Stages) (good : StagesHold tasks x.stage x.sb x.remo
       stores 0 (Freezing s (HasPassed clean) true) (Reopening s) e refl refl refl (omega arith) (sym b.0) refl
       (λ h. b.3) (refl, omega (arith, k, b)) (λ i l h. omega (arith, ways, b, full_is 0 x.sb (omega arith) good.superblock))
 
+  -- a freeze gives up at a level that it has not passed
+  pub gives_up : (s : ℕ) (new : StageRole) → x.at t ≡ Freezing s Before true → SameDuties (Reopening (s - 1)) new → KnowsStage 0 x.sb new →
+      StagesAt (playing (record x { stage = 0 }) t new)
+  gives_up s new e a known =
+      let k : x.stage ≡ s = relied_on (Freezing s Before true) e in
+      let b : _ = freeze_bound (Freezing s Before true) e refl in
+      stores 0 (Freezing s Before true) new e refl a.owns_same a.remounts_same (omega arith) (sym b.0) a.freezes_same
+      (λ h. b.3) known (λ i l h. omega (arith, ap (up_to i) a.closed_same, ways, b, full_is 0 x.sb (omega arith) good.superblock))
+
   -- a freeze of a read-only superblock
   pub freezes_at_once : x.at t ≡ Owning (Some 0) (Some 1) → StagesAt (playing (record x { stage = 4 }) t (Owning (Some 4) None))
   freezes_at_once e =
@@ -184,6 +193,22 @@ module _ (tasks : ℕ) (x : Stages) (good : StagesHold tasks x.stage x.sb x.remo
       (omega (
         arith,
         own_block (Freezing i Before owner) e refl i (omega (arith, k, b)) (omega (arith, k, b)),
+        up_to_le i i (omega arith),
+        up_to_off i (i - 1) (omega (arith, k, b)),
+      ))
+      (λ ne. omega (arith, up_to_below j i (omega (arith, k, b)) ne)))
+
+  -- a store of `block` gives up the level of the stage
+  pub unblocks : (i : ℕ) (owner : Bool) → x.at t ≡ Freezing i Closing owner →
+      StagesAt (playing (record x { block = update x.block i 0 }) t (Freezing i Before owner))
+  unblocks i owner e =
+      let k : x.stage ≡ i = relied_on (Freezing i Closing owner) e in
+      let b : _ = freeze_bound (Freezing i Closing owner) e refl in
+      moves_block (Freezing i Closing owner) (Freezing i Before owner) (update x.block i 0) e refl refl refl k
+      (λ j l h. each_updated (λ y v. v + closes y (Freezing i Closing owner) ≡ x.block y + closes y (Freezing i Before owner)) x.block i 0 j
+      (omega (
+        arith,
+        own_block (Freezing i Closing owner) e refl i (omega (arith, k, b)) (omega (arith, k, b)),
         up_to_le i i (omega arith),
         up_to_off i (i - 1) (omega (arith, k, b)),
       ))

@@ -1,5 +1,5 @@
 -- The stage from event to event.
-use Rattle.std.specs.Prelude.{◌≡◌, ℕ, zero, suc, ◌<◌, ◌≤◌, Bool, true, false, Option, Some, None}
+use Rattle.std.specs.Prelude.{◌≡◌, ℕ, zero, suc, ◌-◌, ◌<◌, ◌≤◌, Bool, true, false, Option, Some, None}
 use Rattle.finite_sums.specs.Sums.{update, total}
 use Rattle.access_model.specs.States.{Limits, State}
 use Rattle.access_model.specs.declared.actions.{Action.{Action, TheVariants.{SbRo, SbRw, Stage, Hold, Leave, Pass, Reopen, Clean}}, Holder.Holder}
@@ -52,6 +52,10 @@ pub data StageEvent : Type 0 where
   Completes : (clean : ℕ) → StageEvent
   -- its store of 0 where the file system could not be synced, or did not freeze, at this stage
   Fails : (stage clean : ℕ) → StageEvent
+  -- its store of `block` by which it gives up a level that it closes, and its store of 0 after that, at this stage, with the levels below it
+  -- still to be reopened, if there are any
+  Unblocks : (level : ℕ) (owner : Bool) → StageEvent
+  GivesUp : (stage : ℕ) (new : StageRole) → StageEvent
   -- a freeze of a read-only superblock, at once
   FreezesAtOnce : StageEvent
   -- an owner's store of the holders with one more, or with one less, at stage 4; it goes on relying on something
@@ -109,6 +113,11 @@ Happens tasks nodes t x x' (Completes clean) =
     (x.at t ≡ Freezing 3 (HasPassed clean) true) × (x' ≡ playing (record x { stage = 4 }) t (Owning (Some 4) None))
 Happens tasks nodes t x x' (Fails stage clean) =
     (x.at t ≡ Freezing stage (HasPassed clean) true) × (2 ≤ stage) × (x' ≡ playing (record x { stage = 0 }) t (Reopening stage))
+Happens tasks nodes t x x' (Unblocks level owner) =
+    (x.at t ≡ Freezing level Closing owner) × (x' ≡ playing (record x { block = update x.block level 0 }) t (Freezing level Before owner))
+Happens tasks nodes t x x' (GivesUp stage new) =
+    (x.at t ≡ Freezing stage Before true) × SameDuties (Reopening (stage - 1)) new × KnowsStage 0 x.sb new × CleanBelow (clean_by new) x.dirty ×
+    (x' ≡ playing (record x { stage = 0 }) t new)
 Happens tasks nodes t x x' FreezesAtOnce =
     (x.at t ≡ Owning (Some 0) (Some 1)) × (x' ≡ playing (record x { stage = 4 }) t (Owning (Some 4) None))
 Happens tasks nodes t x x' (HoldsOne holder sb new) =
@@ -160,6 +169,7 @@ action_of (Advances clean) x = Some (Stage 2)
 action_of (Syncs clean) x = Some (Stage 3)
 action_of (Completes clean) x = Some (Stage 4)
 action_of (Fails stage clean) x = Some (Stage 0)
+action_of (GivesUp stage new) x = Some (Stage 0)
 action_of FreezesAtOnce x = Some (Stage 4)
 action_of (HoldsOne holder sb new) x = Some (Hold holder)
 action_of (LeavesOne holder sb new) x = Some (Leave holder)

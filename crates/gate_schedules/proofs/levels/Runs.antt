@@ -13,7 +13,8 @@ use Rattle.gate_schedules.proofs.{frames.Frames.SameLevelWords, levels.DownWrite
 use Rattle.gate_schedules.proofs.levels.PositionRoles.{SayBeside}
 use Rattle.gate_schedules.proofs.levels.LevelPositions.{HasPosition, LevelsRun, closing_position, opening_position, left_world, position_after_closing, position_after_opening}
 use Rattle.gate_schedules.proofs.levels.{Steps.{level_stays, level_kept}, UpWrite.{next_opening, up_write_event, opening_others, opening_there}}
-use Rattle.gate_schedules.proofs.levels.Worlds.{IsEventAt}
+use Rattle.gate_schedules.proofs.levels.{GivenUp.{leaving_at, leaving_beside, summing_at, unblocked_there}, Worlds.IsEventAt}
+use Rattle.percpu_rwsem.specs.declared.writers.UpWriteStep.{UpWriteStep}
 
 -- an event that leaves what the levels read of the words, and how its task stands with them, leaves each level
 pub levels_stay_runs : (c : Config) (w : World) (t : ℕ) → t < c.tasks → (ws : Words) (v : View) (s : Option LevelPosition) →
@@ -73,3 +74,12 @@ up_write_runs c lim w good t lt u v fits was now =
     levels_move_runs c w t lt v (Some (opening_position u)) (position_after_opening u.level (next_opening c lim w good t lt u u.step)) was now
     u.level (up_write_next u u.step).0 (up_write_next u u.step).1 (up_write_event u u.step)
     (opening_others c lim w good t lt u u.step fits) (opening_there c lim w good t lt u u.step fits was)
+
+-- a freeze's store that opens a level whose counts it sums
+pub unblocked_runs : (c : Config) → IsWithin c → (w : World) → IsGood c w → (t : ℕ) → t < c.tasks → (level : ℕ) (v : View) →
+    HasPosition (w.views t).phase (Some (summing_at level)) → HasPosition v.phase (Some (leaving_at level)) →
+    LevelsRun c w (left_world w t (put w.words (WordName.Block level) 0) v)
+unblocked_runs c lim w good t lt level v was now =
+    levels_move_runs c w t lt v (Some (summing_at level)) (Some (leaving_at level)) was now level (WordName.Block level) (Touch.Store 0)
+    (up_write_event (record { level = level; step = UpWriteStep.ClearsBlock }) UpWriteStep.ClearsBlock) (leaving_beside level)
+    (unblocked_there c w t lt level was)

@@ -3,6 +3,7 @@ pub mod Trace
 pub mod Fits
 pub mod Stages
 pub mod Closes
+pub mod GivesUp
 pub mod Events
 pub mod Runs
 pub mod Causes

@@ -15,7 +15,7 @@ use Rattle.gate_world.specs.declared.work.Phase.{Phase, TheVariants.Closes}
 use Rattle.freeze_levels.proofs.holder_laws.{HolderLaws.held_exactly, Words.held_word}
 use Rattle.percpu_rwsem.specs.{Writers.{down_write_next, up_write_next}}
 use Rattle.percpu_rwsem.specs.declared.writers.{DownWrite.DownWrite, DownWriteStep.DownWriteStep, UpWrite.UpWrite, UpWriteStep.UpWriteStep}
-use Rattle.std.proofs.{Common.{Bool, ap, arith, false, if◌then◌else◌, inl, inr, refl, subst, sym, true, ℕ, ◌<◌, ◌∙◌, ◌≡◌}, lemmas.Bool.{cases_lt, le-ltb}}
+use Rattle.std.proofs.{Common.{Bool, ap, arith, false, if◌then◌else◌, inl, inr, refl, subst, sym, true, ℕ, ◌-◌, ◌<◌, ◌∙◌, ◌≡◌}, lemmas.Bool.{cases_Bool, cases_lt, le-ltb}}
 use Rattle.std.proofs.lemmas.Bool.{lt-ltb}
 use Rattle.std.specs.Prelude.{Err, List, None, Ok, Option, Some, [], ◌==◌, ◌∷◌}
 
@@ -97,6 +97,15 @@ module _ (c : Config) (w : World) (good : IsGood c w) (t : ℕ) (lt : t < c.task
       freeze_spares (record x { step = FreezeStep.LoadsSuperblock }) hook e after (refl, refl, refl, refl) refl
   freeze_told x (Closes d) hook e after =
       freeze_spares (record x { step = Closes d }) hook e after (down_write_spares w.words d d.step) refl
+  freeze_told x (FreezeStep.Waits d) (Ok answer) e after =
+      freeze_spares (record x { step = FreezeStep.Waits d }) (Ok answer) e after (down_write_spares w.words d d.step) refl
+  freeze_told x (FreezeStep.Waits d) (Err code) e after = refl
+  freeze_told x (FreezeStep.Undoes level transition code) hook e after =
+      freeze_spares (record x { step = FreezeStep.Undoes level transition code }) hook e after
+      (up_write_spares w.words (record { level = level; step = UpWriteStep.Exits transition }) (UpWriteStep.Exits transition)) refl
+  freeze_told x (FreezeStep.LocksToUndo code) hook e after =
+      freeze_spares (record x { step = FreezeStep.LocksToUndo code }) hook e after (refl, refl, refl, refl) refl
+  freeze_told x (FreezeStep.GivesUp level code) hook e after = elim (cases_Bool (level - 1 == 0)) [ inl h ↦ rw h refl | inr h ↦ rw h refl ]
   freeze_told x FreezeStep.LocksAgain hook e after = freeze_spares (record x { step = FreezeStep.LocksAgain }) hook e after (refl, refl, refl, refl) refl
   freeze_told x (FreezeStep.Cleans marks) hook e after = freeze_spares (record x { step = FreezeStep.Cleans marks }) hook e after (refl, refl, refl, refl) refl
   freeze_told x FreezeStep.SetsFs (Ok answer) e after = refl

@@ -12,6 +12,7 @@ use Rattle.percpu_rwsem.specs.declared.readers.{DownRead.DownRead, DownReadStep.
 use Rattle.freeze_levels.specs.declared.freezes.{Freeze.Freeze, FreezeStep.{FreezeStep, TheVariants.{Locks as FreezeLocks, LoadsStage, LoadsHolders, Holds}}}
 use Rattle.freeze_levels.specs.declared.freezes.FreezeStep.TheVariants.{LoadsSuperblock, CompletesReadOnly, SetsWrite, Unlocks, Closes, LocksAgain}
 use Rattle.freeze_levels.specs.declared.freezes.FreezeStep.TheVariants.{SetsPageFault, Cleans, SetsFs, SetsComplete, Reopens, Releases}
+use Rattle.freeze_levels.specs.declared.freezes.FreezeStep.TheVariants.{Waits, Undoes, LocksToUndo, GivesUp}
 use Rattle.freeze_levels.specs.declared.thaws.ThawStep.{ThawStep, TheVariants.Locks as ThawLocks}
 use Rattle.composite_ops.specs.declared.write_access.phases.WritePhase.{WritePhase, TheVariants.Takes}
 use Rattle.composite_ops.specs.declared.file_closes.phases.ClosePhase.{ClosePhase, TheVariants.{LoadsFile, Enters as EntersLevel}}
@@ -41,7 +42,7 @@ abbrev pub IsHeldIdle : Config → World → ℕ → Type 0
 IsHeldIdle c w i = (z : ℕ) × (z < c.tasks) × ((w.views z).phase ≡ None) × (holds_level (w.views z) i ≡ true)
 
 -- the lowest level that a freeze has to pass yet: 4 where there is none, as where it will find the stage other than 0, or the superblock
--- read-only
+-- read-only, or where it has given up
 abbrev pub next_level : Words → FreezeStep → ℕ
 next_level w FreezeLocks = if w.stage == 0 && w.sb == 0 then 1 else 4
 next_level w LoadsStage = if w.stage == 0 && w.sb == 0 then 1 else 4
@@ -52,6 +53,10 @@ next_level w CompletesReadOnly = 4
 next_level w SetsWrite = 1
 next_level w Unlocks = 1
 next_level w (Closes d) = d.level
+next_level w (Waits d) = d.level
+next_level w (Undoes level transition code) = 4
+next_level w (LocksToUndo code) = 4
+next_level w (GivesUp level code) = 4
 next_level w LocksAgain = 2
 next_level w SetsPageFault = 2
 next_level w (Cleans marks) = 3

@@ -23,6 +23,7 @@ use Rattle.freeze_levels.specs.declared.freezes.{Freeze.Freeze, FreezeStep.{Free
 use Rattle.freeze_levels.specs.declared.freezes.FreezeStep.TheVariants.{LoadsHolders as FLoadsHolders, Holds, LoadsSuperblock as FLoadsSuperblock}
 use Rattle.freeze_levels.specs.declared.freezes.FreezeStep.TheVariants.{CompletesReadOnly, SetsWrite, Unlocks, Closes, LocksAgain, SetsPageFault, Cleans}
 use Rattle.freeze_levels.specs.declared.freezes.FreezeStep.TheVariants.{SetsFs, SetsComplete, Reopens as FReopens, Releases as FReleases}
+use Rattle.freeze_levels.specs.declared.freezes.FreezeStep.TheVariants.{Waits as FWaits, Undoes, LocksToUndo, GivesUp}
 use Rattle.freeze_levels.specs.declared.thaws.ThawStep.{ThawStep, TheVariants.{Locks as TLocks, LoadsStage as TLoadsStage, LoadsHolders as TLoadsHolders}}
 use Rattle.freeze_levels.specs.declared.thaws.ThawStep.TheVariants.{Leaves as TLeaves, LoadsSuperblock as TLoadsSuperblock, LeavesReadOnly, LeavesLast}
 use Rattle.freeze_levels.specs.declared.thaws.ThawStep.TheVariants.{UnfreezesReadOnly, SetsUnfrozen, Reopens as TReopens, Releases as TReleases}
@@ -161,6 +162,10 @@ freeze_rank w x CompletesReadOnly = 2
 freeze_rank w x SetsWrite = closing_rank x + closing_rank x + closing_rank x + x.nodes + 15
 freeze_rank w x Unlocks = closing_rank x + closing_rank x + closing_rank x + x.nodes + 14
 freeze_rank w x (Closes d) = down_rank w d d.step + closed_rank x d.level + 1
+freeze_rank w x (FWaits d) = down_rank w d d.step + closed_rank x d.level + 1
+freeze_rank w x (Undoes level transition code) = exchange_rank (w.sync level) transition + 3 * level
+freeze_rank w x (LocksToUndo code) = 2
+freeze_rank w x (GivesUp level code) = 3 * (level - 1) + 1
 freeze_rank w x LocksAgain = closing_rank x + closing_rank x + x.nodes + 13
 freeze_rank w x SetsPageFault = closing_rank x + closing_rank x + x.nodes + 12
 freeze_rank w x (Cleans marks) = closing_rank x + (marks.nodes - marks.node) + 11

@@ -9,7 +9,7 @@ use Rattle.mount_counts.specs.{Phases.{has_flag}, declared.phases.ChangeStep.{Ch
 use Rattle.mount_counts.specs.declared.phases.MountPhase.{MountPhase, TheVariants.{Want as Wants, Change as Changes}}
 use Rattle.mount_counts.specs.declared.remounts.RemountStep.{RemountStep, TheVariants.Locks as RemountLocks}
 use Rattle.percpu_rwsem.specs.declared.readers.DownRead.{DownRead}
-use Rattle.freeze_levels.specs.declared.freezes.FreezeStep.{FreezeStep, TheVariants.{Locks as FreezeLocks, Closes, LocksAgain}}
+use Rattle.freeze_levels.specs.declared.freezes.FreezeStep.{FreezeStep, TheVariants.{Locks as FreezeLocks, Closes, LocksAgain, Waits as FreezeWaits, Undoes, LocksToUndo}}
 use Rattle.freeze_levels.specs.declared.thaws.ThawStep.{ThawStep, TheVariants.Locks as ThawLocks}
 use Rattle.composite_ops.specs.declared.write_access.phases.WritePhase.{WritePhase, TheVariants.{Takes, Wants as WriteWants}}
 use Rattle.composite_ops.specs.declared.file_closes.phases.ClosePhase.{ClosePhase, TheVariants.{LoadsFile, Enters as EntersLevel}}
@@ -78,10 +78,13 @@ CloseIsUnblocked w (LoadsFile x) = x.wait ≡ true → is_last_close (w.node x.f
 CloseIsUnblocked w (EntersLevel f node r) = ReadIsUnblocked w r
 CloseIsUnblocked w x = Unit {0}
 
--- a freeze finds `umount` free at its two locks
+-- a freeze finds `umount` free at its locks, also where it gives level 1 up
 abbrev pub FreezeLocksFree : Words → FreezeStep → Type 0
 FreezeLocksFree w FreezeLocks = w.umount ≡ 0
 FreezeLocksFree w (Closes d) = d.level ≡ 1 → w.umount ≡ 0
+FreezeLocksFree w (FreezeWaits d) = d.level ≡ 1 → w.umount ≡ 0
+FreezeLocksFree w (Undoes level transition code) = level ≡ 1 → w.umount ≡ 0
+FreezeLocksFree w (LocksToUndo code) = w.umount ≡ 0
 FreezeLocksFree w LocksAgain = w.umount ≡ 0
 FreezeLocksFree w step = Unit {0}
 

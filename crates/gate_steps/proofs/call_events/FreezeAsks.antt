@@ -1,24 +1,30 @@
 -- The hooks that a freeze has asked, by its steps.
-use Rattle.std.proofs.Common.{arith, ◌≡◌, ℕ, zero, suc, true, false, List, [], ◌∷◌, refl, ap, subst, inl, inr}
+use Rattle.std.proofs.Common.{arith, ◌≡◌, ℕ, zero, suc, true, false, List, [], ◌∷◌, refl, ap, subst, sym, inl, inr}
 use Rattle.std.specs.Prelude.{◌==◌, ◌-◌, if◌then◌else◌, Option, Some, None, Ok, Err, Result}
-use Rattle.access_model.specs.declared.{actions.Action.{Action, TheVariants.{Clean}}, replies.Next.{Next, TheVariants.{Go, Wait, Done}}}
+use Rattle.access_model.specs.declared.{actions.Action.{Action, TheVariants.{Clean, Stage as StageAction}}, replies.Next.{Next, TheVariants.{Go, Wait, Done}}}
 use Rattle.access_model.specs.declared.errors.GateError.{GateError, TheVariants.{Busy, Hook}}
 use Rattle.access_model.specs.{declared.{replies.Reply.{Reply}, actions.Holder.{Holder}}, Replies.{map_next}, Holders.{held_by}}
 use Rattle.cpu_words.specs.{Hooks.{HookAnswer}}
 use Rattle.node_words.specs.{declared.marks.ClearMarks.{ClearMarks}, Nodes.{dirty_in, node_after}, Phases.{clears_at, clear_after}}
 use Rattle.percpu_rwsem.specs.declared.{writers.DownWrite.{DownWrite}}
 use Rattle.percpu_rwsem.specs.declared.writers.{DownWriteStep.{DownWriteStep}, UpWrite.{UpWrite}, UpWriteStep.{UpWriteStep, TheVariants.{ClearsBlock, Exits}}}
+use Rattle.percpu_rwsem.specs.declared.{transitions.TransitionNext.{TransitionNext, TheVariants.{More, Undefined, Made}}}
+use Rattle.percpu_rwsem.specs.declared.writers.DownWriteStep.TheVariants.{Sums}
+use Rattle.percpu_rwsem.specs.{SyncWords.{on_exit}, Transitions.{transition_after}}
 use Rattle.percpu_rwsem.specs.Writers.{down_write_after, up_write_after}
 use Rattle.freeze_levels.specs.declared.freezes.{Freeze.{Freeze}, FreezeStep.{FreezeStep}}
 use Rattle.freeze_levels.specs.declared.freezes.FreezeStep.TheVariants.{Locks, LoadsStage, LoadsHolders, Holds, LoadsSuperblock}
 use Rattle.freeze_levels.specs.declared.freezes.FreezeStep.TheVariants.{CompletesReadOnly, SetsWrite, Unlocks, Closes, LocksAgain}
 use Rattle.freeze_levels.specs.declared.freezes.FreezeStep.TheVariants.{SetsPageFault, Cleans, SetsFs, SetsComplete, Reopens, Releases}
-use Rattle.freeze_levels.specs.declared.hooks.HookCall.TheVariants.{Sync as SyncCall, FreezeFs as FreezeCall}
+use Rattle.freeze_levels.specs.declared.freezes.FreezeStep.TheVariants.{Waits, Undoes, LocksToUndo, GivesUp}
+use Rattle.freeze_levels.specs.declared.hooks.HookCall.TheVariants.{Sync as SyncCall, FreezeFs as FreezeCall, KeepWaiting as KeepWaitingCall}
 use Rattle.freeze_levels.specs.{Freezes.{freeze_after, at_freeze, after_closing, after_clearing, after_reopening}, Levels.{reopening}}
+use Rattle.freeze_levels.specs.Freezes.{after_undoing, closing_waits, level_closed}
 use Rattle.freeze_levels.specs.Holders.{holders_in}
 use Rattle.gate_world.specs.declared.{operations.Op.TheVariants.{Freeze as FreezeOp}, work.Phase.{Phase, TheVariants.{Freezes}}}
 use Rattle.gate_world.specs.{traces.Traces.{actions_of}, Views.{actions_after}, Work.{after_of}}
-use Rattle.gate_steps.specs.{Seating.{DealtNumbers}, call_events.Asked.{agreed, failed, OnceAsked, stored_third_stage, AskedByFreeze, AskedByRefusedFreeze}}
+use Rattle.gate_steps.specs.{Seating.{DealtNumbers}, call_events.Asked.{agreed, failed, stored_third_stage, AskedByFreeze, AskedByRefusedFreeze}}
+use Rattle.gate_steps.specs.call_events.Asked.{AskedBeforeSync, AskedSinceSync}
 use Rattle.gate_steps.specs.call_events.{Asking.{Ask, asks_with, asks_of, call_at}, Runs.{Called}, SeatedTasks.{SeatedTask}}
 use Rattle.gate_steps.proofs.call_events.Asked.{either_way, asked_after}
 
@@ -26,19 +32,31 @@ use Rattle.gate_steps.proofs.call_events.Asked.{either_way, asked_after}
 abbrev NoneAsked : List Action → List Ask → Type 0
 NoneAsked added asks = (stored_third_stage added ≡ false) × (asks ≡ [])
 
--- `sync` alone was
+-- at most whether to wait, before `sync`
+abbrev SyncComes : List Action → List Ask → Type 0
+SyncComes added asks = (stored_third_stage added ≡ false) × AskedBeforeSync asks
+
+-- `sync` was
 abbrev SyncAsked : List Action → List Ask → Type 0
-SyncAsked added asks = (stored_third_stage added ≡ true) × OnceAsked SyncCall asks
+SyncAsked added asks = (stored_third_stage added ≡ true) × AskedSinceSync asks
 
 -- while a level is closed
 abbrev AtLevel : ℕ → List Action → List Ask → Type 0
-AtLevel (suc zero) added asks = NoneAsked added asks
-AtLevel (suc (suc zero)) added asks = NoneAsked added asks
+AtLevel (suc zero) added asks = SyncComes added asks
+AtLevel (suc (suc zero)) added asks = SyncComes added asks
 AtLevel (suc (suc (suc zero))) added asks = SyncAsked added asks
 AtLevel level added asks = ⊥
 
 abbrev AtStep : FreezeStep → List Action → List Ask → Type 0
 AtStep (Closes d) added asks = AtLevel d.level added asks
+AtStep (Waits d) added asks = AtLevel d.level added asks
+AtStep (Undoes level transition code) added asks = AskedByRefusedFreeze (Hook code) added asks
+AtStep (LocksToUndo code) added asks = AskedByRefusedFreeze (Hook code) added asks
+AtStep (GivesUp level code) added asks = AskedByRefusedFreeze (Hook code) added asks
+AtStep LocksAgain added asks = SyncComes added asks
+AtStep SetsPageFault added asks = SyncComes added asks
+AtStep (Cleans marks) added asks = SyncComes added asks
+AtStep SetsFs added asks = SyncComes added asks
 AtStep SetsComplete added asks = SyncAsked added asks
 AtStep (Holds beside) added asks = AskedByFreeze added asks
 AtStep (Reopens u code) added asks = AskedByRefusedFreeze (Hook code) added asks
@@ -82,12 +100,62 @@ same_level : (level : ℕ) (added later : List Action) (asks : List Ask) → sto
     AtLevel level added asks → AtLevel level later asks
 same_level level added later asks same is = grind arith
 
+-- a down-write that waits, asking or not
+waiting_step : (d : DownWrite) (step : DownWriteStep) (added : List Action) (asks : List Ask) → AtLevel d.level added asks →
+    AtStep (closing_waits d step) added asks
+waiting_step d (Sums sum) added asks is = is
+waiting_step d step added asks is = is
+
+-- a level is closed
+closed_next : (level nodes : ℕ) (added : List Action) (asks : List Ask) → AtLevel level added asks → AtStep (level_closed level nodes) added asks
+closed_next (suc zero) nodes added asks is = is
+closed_next (suc (suc zero)) nodes added asks is = is
+closed_next (suc (suc (suc zero))) nodes added asks is = is
+closed_next level nodes added asks is = absurd is
+
 closing_next : (x : Freeze) (level : ℕ) (next : Next DownWrite) (added : List Action) (asks : List Ask) → KeepsLevel level next →
     AtLevel level added asks → AtNext (after_closing x level next) added asks
-closing_next x level next added asks same is = grind arith
+closing_next x level (Go d) added asks same is = subst (λ l. AtLevel l added asks) (sym same) is
+closing_next x level (Wait d) added asks same is = waiting_step d d.step added asks (subst (λ l. AtLevel l added asks) (sym same) is)
+closing_next x level (Done answer) added asks same is = closed_next level x.nodes added asks is
+
+-- one ask more whether to wait, which was agreed
+waits_more : (level : ℕ) (added : List Action) (asks : List Ask) (at : DealtNumbers) → AtLevel level added asks →
+    AtLevel level added (agreed (KeepWaitingCall level) at ∷ asks)
+waits_more (suc zero) added asks at is = (is.0, ((1, at, omega arith, omega arith, refl), is.1))
+waits_more (suc (suc zero)) added asks at is = (is.0, ((2, at, omega arith, omega arith, refl), is.1))
+waits_more (suc (suc (suc zero))) added asks at is =
+    let (first, later, earlier, asked, waited, before) = is.1 in (
+      is.0,
+      (
+        first,
+        agreed (KeepWaitingCall 3) at ∷ later,
+        earlier,
+        ap (λ l. agreed (KeepWaitingCall 3) at ∷ l) asked,
+        ((3, at, omega arith, omega arith, refl), waited),
+        before,
+      ),
+    )
+waits_more level added asks at is = absurd is
+
+-- and one that failed
+fails_waiting : (level code : ℕ) (added : List Action) (asks : List Ask) (at : DealtNumbers) → AtLevel level added asks →
+    AskedByRefusedFreeze (Hook code) added (failed (KeepWaitingCall level) code at ∷ asks)
+fails_waiting (suc zero) code added asks at is = inr (is.0, (KeepWaitingCall 1, at, asks, refl, inr (inl refl), is.1))
+fails_waiting (suc (suc zero)) code added asks at is = inr (is.0, (KeepWaitingCall 2, at, asks, refl, inr (inr refl), is.1))
+fails_waiting (suc (suc (suc zero))) code added asks at is = inl (is.0, (KeepWaitingCall 3, at, asks, refl, inr refl, is.1))
+fails_waiting level code added asks at is = absurd is
+
+-- a level is given up
+undoing_next : (x : Freeze) (level code : ℕ) (next : TransitionNext) (added : List Action) (asks : List Ask) →
+    AskedByRefusedFreeze (Hook code) added asks → AtNext (after_undoing x level code next) added asks
+undoing_next x level code (More transition) added asks is = is
+undoing_next x level code Undefined added asks is = is
+undoing_next x level code (Made state) added asks is =
+    either_way (λ step. AtStep step added asks) (level == 1) (LocksToUndo code) (GivesUp level code) is is
 
 -- the marks are cleared
-clearing_next : (x : Freeze) (marks : ClearMarks) (node : Option ℕ) (added : List Action) (asks : List Ask) → NoneAsked added asks →
+clearing_next : (x : Freeze) (marks : ClearMarks) (node : Option ℕ) (added : List Action) (asks : List Ask) → SyncComes added asks →
     AtNext (after_clearing x (clears_at marks node)) added asks
 clearing_next x marks node added asks is = grind arith
 
@@ -123,21 +191,35 @@ step_keeps x LoadsSuperblock found hook at added asks is =
     either_way (λ n. AtNext n added asks) (found == 0) (Go (at_freeze x SetsWrite)) (Go (at_freeze x CompletesReadOnly)) is is
 step_keeps x CompletesReadOnly found hook at added asks is = inr is
 step_keeps x SetsWrite found hook at added asks is = is
-step_keeps x Unlocks found hook at added asks is = is
+step_keeps x Unlocks found hook at added asks is = (is.0, subst AskedBeforeSync (sym is.1) tt)
 step_keeps x (Closes d) found hook at added asks is =
     let closes = closes_on d d.step found added in
     closing_next x d.level (down_write_after d d.step found).0 (actions_after (down_write_after d d.step found).1 added) asks closes.0
     (same_level d.level added (actions_after (down_write_after d d.step found).1 added) asks closes.1 is)
+step_keeps x (Waits d) found (Ok agrees) at added asks is =
+    let closes = closes_on d d.step found added in
+    let asked : List Ask = agreed (KeepWaitingCall d.level) at ∷ asks in
+    closing_next x d.level (down_write_after d d.step found).0 (actions_after (down_write_after d d.step found).1 added) asked closes.0
+    (same_level d.level added (actions_after (down_write_after d d.step found).1 added) asked closes.1
+    (waits_more d.level added asks at is))
+step_keeps x (Waits d) found (Err code) at added asks is = fails_waiting d.level code added asks at is
+step_keeps x (Undoes level transition code) found hook at added asks is =
+    undoing_next x level code (transition_after on_exit transition found) added asks is
+step_keeps x (LocksToUndo code) found hook at added asks is =
+    either_way (λ n. AtNext n added asks) (found == 0) (Go (at_freeze x (GivesUp 1 code))) (Wait (at_freeze x (LocksToUndo code))) is is
+step_keeps x (GivesUp level code) found hook at added asks is =
+    let given : List Action = StageAction 0 ∷ added in
+    either_way (λ step. AtStep step given asks) ((level - 1) == 0) (Releases (Err (Hook code))) (Reopens (reopening (level - 1)) code) is is
 step_keeps x LocksAgain found hook at added asks is =
     either_way (λ n. AtNext n added asks) (found == 0) (Go (at_freeze x SetsPageFault)) (Wait (at_freeze x LocksAgain)) is is
 step_keeps x SetsPageFault found hook at added asks is = is
 step_keeps x (Cleans marks) found hook at added asks is =
     clearing_next x marks (node_after marks.node marks.nodes) (actions_after (clear_after marks found).1 added) asks
-    (either_way (λ a. NoneAsked (actions_after a added) asks) (dirty_in found == 1) (Some (Clean marks.node)) None is is)
-step_keeps x SetsFs found (Ok agrees) at added asks is = (refl, (at, ap (λ l. agreed SyncCall at ∷ l) is.1))
-step_keeps x SetsFs found (Err code) at added asks is = inr (is.0, (at, ap (λ l. failed SyncCall code at ∷ l) is.1))
-step_keeps x SetsComplete found (Ok agrees) at added asks is = inl (is.0, (at, is.1.0, ap (λ l. agreed FreezeCall at ∷ l) is.1.1))
-step_keeps x SetsComplete found (Err code) at added asks is = inl (is.0, (at, is.1.0, ap (λ l. failed FreezeCall code at ∷ l) is.1.1))
+    (either_way (λ a. SyncComes (actions_after a added) asks) (dirty_in found == 1) (Some (Clean marks.node)) None is is)
+step_keeps x SetsFs found (Ok agrees) at added asks is = (refl, (at, [], asks, refl, tt, is.1))
+step_keeps x SetsFs found (Err code) at added asks is = inr (is.0, (SyncCall, at, asks, refl, inl refl, is.1))
+step_keeps x SetsComplete found (Ok agrees) at added asks is = inl (is.0, (at, asks, refl, is.1))
+step_keeps x SetsComplete found (Err code) at added asks is = inl (is.0, (FreezeCall, at, asks, refl, inl refl, is.1))
 step_keeps x (Reopens u code) found hook at added asks is =
     reopening_next x u.level code (up_write_after u u.step found).0 (actions_after (up_write_after u u.step found).1 added) asks
     (reopens_on u u.step found code added asks is)

@@ -4,9 +4,11 @@ use Rattle.access_model.specs.declared.{errors.GateError.{GateError}, replies.{N
 use Rattle.cpu_words.specs.Hooks.{HookAnswer}
 use Rattle.freeze_levels.specs.declared.hooks.HookCall.{HookCall}
 use Rattle.freeze_levels.specs.declared.hooks.HookCall.TheVariants.{Sync as SyncCall, FreezeFs as FreezeCall, UnfreezeFs as UnfreezeCall, Reconfigure as ReconfigureCall}
-use Rattle.freeze_levels.specs.declared.hooks.HookKind.{HookKind, TheVariants.{Sync, FreezeFs, UnfreezeFs, Reconfigure}}
+use Rattle.freeze_levels.specs.declared.hooks.HookCall.TheVariants.{KeepWaiting as KeepWaitingCall}
+use Rattle.freeze_levels.specs.declared.hooks.HookKind.{HookKind, TheVariants.{Sync, FreezeFs, UnfreezeFs, Reconfigure, KeepWaiting}}
+use Rattle.freeze_levels.specs.declared.freezes.FreezeStep.{FreezeStep, TheVariants.{Waits}}
 use Rattle.gate_world.specs.declared.{config.Config.{Config}, operations.Op.{Op}, views.Traced.{Traced}, work.Phase.{Phase}}
-use Rattle.gate_world.specs.{declared.work.Phase.TheVariants.{Remounts}, traces.TraceStates.{state_of_trace}, Work.{hook_of}}
+use Rattle.gate_world.specs.{declared.work.Phase.TheVariants.{Freezes, Remounts}, traces.TraceStates.{state_of_trace}, Work.{hook_of}}
 use Rattle.gate_steps.specs.{Seating.{DealtNumbers}, call_events.Runs.{items_at, unit_of, OpUnderWay, Called, Replies}}
 use Rattle.gate_steps.specs.call_events.{SeatedTasks.{SeatedTask, own_number, refusal_at}, Waited.{counted, waits_in}}
 
@@ -15,12 +17,22 @@ abbrev pub state_at : Phase → Bool
 state_at (Remounts x) = x.read_only
 state_at phase = false
 
+-- the level that a freeze waits for at a step; at no other step it asks whether to wait
+abbrev pub level_waited : FreezeStep → ℕ
+level_waited (Waits d) = d.level
+level_waited step = 0
+
+abbrev pub level_at : Phase → ℕ
+level_at (Freezes x) = level_waited x.step
+level_at phase = 0
+
 -- the call of a hook at a phase
 abbrev pub call_of : Phase → HookKind → HookCall
 call_of phase Sync = SyncCall
 call_of phase FreezeFs = FreezeCall
 call_of phase UnfreezeFs = UnfreezeCall
 call_of phase Reconfigure = ReconfigureCall (state_at phase)
+call_of phase KeepWaiting = KeepWaitingCall (level_at phase)
 
 -- the hook whose answer the next event of a phase reads, with what it is asked
 abbrev pub call_at : Phase → Option HookCall

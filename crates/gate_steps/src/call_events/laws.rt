@@ -15,7 +15,8 @@ ghost use Rattle.gate_steps.specs.call_events.Runs.{Called};
 ghost use Rattle.gate_steps.specs.call_events.SeatedTasks.{SeatedTask};
 
 /// A freeze that was granted has asked `sync` once and then `freeze_fs` once, and both have agreed, where it has stored stage 3; else none.
-/// Does nothing: its contract is the law.
+/// Where it has found somebody inside a level, it has asked `keep_waiting` besides: any number of times, of the levels 1 and 2 before `sync` and
+/// of level 3 after it, and each time that has agreed. Does nothing: its contract is the law.
 pub fn a_granted_freeze_asks_each_hook_once()
     ensures { (holder : Holder) (old left : SeatedTask) (reply : Reply) (called : Called (Freeze holder) old left (Ok reply)) →
         AskedByFreeze (actions_of (Freeze holder) (Ok reply) called.trace) (asks_of old.config (Freeze holder) old.items called.trace) }
@@ -35,8 +36,8 @@ pub fn a_granted_remount_asks_for_its_state()
         AtMostAsked (Reconfigure read_only) (asks_of old.config (RemountSb read_only) old.items called.trace) }
 {}
 
-/// A call that a hook refused has asked it last, and it has failed with just that code; and one that was refused otherwise has asked none. So a file
-/// system whose hooks all answer Ok refuses none. Does nothing: its contract is the law.
+/// A call that a hook refused has asked it last, and it has failed with just that code, and all hooks that a freeze asked before it have agreed; and
+/// a call that was refused otherwise has asked none. So a file system whose hooks all answer Ok refuses none. Does nothing: its contract is the law.
 pub fn a_refused_call_asked_the_hook_that_failed()
     ensures freeze { (holder : Holder) (old left : SeatedTask) (refusal : GateError) (called : Called (Freeze holder) old left (Err refusal)) →
         AskedByRefusedFreeze refusal (actions_of (Freeze holder) (Err refusal) called.trace) (asks_of old.config (Freeze holder) old.items called.trace) }

@@ -131,3 +131,53 @@ fail reconfigure rw 30
 join: done
 close: done
 ";
+
+/// A freeze that finds another task inside a level gives up: one that waits for nobody, as EAGAIN, and one whose file system says so, with its
+/// code. 110 is ETIMEDOUT's number. All levels are open then, that level for others than who is inside it, and the same call is done once it has
+/// left.
+pub const GIVEN_UP: &str = "\
+config 2 2 1 2 8: agrees
+split: done
+1 start 1 0: done
+0 try_freeze: Hook 11
+fail keep_waiting 110
+0 freeze: Hook
+0 trystart 1 1: done
+0 trystart 2 1: done
+0 trystart 3 1: done
+0 end 3 0: done
+0 end 2 0: done
+0 end 1 0: done
+1 end 1 1: done
+1 start 2 0: done
+0 try_freeze: Hook 11
+fail keep_waiting 110
+0 freeze: Hook
+0 trystart 1 1: done
+0 trystart 2 1: done
+0 trystart 3 1: done
+0 end 3 0: done
+0 end 2 0: done
+0 end 1 0: done
+1 end 2 1: done
+1 start 3 0: done
+0 try_freeze: Hook 11
+fail keep_waiting 110
+0 freeze: Hook
+0 remount ro: done
+0 remount rw: done
+0 trystart 1 1: done
+0 trystart 2 1: done
+0 trystart 3 1: done
+0 end 3 0: done
+0 end 2 0: done
+0 end 1 0: done
+1 end 3 1: done
+0 try_freeze: done
+1 trystart 1 0: Again
+0 thaw: done
+join: done
+close: done
+umount 0
+stage 0
+";

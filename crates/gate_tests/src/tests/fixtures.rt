@@ -58,11 +58,15 @@ impl Fixture {
     }
 
     /// What the file system answers whatever it is asked by a hook: at freezes it fails every fifth time, and at remounts every third. There is
-    /// nobody inside the levels that are passed then.
+    /// nobody inside the levels that are passed then; but where it is asked whether to wait there may be.
     pub fn answer(&self, call: HookCall) -> Result<(), u16> {
         let fails = match self.manner {
             "freezes" => {
-                self.expect(self.is_empty(call != HookCall::Sync), "readers inside");
+                let is_so = match call {
+                    HookCall::KeepWaiting { .. } => true,
+                    _ => self.is_empty(call != HookCall::Sync),
+                };
+                self.expect(is_so, "readers inside");
                 self.asked.fetch_add(1, Ordering::SeqCst) % 5 == 4
             }
             "remounts" => self.asked.fetch_add(1, Ordering::SeqCst) % 3 == 2,

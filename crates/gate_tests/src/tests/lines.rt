@@ -12,7 +12,7 @@ use schedule_lines::numbers::number_of;
 use schedule_text::{Line, Output, Request, TaskCommand, parse};
 use std::sync::Wait;
 use std::thread;
-use vfs_gates::{GateError, Gates, Op, Progress, Task, WordName};
+use vfs_gates::{GateError, Gates, Holder, Op, Progress, Task, WordName};
 
 /// How often a call is made again at most.
 pub const MOST: u32 = 1_000_000;
@@ -173,6 +173,9 @@ fn print_act<R: Wait>(
         TaskAct::WriteInside => print_done(said, writes_inside(task, rt, gates)),
         TaskAct::CopyInside => print_done(said, copies_inside(task, rt, gates)),
         TaskAct::See => print_seen(said, shut_and_see(rt, gates, task, turn)),
+        TaskAct::TryFreeze => {
+            print_answer(said, task.try_freeze(rt, gates, Holder::User, turn));
+        }
     }
 }
 
@@ -185,6 +188,8 @@ enum TaskAct {
     See,
     BackUp,
     Take,
+    /// A freeze that waits for nobody.
+    TryFreeze,
     /// Calls with a closure, as `pairs` has them.
     WriteInside,
     CopyInside,
@@ -204,6 +209,7 @@ impl TaskAct {
             "shut_and_see" => Some(TaskAct::See),
             "back_up" => Some(TaskAct::BackUp),
             "take" => Some(TaskAct::Take),
+            "try_freeze" => Some(TaskAct::TryFreeze),
             "writes_inside" => Some(TaskAct::WriteInside),
             "copies_inside" => Some(TaskAct::CopyInside),
             "step" => Some(TaskAct::Step),

@@ -159,6 +159,7 @@ fn question(call: HookCall) -> &'static str {
         HookCall::UnfreezeFs => "unfreeze_fs ",
         HookCall::Reconfigure { read_only: true } => "reconfigure ro ",
         HookCall::Reconfigure { read_only: false } => "reconfigure rw ",
+        HookCall::KeepWaiting { .. } => "keep_waiting ",
     }
 }
 
@@ -177,5 +178,9 @@ impl FsHooks for ThreadRun<'_> {
 
     fn reconfigure(&mut self, read_only: bool) -> Result<(), u16> {
         self.answer(HookCall::Reconfigure { read_only })
+    }
+
+    fn keep_waiting(&mut self, level: u8) -> Result<(), u16> {
+        self.answer(HookCall::KeepWaiting { level })
     }
 }

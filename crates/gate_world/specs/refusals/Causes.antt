@@ -24,7 +24,7 @@ use Rattle.mount_counts.specs.declared.remounts.RemountStep.{RemountStep, TheVar
 use Rattle.percpu_rwsem.specs.declared.readers.DownReadStep.{DownReadStep, TheVariants.LoadsBlock}
 use Rattle.percpu_rwsem.specs.declared.writers.DownWriteStep.{DownWriteStep, TheVariants.Sums as SumsLevel}
 use Rattle.freeze_levels.specs.declared.freezes.FreezeStep.{FreezeStep}
-use Rattle.freeze_levels.specs.declared.freezes.FreezeStep.TheVariants.{LoadsStage as FreezeLoadsStage, LoadsHolders as FreezeLoadsHolders, Closes}
+use Rattle.freeze_levels.specs.declared.freezes.FreezeStep.TheVariants.{LoadsStage as FreezeLoadsStage, LoadsHolders as FreezeLoadsHolders, Closes, Waits as FreezeWaits}
 use Rattle.freeze_levels.specs.declared.thaws.ThawStep.{ThawStep, TheVariants.{LoadsStage as ThawLoadsStage, LoadsHolders as ThawLoadsHolders}}
 use Rattle.freeze_laws.specs.levels.Roles.{closed}
 use Rattle.composite_ops.specs.declared.write_access.phases.WritePhase.{WritePhase, TheVariants.{Takes, Wants as WriteWants, GivesBack}}
@@ -219,6 +219,7 @@ down_write_read step = None
 -- the same of a freeze
 abbrev pub freeze_read : FreezeStep → Option ℕ
 freeze_read (Closes d) = down_write_read d.step
+freeze_read (FreezeWaits d) = down_write_read d.step
 freeze_read step = None
 
 -- how many words of a sum are read, where the next event of what a task is at is a load of a word

@@ -9,7 +9,7 @@ use Rattle.mount_counts.specs.declared.phases.{MountPhase.TheVariants.{Want as W
 use Rattle.mount_counts.specs.declared.remounts.RemountStep.{RemountStep, TheVariants.{LeavesHolds, Sums as RemountSums, GivesUp, Releases as RemountReleases}}
 use Rattle.percpu_rwsem.specs.declared.readers.DownReadStep.{DownReadStep, TheVariants.{CountsDown as TakesBack, LeavesBlocked}}
 use Rattle.percpu_rwsem.specs.declared.writers.DownWriteStep.{DownWriteStep, TheVariants.Sums as SumsLevel}
-use Rattle.freeze_levels.specs.declared.freezes.FreezeStep.{FreezeStep, TheVariants.{Closes, Releases as FreezeReleases}}
+use Rattle.freeze_levels.specs.declared.freezes.FreezeStep.{FreezeStep, TheVariants.{Closes, Releases as FreezeReleases, Waits as FreezeWaits}}
 use Rattle.freeze_levels.specs.declared.thaws.ThawStep.{ThawStep, TheVariants.Releases as ThawReleases}
 use Rattle.composite_ops.specs.declared.write_access.phases.WritePhase.{WritePhase, TheVariants.{Takes, Wants as WriteWants, GivesBack}}
 use Rattle.composite_ops.specs.declared.file_closes.phases.ClosePhase.{ClosePhase, TheVariants.Enters}
@@ -82,6 +82,7 @@ module _ (c : Config) (t : ℕ) (w : World) (earlier : List World) where
   -- a freeze: its sum is as its down-write's, and where it is busy, a freeze was under way or held for its holder when it looked
   abbrev pub FreezeCause : Holder → FreezeStep → Type 0
   FreezeCause holder (Closes d) = DownWriteCause d.level d.step
+  FreezeCause holder (FreezeWaits d) = DownWriteCause d.level d.step
   FreezeCause holder (FreezeReleases answer) = answer ≡ Err Busy → was_busy c holder (last_look t (w ∷ earlier)) ≡ true
   FreezeCause holder step = Unit {0}
 

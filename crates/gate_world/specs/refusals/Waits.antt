@@ -5,7 +5,7 @@ use Rattle.cpu_words.specs.Hooks.{HookAnswer}
 use Rattle.gated_tree.specs.declared.phases.TreePhase.{TreePhase, TheVariants.Snapshot as Snapshots}
 use Rattle.mount_counts.specs.{Roles.has_hold, declared.phases.MountPhase.{MountPhase, TheVariants.{Want as Wants, Change as Changes}}}
 use Rattle.percpu_rwsem.specs.declared.writers.DownWriteStep.{DownWriteStep, TheVariants.{AwaitsSections, Sums as SumsLevel}}
-use Rattle.freeze_levels.specs.declared.freezes.{Freeze.Freeze, FreezeStep.{FreezeStep, TheVariants.{Locks, LocksAgain, Closes}}}
+use Rattle.freeze_levels.specs.declared.freezes.{Freeze.Freeze, FreezeStep.{FreezeStep, TheVariants.{Locks, LocksAgain, Closes, Waits as FreezeWaits, LocksToUndo}}}
 use Rattle.composite_ops.specs.declared.write_access.phases.WritePhase.{WritePhase, TheVariants.{Takes, Wants as WriteWants}}
 use Rattle.composite_ops.specs.declared.file_closes.phases.ClosePhase.{ClosePhase, TheVariants.Enters}
 use Rattle.gate_world.specs.{refusals.Causes.{trail_of, since_begun, HasCause, last_asked, WasClosed, moments_of_sum, was_inside}, Headline.world_after, Levels.inside}
@@ -29,7 +29,9 @@ DownWriteIsWaitedFor w step y = ⊥
 abbrev pub FreezeIsWaitedFor : World → FreezeStep → ℕ → Type 0
 FreezeIsWaitedFor w Locks y = owns (w.views y).phase ≡ 1
 FreezeIsWaitedFor w LocksAgain y = owns (w.views y).phase ≡ 1
+FreezeIsWaitedFor w (LocksToUndo code) y = owns (w.views y).phase ≡ 1
 FreezeIsWaitedFor w (Closes d) y = DownWriteIsWaitedFor w d.step y
+FreezeIsWaitedFor w (FreezeWaits d) y = DownWriteIsWaitedFor w d.step y
 FreezeIsWaitedFor w step y = ⊥
 
 -- a snapshot waits for who has `umount`, and no other call at the tree waits
@@ -74,6 +76,7 @@ DownWriteHasCulprit c w earlier t x i step = HasCulprit c w t (Freezes x)
 -- of a freeze
 abbrev pub FreezeHasCulprit : Config → World → List World → ℕ → Freeze → FreezeStep → Type 0
 FreezeHasCulprit c w earlier t x (Closes d) = DownWriteHasCulprit c w earlier t x d.level d.step
+FreezeHasCulprit c w earlier t x (FreezeWaits d) = DownWriteHasCulprit c w earlier t x d.level d.step
 FreezeHasCulprit c w earlier t x step = HasCulprit c w t (Freezes x)
 
 -- what makes a phase wait, with the present world and the earlier ones: for a reader, that the level was closed when it last asked; for

@@ -183,11 +183,27 @@ stores_stage n word touch = false
 abbrev pub stored_stage : ℕ → List Traced → Bool
 stored_stage n trace = some_event (λ e. stores_stage n e.word e.touch) trace
 
--- they are the same, and one of the words whose clearing a hook's answer decides: `remount`, `umount`, the stage
+-- the level of which the event clears the `block`, or else this one
+abbrev pub opened_by : WordName → Touch → ℕ → ℕ
+opened_by (Block i) (Store value) earlier = if value == 0 then i else earlier
+opened_by word touch earlier = earlier
+
+-- the level whose `block` was cleared last; 0 where none was
+abbrev pub level_opened : List Traced → ℕ
+level_opened [] = 0
+level_opened (e ∷ earlier) = opened_by e.event.word e.event.touch (level_opened earlier)
+
+-- the level that a freeze gave up, whose `block` it cleared before its store of stage 0; 0 where it gave up none
+abbrev pub gave_up : List Traced → ℕ
+gave_up [] = 0
+gave_up (e ∷ earlier) = if stores_stage 0 e.event.word e.event.touch then level_opened earlier else gave_up earlier
+
+-- they are the same, and one of the words whose clearing a hook's answer decides: `remount`, `umount`, the stage, a level's `block`
 abbrev pub clears_word : WordName → WordName → Bool
 clears_word Remount Remount = true
 clears_word Umount Umount = true
 clears_word Stage Stage = true
+clears_word (Block i) (Block j) = i == j
 clears_word word other = false
 
 -- the touch is a store of 0

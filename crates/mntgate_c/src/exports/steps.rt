@@ -8,7 +8,7 @@ ghost use Rattle.gate_world.specs.declared.operations.Op.{Op as OpType};
 ghost use Rattle.gate_world.specs.declared.work.Phase.{Phase as PhaseType};
 ghost use Rattle.gate_steps.specs.call_events.Runs.{OpUnderWay, ProgressMatches};
 ghost use Rattle.gate_steps.specs.call_events.Stepped.{Stepped};
-ghost use Rattle.vfs_gates.specs.TaskStates.{SeatedTask, refusal_at, IsIdle};
+ghost use Rattle.vfs_gates.specs.TaskStates.{SeatedTask, refusal_at, IsIdle, level_asked};
 ghost use Rattle.mntgate_c.specs.Codes.{answer_of, hook_answer, hook_number, progress_at};
 ghost use Rattle.mntgate_c.specs.Events.{step_at};
 ghost use Rattle.mntgate_c.specs.Operations.{op_at};
@@ -65,7 +65,7 @@ pub extern "C" fn mntgate_run(task: &mut TaskHandle, hook: u16, most: u32, outco
     *outcome = tell(run(task, gates, answer(hook), most));
 }
 
-/// Answers which hook the next step reads: 1 sync, 2 freeze_fs, 3 unfreeze_fs, 4 reconfigure, 0 none.
+/// Answers which hook the next step reads: 1 sync, 2 freeze_fs, 3 unfreeze_fs, 4 reconfigure, 5 keep_waiting, 0 none.
 #[unsafe(no_mangle)]
 pub extern "C" fn mntgate_wants_hook(task: &mut TaskHandle) -> u32
     requires { task.old.full ≡ true }
@@ -74,4 +74,15 @@ pub extern "C" fn mntgate_wants_hook(task: &mut TaskHandle) -> u32
     ensures told { result ≡ hook_number (asked_by task.old.state.phase) }
 {
     hook_code(task.member().task.wants_hook())
+}
+
+/// Answers the level, 1 to 3, of which the next step asks keep_waiting; 0 where it reads no such answer.
+#[unsafe(no_mangle)]
+pub extern "C" fn mntgate_level_waited(task: &mut TaskHandle) -> u8
+    requires { task.old.full ≡ true }
+    ensures full { task.new.full ≡ true }
+    ensures same { task.new.state ≡ task.old.state }
+    ensures told { result ≡ level_asked task.old.state.phase }
+{
+    task.member().task.level_waited()
 }

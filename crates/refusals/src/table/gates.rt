@@ -77,12 +77,19 @@ do next: If you froze yourself and haven't thawed since, all is frozen already: 
 never: thaw a freeze that isn't yours: somebody else relies on it.
 in Linux: `fsfreeze -f` fails with EBUSY. `ps -eo pid,stat,wchan:30,args` shows a freeze that is under way, and `/sys/block/dm-N/dm/suspended` is 1 for a suspended device.
 
-freeze: Hook
+freeze: Hook, a hook failed
 means: The hook `sync` or `freeze_fs` failed. The code doesn't tell which: give each hook codes of its own.
 state now: Stage 0: all closed levels are open again, each of them has a callback queued, and dirty marks are cleared.
 do next: There is nothing to undo. Run the callbacks, mend what the code tells, and freeze again.
 never: thaw after it: that is `Invalid`, or ends another task's freeze.
 in Linux: `dmesg` has what the file system said, mostly of a write that failed.
+
+freeze: Hook, given up
+means: The freeze found somebody counted at a level, and the hook `keep_waiting` answered this code: 110 (`ETIMEDOUT`) of a deadline, 11 (`EAGAIN`) of a try. Who was counted may also have been about to find the level closed.
+state now: Stage 0: all closed levels are open again, and each of them has a callback queued. If it gave up at level 3, dirty marks are cleared. While it waited, writers waited, too.
+do next: There is nothing to undo. Run the callbacks, let the writers work, and freeze again later. If it never gets through, look for who stays inside.
+never: try again without a pause, nor thaw: that is `Invalid`, or ends another task's freeze.
+in Linux: The kernel doesn't give up: `fsfreeze -f` sleeps in state D until all are out. `ps -eo pid,stat,wchan:30,args` shows it in `percpu_down_write`.
 
 thaw: Invalid
 means: It is not frozen, or frozen by the other holder alone, or a freeze was closing level 1.

@@ -1,5 +1,5 @@
 -- A step that meets what a dropped task has left.
-use Rattle.std.proofs.Common.{◌≡◌, ℕ, List, [], ◌∷◌, ◌++◌, sym, ap, ◌∙◌, subst}
+use Rattle.std.proofs.Common.{◌≡◌, ℕ, List, [], ◌∷◌, sym, ap, ◌∙◌, subst}
 use Rattle.std.specs.Prelude.{Option, Some}
 use Rattle.cpu_words.specs.Hooks.{HookAnswer}
 use Rattle.gate_world.specs.{Headline.world_after, Worlds.{World, opening}}
@@ -25,9 +25,9 @@ module _ (c : Config) (begins : Option Op) (phase : Phase) (hook : HookAnswer) (
         saw = λ k earlier there. on_begins t begins earlier move.past.reached.entries es move.begun (move.from.goes_on k earlier there);
         at = stands;
         leaves = move.leaves ∙ ap (λ (l : List Entry). l ∷ []) move.stepped;
-        no_reply = λ dropped met later others.
+        no_reply = λ dropped met later others patient.
             subst (λ (v : World). IsUnderWay v t) (sym (run_append c es later opening))
-            (never_replies c move.within dropped w (whole_rule c move.within es) t move.task phase stands met later others);
+            (never_replies c move.within dropped w (whole_rule c move.within es) t move.task phase stands met later others patient);
       }
 
 pub step_meets : (phase : Phase) (hook : HookAnswer) (step : Step) (old left : SeatedTask) → Stepped phase hook old step left →

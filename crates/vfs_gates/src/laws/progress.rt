@@ -52,7 +52,7 @@ pub fn a_step_that_waits_is_blocked()
 /// **Dropped tasks.** A task that is dropped while its operation is under way takes no further step. What it has left may hold up a step of another
 /// task: HOLD at its mount, `umount`, a closed level, a read-side section, or an access at a level that a freeze sums (`MeetsLost`). Then that other
 /// task's operation has no reply, in any schedule that goes on from there, whatever all others do and begin, until one of the tasks that it
-/// meets does something.
+/// meets does something; or, where it is a freeze at its sum, `keep_waiting` answers it an Err, by which it gives up.
 ///
 /// That a dropped task does nothing more is what dropping its handle means: no contract speaks of a task that isn't there.
 pub fn who_meets_a_dropped_task_has_no_reply()

@@ -10,4 +10,4 @@ returns-then-sum_counts-clause-led c =
 
 pub returns-clause-led : goal.returns-clause-led
 returns-clause-led c =
-    led_to (some_summed c.args.freeze.now c.args.level c.sum_counts.result c.if-sum_counts.false ∙ sym c.leave_to_wait.ensures) c.sum_counts.ensures.led
+    led_to (some_summed c.args.freeze.now c.args.level c.sum_counts.result c.if-sum_counts.false ∙ sym c.leave_to_ask.ensures) c.sum_counts.ensures.led

@@ -12,8 +12,8 @@ use Rattle.composite_ops.specs.{file_closes.Phases.{after as close_after, enters
 use Rattle.composite_ops.specs.declared.file_closes.phases.{ClosePhase.TheVariants.LoadsFile as CloseLoadsFile, Closing.Closing}
 use Rattle.composite_ops.specs.{write_access.Phases.then_wants, declared.write_access.phases.WritePhase.TheVariants.Takes}
 use Rattle.finite_sums.proofs.Totals.{each_updated, update_off}
-use Rattle.freeze_levels.specs.{Freezes.{after_closing, at_freeze, freeze_closes, level_closed}, Thaws.at_thaw, declared.freezes.Freeze.Freeze}
-use Rattle.freeze_levels.specs.declared.freezes.FreezeStep.{FreezeStep, TheVariants.{Cleans, Closes, LoadsStage, LoadsSuperblock, Locks as FreezeLocks}}
+use Rattle.freeze_levels.specs.{Freezes.{after_closing, at_freeze, closing_waits, freeze_closes, level_closed}, Thaws.at_thaw, declared.freezes.Freeze.Freeze}
+use Rattle.freeze_levels.specs.declared.freezes.FreezeStep.{FreezeStep, TheVariants.{Cleans, Closes, LoadsStage, LoadsSuperblock, Locks as FreezeLocks, Waits}}
 use Rattle.freeze_levels.specs.declared.{freezes.FreezeStep.TheVariants.{LocksAgain, SetsFs, SetsPageFault, SetsWrite, Unlocks}, thaws.Thaw.Thaw}
 use Rattle.freeze_levels.specs.declared.thaws.ThawStep.{ThawStep, TheVariants.Locks as ThawLocks}
 use Rattle.gate_schedules.proofs.{frames.{Owners.owns_le, Words.load_same}, levels.Facts.blocked_slow}
@@ -28,15 +28,29 @@ use Rattle.gated_tree.specs.declared.snapshots.SnapshotStep.TheVariants.{Locks a
 use Rattle.mount_counts.specs.{Remounts.at_remount, declared.phases.{Change.Change, ChangeStep.{ChangeStep, TheVariants.Locks as ChangeLocks}}}
 use Rattle.mount_counts.specs.declared.{phases.MountPhase.TheVariants.Change as Changes, remounts.{Remount.Remount, RemountStep.RemountStep}}
 use Rattle.mount_counts.specs.declared.remounts.RemountStep.TheVariants.{Locks as RemountLocks}
-use Rattle.percpu_rwsem.specs.{Readers.{down_read_after, down_read_next, step_found}, Writers.down_write_after, declared.readers.DownRead.DownRead}
-use Rattle.percpu_rwsem.specs.declared.writers.DownWrite.{DownWrite}
+use Rattle.percpu_rwsem.specs.{Readers.{down_read_after, down_read_next, step_found}, Writers.{down_write_after, down_write_next}, declared.readers.DownRead.DownRead}
+use Rattle.percpu_rwsem.specs.declared.writers.{DownWrite.DownWrite, DownWriteStep.DownWriteStep}
 use Rattle.gate_schedules.specs.operations.Progress.{AllAreBlocked, ChangeIsBlocked, EventsMoveModel, FreezeIsBlocked, HasReply, IsAgreed, IsHeldIdle, HeldLevelAhead, IsBlockedAt}
 use Rattle.gate_schedules.specs.operations.Progress.{BlockedIfFreeze, BlockedIsStable, LockIsBlocked, RemountIsBlocked, SnapshotIsBlocked, StartIsBlocked, ThawIsBlocked, begins_freeze}
 use Rattle.gate_schedules.specs.operations.Progress.{is_admitted, is_first_lock, is_last_close, next_level}
-use Rattle.freeze_laws.specs.stages.Roles.{KnowsStage}
+use Rattle.freeze_laws.specs.stages.Roles.{KnowsStage, bit}
 use Rattle.std.proofs.{Common.{Bool, ap, arith, false, inl, inr, refl, subst, sym, true, true≢false, ℕ, ◌<◌, ◌∙◌, ◌≡◌, ◌≤◌}}
 use Rattle.std.proofs.lemmas.Bool.{cases_Bool, eqb-true, ne_eqb, Decides.eqb_tells}
-use Rattle.std.specs.Prelude.{Option, Some, if◌then◌else◌, nat_lt, ◌&&◌, ◌+◌, ◌==◌}
+use Rattle.std.specs.Prelude.{Ok, Option, Some, if◌then◌else◌, nat_lt, ◌&&◌, ◌+◌, ◌==◌}
+
+-- an event of a down-write leaves a closed level closed, the nodes, the stage and the superblock's flag
+down_blocks : (w : Words) (d : DownWrite) (s : DownWriteStep) (i : ℕ) → w.block i ≡ 1 → (after_event w (down_write_next d s)).block i ≡ 1
+down_blocks w d s i h = grind arith
+
+down_nodes : (w : Words) (d : DownWrite) (s : DownWriteStep) (f : ℕ) → is_last_close (w.node f) ≡ true →
+    is_last_close ((after_event w (down_write_next d s)).node f) ≡ true
+down_nodes w d s f h = grind arith
+
+down_stage : (w : Words) (d : DownWrite) (s : DownWriteStep) → (after_event w (down_write_next d s)).stage ≡ w.stage
+down_stage w d s = grind arith
+
+down_sb : (w : Words) (d : DownWrite) (s : DownWriteStep) → (after_event w (down_write_next d s)).sb ≡ w.sb
+down_sb w d s = grind arith
 
 far_same : (w next : Words) (s : FreezeStep) → 2 ≤ next_level w s → next_level w s ≤ 3 → next_level next s ≡ next_level w s
 far_same w next s two three = grind arith
@@ -368,6 +382,15 @@ module _ (c : Config) (w : World) (good : IsGood c w) (t : ℕ) (lt : t < c.task
       level_goes : (e : DownWrite) → ((after closing).views t).phase ≡ Some (Freezes (at_freeze x (Closes e))) → e.level ≡ d.level → Goes closing
       level_goes e here same = grind arith
 
+      waits_goes : (e : DownWrite) → ((after closing).views t).phase ≡ Some (Freezes (at_freeze x (Waits e))) → e.level ≡ d.level → Goes closing
+      waits_goes e here same = grind arith
+
+      -- so it is where its down-write waits
+      wait_goes : (e : DownWrite) (s : DownWriteStep) → ((after closing).views t).phase ≡ Some (Freezes (at_freeze x (closing_waits e s))) →
+          e.level ≡ d.level → Goes closing
+      wait_goes e (DownWriteStep.Sums sum) here same = waits_goes e here same
+      wait_goes e s here same = level_goes e here same
+
       -- a level that an idle task holds isn't passed
       passed_apart : MovesModel c (shown c w) t (Some (Pass d.level)) (shown c (after closing)) → (k.0 ≡ d.level → ⊥)
       passed_apart m e =
@@ -396,9 +419,79 @@ module _ (c : Config) (w : World) (good : IsGood c w) (t : ℕ) (lt : t < c.task
           ((after closing).views t).phase ≡ phase_after (map_next Freezes (after_closing (at_freeze x (Closes d)) d.level coming)) →
           MovesModel c (shown c w) t action (shown c (after closing)) → StaysAtLevel d coming action → Goes closing
       closes_goes (Go e) action here m l = level_goes e here l
-      closes_goes (Wait e) action here m l = level_goes e here l
+      closes_goes (Wait e) action here m l = wait_goes e e.step here l
       closes_goes (Done answer) action here m l =
           passes here (subst (λ a. MovesModel c (shown c w) t a (shown c (after closing))) l m)
+
+    -- the same where it waits, and the hook has answered Ok
+    module _ (d : DownWrite) (one : 1 ≤ d.level) (three : d.level ≤ 3) (at : (w.views t).phase ≡ Some (Freezes (at_freeze x (Waits d))))
+        (ok : hook ≡ Ok tt)
+        (k : HeldLevelAhead c w (Waits d)) where
+      abbrev waiting : Phase
+      waiting = Freezes (at_freeze x (Waits d))
+
+      waits_to : (s' : FreezeStep) → ((after waiting).views t).phase ≡ Some (Freezes (at_freeze x s')) →
+          (2 ≤ d.level → owns (Some waiting) ≡ 1 →
+          (owns (Some (Freezes (at_freeze x s'))) ≡ 1) × (2 ≤ next_level (after waiting).words s')) →
+          HeldLevelAhead c (after waiting) s' → is_first_lock s' ≡ false → Goes waiting
+      waits_to s' here far kept later =
+          freeze_makes x (Waits d) at s' here
+          (λ i h. ap (λ (a : HookAnswer). (words_after w.words waiting a).block i) ok ∙ down_blocks w.words d d.step i h)
+          (λ f h. ap (λ (a : HookAnswer). is_last_close ((words_after w.words waiting a).node f)) ok ∙ down_nodes w.words d d.step f h)
+          far
+          (λ none. (
+            ap (λ (a : HookAnswer). (words_after w.words waiting a).stage) ok ∙ down_stage w.words d d.step,
+            ap (λ (a : HookAnswer). (words_after w.words waiting a).sb) ok ∙ down_sb w.words d d.step,
+          ))
+          (λ free z past. omega (arith, knows x (Waits d) at, z, one)) kept later
+
+      waited_above : (s' : FreezeStep) → next_level (after waiting).words s' ≤ k.0 → HeldLevelAhead c (after waiting) s'
+      waited_above s' le = (k.0, le, k.2, idle_stays c w good t lt waiting at hook k.0 k.3)
+
+      waited_level_goes : (e : DownWrite) → ((after waiting).views t).phase ≡ Some (Freezes (at_freeze x (Closes e))) → e.level ≡ d.level → Goes waiting
+      waited_level_goes e here same =
+          waits_to (Closes e) here (λ two own. (ap (λ l. bit (nat_lt 1 l)) same ∙ own, omega (arith, two, same)))
+          (waited_above (Closes e) (omega (arith, same, k.1))) refl
+
+      waited_again : (e : DownWrite) → ((after waiting).views t).phase ≡ Some (Freezes (at_freeze x (Waits e))) → e.level ≡ d.level → Goes waiting
+      waited_again e here same =
+          waits_to (Waits e) here (λ two own. (ap (λ l. bit (nat_lt 1 l)) same ∙ own, omega (arith, two, same)))
+          (waited_above (Waits e) (omega (arith, same, k.1))) refl
+
+      -- so it is where its down-write waits
+      waited_on : (e : DownWrite) (s : DownWriteStep) → ((after waiting).views t).phase ≡ Some (Freezes (at_freeze x (closing_waits e s))) →
+          e.level ≡ d.level → Goes waiting
+      waited_on e (DownWriteStep.Sums sum) here same = waited_again e here same
+      waited_on e s here same = waited_level_goes e here same
+
+      -- a level that an idle task holds isn't passed
+      waited_apart : MovesModel c (shown c w) t (Some (Pass d.level)) (shown c (after waiting)) → (k.0 ≡ d.level → ⊥)
+      waited_apart m e =
+          true≢false (sym k.3.3 ∙ (ap (holds_level (w.views k.3.0)) e ∙ m.0.1.3 k.3.0 k.3.1))
+
+      waited_passes : ((after waiting).views t).phase ≡ Some (Freezes (at_freeze x (level_closed d.level x.nodes))) →
+          MovesModel c (shown c w) t (Some (Pass d.level)) (shown c (after waiting)) → Goes waiting
+      waited_passes here m =
+          let apart : k.0 ≡ d.level → ⊥ = waited_apart m in
+          elim (eqb_tells d.level 1) [
+            | inl e ↦ waits_to LocksAgain (here ∙ rw e.0 refl) (λ two own. absurd (omega (arith, two, e.1)))
+                (waited_above LocksAgain (omega (arith, k.1, apart, e.1))) refl
+            | inr e ↦ elim (eqb_tells d.level 2) [
+              | inl f ↦
+                  let marks : ClearMarks = record { node = 1; nodes = x.nodes } in
+                  waits_to (Cleans marks) (here ∙ rw (e.0, f.0) refl) (λ two own. (refl, omega arith))
+                  (waited_above (Cleans marks) (omega (arith, k.1, apart, f.1))) refl
+              | inr f ↦ absurd (omega (arith, k.1, k.2, apart, e.1, f.1, one))
+            ]
+          ]
+
+      waited_goes : (coming : Next DownWrite) (action : Option Action) →
+          ((after waiting).views t).phase ≡ phase_after (map_next Freezes (after_closing (at_freeze x (Waits d)) d.level coming)) →
+          MovesModel c (shown c w) t action (shown c (after waiting)) → StaysAtLevel d coming action → Goes waiting
+      waited_goes (Go e) action here m l = waited_level_goes e here l
+      waited_goes (Wait e) action here m l = waited_on e e.step here l
+      waited_goes (Done answer) action here m l =
+          waited_passes here (subst (λ a. MovesModel c (shown c w) t a (shown c (after waiting))) l m)
 
     -- a freeze at each step
     freeze_goes : (s : FreezeStep) → (at : (w.views t).phase ≡ Some (Freezes (at_freeze x s))) → FreezeFits c x.holder s → x.nodes ≡ c.nodes →
@@ -446,6 +539,17 @@ module _ (c : Config) (w : World) (good : IsGood c w) (t : ℕ) (lt : t < c.task
         let p : Phase = Freezes (at_freeze x (Closes d)) in
         let r : Next DownWrite × Option Action = down_write_after d d.step (found_at w.words p hook) in
         closes_goes d fits.0 fits.1 at k r.0 r.1 (stands_after c w t lt hook p at) m (down_stays d d.step (found_at w.words p hook))
+    freeze_goes (Waits d) at fits nodes agreed m k =
+        let p : Phase = Freezes (at_freeze x (Waits d)) in
+        elim agreed [
+          | inl none ↦ absurd (not_none _ none)
+          | inr e ↦
+              let r : Next DownWrite × Option Action = down_write_after d d.step (found_at w.words p (Ok tt)) in
+              waited_goes d fits.0.0 fits.0.1 at e k r.0 r.1
+              (stands_after c w t lt hook p at ∙ ap (λ (h : HookAnswer). phase_after (after_of p (found_at w.words p h) h).0) e)
+              (subst (λ (h : HookAnswer). MovesModel c (shown c w) t (phase_action w h (Some p)) (shown c (after p))) e m)
+              (down_stays d d.step (found_at w.words p (Ok tt)))
+        ]
     freeze_goes LocksAgain at fits nodes agreed m k =
         let p : Phase = Freezes (at_freeze x LocksAgain) in
         let known : w.words.stage ≡ 1 = knows x LocksAgain at in

@@ -169,6 +169,9 @@ module _ (c : Config) (lim : IsWithin c)
       release_goes (FreezeStep.Closes d) v good at mine own low =
           let first : nat_lt 1 d.level ≡ false = le-ltb 1 d.level (omega (arith, low)) in
           absurd (omega (arith, own, ap bit first))
+      release_goes (FreezeStep.Waits d) v good at mine own low =
+          let first : nat_lt 1 d.level ≡ false = le-ltb 1 d.level (omega (arith, low)) in
+          absurd (omega (arith, own, ap bit first))
       release_goes s v good at mine own low = absurd (omega (arith, own, low))
 
   module _ (w : World) (good : IsGood c w) where

@@ -16,7 +16,7 @@ use Rattle.finite_sums.specs.Sums.{total, update}
 use Rattle.freeze_levels.specs.declared.freezes.{Freeze.Freeze, FreezeStep.FreezeStep}
 use Rattle.gated_tree.specs.declared.phases.TreePhase.{TreePhase}
 use Rattle.freeze_laws.specs.levels.Operations.{down_read_inside}
-use Rattle.freeze_laws.specs.stages.Roles.{Freezing, HasPassed, KnowsStage, Place, freezes, owns as stage_owns, under_way}
+use Rattle.freeze_laws.specs.stages.Roles.{Before, Freezing, HasPassed, KnowsStage, Place, freezes, owns as stage_owns, under_way}
 use Rattle.mount_counts.specs.declared.phases.MountPhase.{MountPhase}
 use Rattle.percpu_rwsem.specs.declared.{callbacks.Callback.Callback, readers.DownReadStep.DownReadStep}
 use Rattle.gate_schedules.specs.operations.{Progress.{EventsKeepRule, IsHeldIdle, HeldLevelAhead, ReplyWithin, next_level}, Ranks.{most_alone, most_beside, most_settled}}
@@ -98,6 +98,23 @@ lock_or w nodes (FreezeStep.Closes d) free =
         | inr e ↦ inl (λ q. absurd (e.1 q))
       ]
     ]
+lock_or w nodes (FreezeStep.Waits d) free =
+    elim (eqb_tells w.umount 0) [
+      | inl z ↦ inl (λ q. z.1)
+      | inr z ↦ elim (eqb_tells d.level 1) [
+        | inl e ↦ inr (z.1, place_of d.step, ap (λ l. Freezing l (place_of d.step) (nat_lt 1 l)) e.1)
+        | inr e ↦ inl (λ q. absurd (e.1 q))
+      ]
+    ]
+lock_or w nodes (FreezeStep.Undoes level transition code) free =
+    elim (eqb_tells w.umount 0) [
+      | inl z ↦ inl (λ q. z.1)
+      | inr z ↦ elim (eqb_tells level 1) [
+        | inl e ↦ inr (z.1, Before, ap (λ l. Freezing l Before (nat_lt 1 l)) e.1)
+        | inr e ↦ inl (λ q. absurd (e.1 q))
+      ]
+    ]
+lock_or w nodes (FreezeStep.LocksToUndo code) free = elim (eqb_tells w.umount 0) [ inl z ↦ inl z.1 | inr z ↦ inr (z.1, Before, refl) ]
 lock_or w nodes FreezeStep.LocksAgain free = elim (eqb_tells w.umount 0) [ inl z ↦ inl z.1 | inr z ↦ inr (z.1, HasPassed 0, refl) ]
 lock_or w nodes s free = inl tt
 

@@ -1,17 +1,17 @@
 -- The causes of a freeze's refusal and of the sums of its levels, along a schedule.
-use Rattle.std.proofs.Common.{◌≡◌, ℕ, suc, ◌+◌, ◌%◌, ◌<◌, ◌≤◌, true, false, refl, sym, ap, ◌∙◌, inl, inr, arith, add-one}
+use Rattle.std.proofs.Common.{◌≡◌, ℕ, suc, ◌+◌, ◌-◌, ◌%◌, ◌<◌, ◌≤◌, true, false, refl, sym, ap, ◌∙◌, subst, inl, inr, arith, add-one}
 use Rattle.std.proofs.lemmas.Bool.{cases_Bool, Decides.eqb_tells}
 use Rattle.std.specs.Prelude.{nat_lt, Option, Some, Ok, Err, List, [], ◌∷◌, ◌==◌}
 use Rattle.finite_sums.specs.Sums.{total}
 use Rattle.access_model.specs.{Holders.held_by, Replies.map_next, declared.{errors.GateError.GateError, replies.Next.Next}}
-use Rattle.cpu_words.specs.{Hooks.HookAnswer, Sums.{lead, ahead}, Touches.wrap_add, Words.Words, declared.{names.WordName.WordName, sums.Sum.Sum}}
+use Rattle.cpu_words.specs.{Hooks.HookAnswer, Sums.{lead, ahead}, Touches.{found_by, left, wrap_add}, Words.{Words, put, read}, declared.{names.WordName.WordName, sums.Sum.Sum}}
 use Rattle.cpu_words.proofs.gate_counts.{Events.words_sum, Numbers.{ahead_none, ahead_step, ahead_past}}
 use Rattle.node_words.specs.{Phases.{clear_after}, declared.marks.ClearMarks.{ClearMarks}}
-use Rattle.percpu_rwsem.specs.{Graces.looked, SyncWords.{unpack, on_enter, on_callback}, Transitions.transition_after}
-use Rattle.percpu_rwsem.specs.Writers.{down_write_after, at_down_write, enter_step, callback_step, sections_awaited, passed_awaited, up_write_after}
+use Rattle.percpu_rwsem.specs.{Graces.looked, SyncWords.{unpack, on_enter, on_exit, on_callback}, Transitions.transition_after}
+use Rattle.percpu_rwsem.specs.Writers.{down_write_after, down_write_next, sum_begun, at_down_write, enter_step, callback_step, sections_awaited, passed_awaited, up_write_after}
 use Rattle.percpu_rwsem.specs.declared.{grace.GraceNext.GraceNext, sync_word.{SyncWord.SyncWord}, transitions.TransitionNext.TransitionNext}
 use Rattle.percpu_rwsem.specs.declared.writers.{DownWrite.DownWrite, DownWriteStep.DownWriteStep, UpWrite.UpWrite}
-use Rattle.freeze_levels.specs.{Freezes.{at_freeze, level_closed, after_closing, after_clearing, freeze_fails, after_reopening}, Holders.holders_in}
+use Rattle.freeze_levels.specs.{Freezes.{at_freeze, level_closed, after_closing, after_clearing, freeze_fails, after_reopening, after_undoing}, Holders.holders_in}
 use Rattle.freeze_levels.specs.declared.freezes.{Freeze.Freeze, FreezeStep.FreezeStep}
 use Rattle.gate_world.specs.{refusals.Causes.{all_inside, was_inside, words_read, moments_of_sum, looks_at_stage, was_busy}, Fits.{DownWriteStepFits, FreezeFits}}
 use Rattle.gate_world.specs.{refusals.KeptCauses.{DownWriteCause, FreezeCause, CauseOf}, Rules.{IsGood, AtLevel, LevelHoldsIn}, Views.phase_after, Work.after_of}
@@ -113,9 +113,18 @@ module _ (c : Config) (t : ℕ) (w next : World) (earlier : List World) (good : 
       level_stays c t d.level w next earlier sum h good one three (ap words_read e) (ap words_read was) (quiet.levels d.level)
   closing_stays d other one three e was quiet h = tt
 
+  waiting_stays : (d : DownWrite) (s : DownWriteStep) → 1 ≤ d.level → d.level ≤ 3 →
+      (next.views t).phase ≡ Some (Phase.Freezes (at_freeze x (FreezeStep.Waits (at_down_write d s)))) →
+      (w.views t).phase ≡ Some (Phase.Freezes (at_freeze x (FreezeStep.Waits (at_down_write d s)))) → IsQuiet c w next →
+      DownWriteCause c t w earlier d.level s → DownWriteCause c t next (w ∷ earlier) d.level s
+  waiting_stays d (DownWriteStep.Sums sum) one three e was quiet h =
+      level_stays c t d.level w next earlier sum h good one three (ap words_read e) (ap words_read was) (quiet.levels d.level)
+  waiting_stays d other one three e was quiet h = tt
+
   pub freeze_stays : (s : FreezeStep) → FreezeFits c x.holder s → (next.views t).phase ≡ Some (Phase.Freezes (at_freeze x s)) →
       (w.views t).phase ≡ Some (Phase.Freezes (at_freeze x s)) → IsQuiet c w next → FreezeCause c t w earlier x.holder s →
       FreezeCause c t next (w ∷ earlier) x.holder s
+  freeze_stays (FreezeStep.Waits d) f e was quiet h = waiting_stays d d.step f.0.0 f.0.1 e was quiet h
   freeze_stays (FreezeStep.Closes d) f e was quiet h = closing_stays d d.step f.0 f.1 e was quiet h
   freeze_stays (FreezeStep.Releases answer) f e was quiet h =
       λ r. ap (was_busy c x.holder) (look_skips t next (w ∷ earlier) (ap looks_at_stage e)) ∙ h r
@@ -186,6 +195,22 @@ module _ (c : Config) (t : ℕ) (w next : World) (earlier : List World) (after :
     closing_own hook (DownWriteStep.Sums sum) one three f same h e =
         sum_own sum one three f (ap (λ (ws : Words). ws.level d.level) (same ∙ load_same w.words (WordName.LevelCount d.level sum.words))) h e
 
+  -- a sum that begins after a wait
+  waiting_own : (d : DownWrite) (s : DownWriteStep) → s ≡ sum_begun → 1 ≤ d.level → d.level ≤ 3 → DownWriteStepFits c s →
+      next.words.level d.level ≡ (put w.words (down_write_next d s).0 (left (down_write_next d s).1 (read w.words (down_write_next d s).0))).level d.level →
+      DownWriteCause c t w earlier d.level s →
+      Own (after_closing x d.level (down_write_after d s (found_by (down_write_next d s).1 (read w.words (down_write_next d s).0))).0)
+  waiting_own d s begun one three =
+      subst (λ k. DownWriteStepFits c k →
+      next.words.level d.level ≡ (put w.words (down_write_next d k).0 (left (down_write_next d k).1 (read w.words (down_write_next d k).0))).level d.level →
+      DownWriteCause c t w earlier d.level k →
+      Own (after_closing x d.level (down_write_after d k (found_by (down_write_next d k).1 (read w.words (down_write_next d k).0))).0)) (sym begun)
+      (λ there same h. sum_own d (record { words = 0; total = 0 }) one three there
+      (same ∙ ap (λ (ws : Words). ws.level d.level) (load_same w.words (WordName.LevelCount d.level 0))) h)
+
+  undoing_own : (level code : ℕ) (n : TransitionNext) → Own (after_undoing x level code n)
+  undoing_own level code n e = grind arith
+
   reopening_own : (level code : ℕ) (n : Next UpWrite) → Own (after_reopening x level code n)
   reopening_own level code n e = grind arith
 
@@ -223,6 +248,15 @@ module _ (c : Config) (t : ℕ) (w next : World) (earlier : List World) (after :
   freeze_own hook (FreezeStep.Holds beside) f four e same h e' = λ r. absurd (cc)
   freeze_own hook FreezeStep.LoadsSuperblock f four e same h e' = elim (eqb_tells w.words.sb 0) [ inl z ↦ rw z.0 tt | inr z ↦ rw z.0 tt ]
   freeze_own hook (FreezeStep.Closes d) f four e same h e' = closing_own d hook d.step f.0 f.1 f.4 same h e'
+  freeze_own (Ok answer) (FreezeStep.Waits d) f four e same h e' =
+      waiting_own d d.step f.1 f.0.0 f.0.1 f.0.4 (ap (λ (ws : Words). ws.level d.level) same) h e'
+  freeze_own (Err code) (FreezeStep.Waits d) f four e same h e' = tt
+  freeze_own hook (FreezeStep.Undoes level transition code) f four e same h e' =
+      undoing_own level code
+      (transition_after on_exit transition (found_at w.words (Phase.Freezes (at_freeze x (FreezeStep.Undoes level transition code))) hook)) e'
+  freeze_own hook (FreezeStep.LocksToUndo code) f four e same h e' =
+      elim (eqb_tells w.words.umount 0) [ inl z ↦ rw z.0 tt | inr z ↦ rw z.0 tt ]
+  freeze_own hook (FreezeStep.GivesUp level code) f four e same h e' = fails_own (level - 1) code e'
   freeze_own hook FreezeStep.LocksAgain f four e same h e' = elim (eqb_tells w.words.umount 0) [ inl z ↦ rw z.0 tt | inr z ↦ rw z.0 tt ]
   freeze_own hook (FreezeStep.Cleans marks) f four e same h e' = clearing_own (clear_after marks (w.words.node marks.node)).0 e'
   freeze_own (Ok answer) FreezeStep.SetsFs f four e same h e' = tt

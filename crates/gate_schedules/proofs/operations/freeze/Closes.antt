@@ -2,7 +2,7 @@
 use Rattle.std.proofs.lemmas.Grind.{common_steps}
 use Rattle.gate_schedules.proofs.frames.{Accesses.holdings_of_after, ByPhase.freeze_owner, OperationLaws.by_bool, Stages.{IsStageEvent, stages_in}}
 use Rattle.gate_schedules.proofs.levels.DownWrite.{down_write_levels, entered_by_nobody, passes_finds_nobody, swap_finds_clear}
-use Rattle.gate_schedules.proofs.{levels.LevelPositions.{LevelsHold, HasPosition, left_world, position_after_closing}, operations.freeze.Fits.freeze_goes}
+use Rattle.gate_schedules.proofs.{levels.LevelPositions.{LevelsHold, HasPosition, closing_position, left_world, position_after_closing}, operations.freeze.Fits.freeze_goes}
 use Rattle.gate_schedules.proofs.operations.freeze.Stages.{FitsHere, IsHere, Keeps, freeze_stands, here_fits, here_stands, here_tree, here_writes}
 use Rattle.gate_schedules.proofs.{trees.worlds.Trees.shown_clean, writers.Parts.{AsksWhere, LeavesRest, WriterLaw, down_write_comes, freeze_comes}}
 use Rattle.gate_schedules.proofs.writers.Stages.{none_leaves, still_plays}
@@ -12,7 +12,7 @@ use Rattle.access_model.specs.{Replies.map_next, declared.{actions.Action.Action
 use Rattle.cpu_words.specs.{Hooks.HookAnswer, Sums.sum_taking, Touches.{found_by, left}, Words.{Words, put, read}, declared.sums.{Sum.Sum, Taken.Taken}}
 use Rattle.finite_sums.proofs.Totals.{total_at}
 use Rattle.finite_sums.specs.Sums.{total, update}
-use Rattle.freeze_levels.specs.{Freezes.{after_closing, at_freeze, level_closed}, declared.freezes.{Freeze.Freeze, FreezeStep.FreezeStep}}
+use Rattle.freeze_levels.specs.{Freezes.{after_closing, at_freeze, closing_waits, level_closed}, declared.freezes.{Freeze.Freeze, FreezeStep.FreezeStep}}
 use Rattle.freeze_levels.specs.holder_laws.Roles.{Apart}
 use Rattle.gate_world.specs.{Configs.{IsWithin, model_limits}, Fits.Fits, Holdings.{Holdings, holdings_of}, Levels.{level_added_by, level_taken_by}}
 use Rattle.gate_world.specs.{Roles.{closed_to, freeze_holder_role, freeze_stage_role, place_of}, Rules.{Holds, IsGood, Tree, ViewFits}}
@@ -83,6 +83,21 @@ sum_kind d (Taken.Total total) = if total == 0 then Passes d.level (clean_from d
 closed_apart : (level nodes : ℕ) → freeze_holder_role (level_closed level nodes) ≡ Apart
 closed_apart level nodes = grind arith
 
+-- what is so of a freeze that closes a level and of one that waits at it is so of one whose down-write waits
+by_wait : (P : FreezeStep → Type 0) (d : DownWrite) (s : DownWriteStep) → P (FreezeStep.Closes d) → P (FreezeStep.Waits d) → P (closing_waits d s)
+by_wait P d s goes waits = grind arith
+
+-- how a freeze stands with the levels after an event of a down-write
+pub after_closing_stands : (x : Freeze) (d : DownWrite) → 1 ≤ d.level → d.level ≤ 3 → (found : ℕ) →
+    HasPosition (phase_after (map_next Phase.Freezes (after_closing x d.level (down_write_after d d.step found).0)))
+    (position_after_closing d.level (down_write_after d d.step found).0)
+after_closing_stands x d low high found =
+    down_write_comes d (λ n. HasPosition (phase_after (map_next Phase.Freezes (after_closing x d.level n))) (position_after_closing d.level n))
+    (λ s. freeze_stands (at_freeze x (FreezeStep.Closes (at_down_write d s))))
+    (λ s. by_wait (λ z. HasPosition (Some (Phase.Freezes (at_freeze x z))) (Some (closing_position (at_down_write d s)))) (at_down_write d s) s
+    (freeze_stands (at_freeze x (FreezeStep.Closes (at_down_write d s)))) (freeze_stands (at_freeze x (FreezeStep.Waits (at_down_write d s)))))
+    (closed_stands x d.level low high) d.step found
+
 module _ (c : Config) (lim : IsWithin c) (w : World) (good : IsGood c w) (t : ℕ) (lt : t < c.tasks) (x : Freeze) (hook : HookAnswer) where
   root_clean : (level : ℕ) → 1 ≤ level → level ≤ 3 → CleanBelow (clean_from level) (marks_of w.words)
   root_clean level low high m l =
@@ -152,15 +167,14 @@ module _ (c : Config) (lim : IsWithin c) (w : World) (good : IsGood c w) (t : �
     owns_then : owns view_then.phase ≡ bit (nat_lt 1 d.level)
     owns_then =
         down_write_comes d (λ n. owns (phase_after (map_next Phase.Freezes (after_closing x d.level n))) ≡ bit (nat_lt 1 d.level))
-        (λ s. refl) (λ s. refl) (sym (freeze_owner x.nodes (level_closed d.level x.nodes)) ∙
+        (λ s. refl)
+        (λ s. by_wait (λ z. owns (Some (Phase.Freezes (at_freeze x z))) ≡ bit (nat_lt 1 d.level)) (at_down_write d s) s refl refl)
+        (sym (freeze_owner x.nodes (level_closed d.level x.nodes)) ∙
         ap stage_owns (closed_role x d.level fits_now.5.0 fits_now.5.1)) d.step found_here
 
     -- how it stands with the levels
     pub stands_then : HasPosition view_then.phase (position_after_closing d.level next_here)
-    stands_then =
-        down_write_comes d (λ n. HasPosition (phase_after (map_next Phase.Freezes (after_closing x d.level n))) (position_after_closing d.level n))
-        (λ s. freeze_stands (at_freeze x (FreezeStep.Closes (at_down_write d s)))) (λ s. freeze_stands (at_freeze x (FreezeStep.Closes (at_down_write d s))))
-        (closed_stands x d.level fits_now.5.0 fits_now.5.1) d.step found_here
+    stands_then = after_closing_stands x d fits_now.5.0 fits_now.5.1 found_here
 
     -- what is left of the levels
     levels_then : LevelsHold c (left_world w t words_then view_then)
@@ -202,7 +216,8 @@ module _ (c : Config) (lim : IsWithin c) (w : World) (good : IsGood c w) (t : �
         fits_then (owns_then ∙ sym (ap owns e)) levels_then tree_left happens adds asks
         (down_write_adds d (λ a. LeavesRest (shown c w) (state_after (shown c w) t a) (shown c w).tree (shown c w).holders)
         (none_leaves c w good t lt) (pass_leaves (shown c w) t d.level) d.step found_here)
-        (down_write_comes d (λ n. holder_role_of (phase_after (map_next Phase.Freezes (after_closing x d.level n))) ≡ Apart) (λ s. refl) (λ s. refl)
+        (down_write_comes d (λ n. holder_role_of (phase_after (map_next Phase.Freezes (after_closing x d.level n))) ≡ Apart) (λ s. refl)
+        (λ s. by_wait (λ z. holder_role_of (Some (Phase.Freezes (at_freeze x z))) ≡ Apart) (at_down_write d s) s refl refl)
         (closed_apart d.level x.nodes) d.step found_here ∙ sym (ap holder_role_of e))
 
     closing_stays : (words_then.block ≡ w.words.block) → (p : Place) → place_of d.step ≡ p → IsAtPlace d p next_here →

@@ -1,10 +1,10 @@
 -- The events of a freeze on nodes and on the words of a level that it reopens, and all of its events as one law.
 use Rattle.gate_schedules.proofs.frames.{ByPhase.freeze_owner, Holders.holders_stay, PhaseSubstitution.{alike_of, made_keeps}, Stages.{IsStageEvent, stages_in}}
 use Rattle.gate_schedules.proofs.levels.{PositionRoles.levels_stay, LevelPositions.{HasPosition, left_world, position_after_opening}}
-use Rattle.gate_schedules.proofs.operations.freeze.{Closes.closes, Fits.freeze_goes}
+use Rattle.gate_schedules.proofs.operations.freeze.{Closes.closes, Fits.freeze_goes, GivesUp.{undoes, waits}}
 use Rattle.gate_schedules.proofs.operations.freeze.Stages.{FitsHere, IsHere, Keeps, completes_read_only, freeze_stands, goes_to, here_fits, here_knows}
 use Rattle.gate_schedules.proofs.operations.freeze.Stages.{here_stands, here_tree, here_writes, holds, loads_holders, loads_stage, loads_superblock, locks}
-use Rattle.gate_schedules.proofs.operations.freeze.Stages.{locks_again, releases, sets_complete, sets_fs, sets_page_fault, sets_write, unlocks, view_at}
+use Rattle.gate_schedules.proofs.operations.freeze.Stages.{gives_up, locks_again, locks_to_undo, releases, sets_complete, sets_fs, sets_page_fault, sets_write, unlocks, view_at}
 use Rattle.gate_schedules.proofs.{operations.thaw.Events.thaw_keeps, trees.worlds.Trees.{nobody_reads, tree_after}, writers.Owner.owner_stays}
 use Rattle.gate_schedules.proofs.writers.Parts.{AsksWhere, IsWriter, LeavesRest, SameAtMounts, WriterLaw, freeze_work, freezes_write, whole_writer, writer_law}
 use Rattle.access_model.specs.{Actions.marked, Replies.map_next, States.IsFile, declared.{actions.Action.Action}}
@@ -216,6 +216,10 @@ freeze_event c lim w good t lt x hook FreezeStep.CompletesReadOnly e = completes
 freeze_event c lim w good t lt x hook FreezeStep.SetsWrite e = sets_write c lim w good t lt x hook e
 freeze_event c lim w good t lt x hook FreezeStep.Unlocks e = unlocks c lim w good t lt x hook e
 freeze_event c lim w good t lt x hook (FreezeStep.Closes d) e = closes c lim w good t lt x hook d d.step e
+freeze_event c lim w good t lt x hook (FreezeStep.Waits d) e = waits c lim w good t lt x hook d e
+freeze_event c lim w good t lt x hook (FreezeStep.Undoes level transition code) e = undoes c lim w good t lt x hook level transition code e
+freeze_event c lim w good t lt x hook (FreezeStep.LocksToUndo code) e = locks_to_undo c lim w good t lt x hook code e
+freeze_event c lim w good t lt x hook (FreezeStep.GivesUp level code) e = gives_up c lim w good t lt x hook level code e
 freeze_event c lim w good t lt x hook FreezeStep.LocksAgain e = locks_again c lim w good t lt x hook e
 freeze_event c lim w good t lt x hook FreezeStep.SetsPageFault e = sets_page_fault c lim w good t lt x hook e
 freeze_event c lim w good t lt x hook (FreezeStep.Cleans marks) e = cleans c lim w good t lt x hook marks e

@@ -2,17 +2,19 @@
 use Rattle.access_model.specs.{Holders.held_by, declared.replies.Next.Next}
 use Rattle.cpu_words.specs.{Hooks.HookAnswer, Touches.found_by, Words.{Words, read}}
 use Rattle.finite_sums.specs.Sums.{total}
-use Rattle.freeze_levels.specs.{Freezes.{after_clearing, after_closing, after_reopening, freeze_after, freeze_next}, Holders.holders_in}
+use Rattle.freeze_levels.specs.{Freezes.{after_clearing, after_closing, after_reopening, after_undoing, at_freeze, freeze_after, freeze_fails, freeze_next}, Holders.holders_in}
 use Rattle.freeze_levels.specs.declared.freezes.{Freeze.Freeze, FreezeStep.FreezeStep}
 use Rattle.gate_schedules.proofs.{operations.{calls.Progress.clear_falls, deadlocks.RankDecreases.{after_event, falls_as}}}
 use Rattle.gate_schedules.proofs.writers.Progress.{DownFalls, down_falls, up_falls}
 use Rattle.gate_world.specs.{Fits.{Fits, FreezeFits, PhaseFits}, Levels.sync_role_of, Roles.{freeze_position, position_sync, sync_beside}, Rules.{Fitting, IsGood}}
 use Rattle.gate_world.specs.{Views.held_of, Worlds.{World, found_at, words_after}, declared.{config.Config.Config, work.Phase.Phase}}
 use Rattle.node_words.specs.{Phases.{clear_after, clear_next}, declared.marks.ClearMarks.{ClearMarks}}
-use Rattle.freeze_laws.specs.levels.Operations.{down_write_role, up_write_role}
-use Rattle.percpu_rwsem.specs.{Writers.{down_write_after, down_write_next, up_write_after, up_write_next}}
+use Rattle.freeze_laws.{proofs.stages.Facts.at_level, specs.levels.Operations.{down_write_role, up_write_role}}
+use Rattle.percpu_rwsem.specs.{SyncWords.on_exit, Transitions.transition_after}
+use Rattle.percpu_rwsem.specs.Writers.{down_write_after, down_write_next, exit_made, up_write_after, up_write_next}
+use Rattle.percpu_rwsem.specs.declared.{transitions.{Transition.Transition, TransitionNext.TransitionNext}}
 use Rattle.percpu_rwsem.specs.declared.writers.{DownWrite.DownWrite, DownWriteStep.DownWriteStep, UpWrite.UpWrite, UpWriteStep.UpWriteStep}
-use Rattle.gate_schedules.specs.operations.Ranks.{closed_rank, closing_rank, down_rank, freeze_rank, rank, reopens_rank, up_rank}
+use Rattle.gate_schedules.specs.operations.Ranks.{closed_rank, closing_rank, down_rank, exchange_rank, freeze_rank, rank, reopens_rank, up_rank}
 use Rattle.gate_schedules.specs.operations.Unblocked.{RankDecreases, FreezeIsUnblocked, IsUnblocked, LevelsAreFree, NobodyInside, NothingCounted, PhaseEnds}
 use Rattle.std.proofs.{Common.{ap, arith, inl, inr, refl, subst, ℕ, ◌+◌, ◌<◌, ◌∙◌, ◌≡◌, ◌≤◌}, lemmas.Bool.{cases_Bool, eq-eqb, Decides.eqb_tells}}
 use Rattle.std.specs.Prelude.{Err, Ok, nat_lt, ◌%◌, ◌*◌, ◌-◌}
@@ -30,6 +32,9 @@ module _ (w : Words) (d : DownWrite) where
 up_sections : (w : Words) (u : UpWrite) (s : UpWriteStep) → (after_event w (up_write_next u s)).section ≡ w.section
 up_sections w u s = grind arith
 
+up_umount : (w : Words) (u : UpWrite) (s : UpWriteStep) → (after_event w (up_write_next u s)).umount ≡ w.umount
+up_umount w u s = grind arith
+
 -- what comes after an event of a freeze, with these words
 abbrev FreezeFalls : Config → Words → ℕ → Next Freeze → Type 0
 FreezeFalls c after n next = RankDecreases (λ (y : Freeze). freeze_rank after y y.step) (λ (y : Freeze). FreezeIsUnblocked c after y.step) n next
@@ -44,6 +49,13 @@ module _ (c : Config) (after : Words) (x : Freeze) (even : NobodyInside c after)
       RankDecreases (λ (y : ClearMarks). y.nodes - y.node) (λ (y : ClearMarks). Unit {0}) n next →
       FreezeFalls c after (closing_rank x + n + 11) (after_clearing x next)
   cleans_falls n next some levels h = grind arith
+
+  -- after an event by which the rcu_sync of a level is left that was given up
+  undoes_falls : (level r code : ℕ) (transition : Transition) (n : TransitionNext) → (level ≡ 1 → after.umount ≡ 0) →
+      RankDecreases (reopens_rank after) (λ (y : UpWrite). Unit {0}) (r + 3 * (level - 1) + 1)
+      (exit_made (record { level = level; step = UpWriteStep.Exits transition }) n) →
+      1 ≤ level → FreezeFalls c after (r + 3 * level) (after_undoing x level code n)
+  undoes_falls level r code transition n lock h low = grind arith
 
   -- after an event of the reopening of a level
   reopens_falls : (level r code : ℕ) (next : Next UpWrite) →
@@ -92,6 +104,43 @@ module _ (c : Config) (some : 1 ≤ c.processors) (w : World) (good : IsGood c w
       (down_write_after d d.step (found_by (down_write_next d d.step).1 (read w.words (down_write_next d d.step).0))).0
       (λ q. down_umount w.words d d.step ∙ free.1 q) levels
       (down_falls c w good t lt d fits.0 fits.1 some fits.3 free.0 (free.2 d.level (omega arith) fits.1) d.step (role d.level ∙ here) fits.4)
+  freeze_falls (Ok answer) (FreezeStep.Waits d) role fits free =
+      let after : Words = after_event w.words (down_write_next d d.step) in
+      let here : position_sync d.level (freeze_position (FreezeStep.Waits d)) ≡ down_write_role d.step =
+      ap (λ q. sync_beside q (nat_lt d.level d.level) (down_write_role d.step)) (eq-eqb d.level d.level refl) in
+      let even : NobodyInside c after =
+      λ y ly. ap (λ (f : ℕ → ℕ). f y % 2) (down_sections w.words d d.step) ∙ free.0 y ly in
+      let levels : LevelsAreFree c after (FreezeStep.Closes d) =
+      λ i low high. ap (λ (f : ℕ → ℕ → ℕ). total c.processors (f i) % 18446744073709551616) (down_counts w.words d d.step) ∙
+      free.2 i low high in
+      closes_falls c after x even d (down_rank w.words d d.step)
+      (down_write_after d d.step (found_by (down_write_next d d.step).1 (read w.words (down_write_next d d.step).0))).0
+      (λ q. down_umount w.words d d.step ∙ free.1 q) levels
+      (down_falls c w good t lt d fits.0.0 fits.0.1 some fits.0.3 free.0 (free.2 d.level (omega arith) fits.0.1) d.step (role d.level ∙ here) fits.0.4)
+  freeze_falls (Err code) (FreezeStep.Waits d) role fits free = (
+    at_level (λ i. exchange_rank (w.words.sync d.level) Transition.Loads + 3 * i < down_rank w.words d d.step + closed_rank x i + 1)
+        (omega arith, omega arith, omega arith) d.level fits.0.0 fits.0.1,
+    (free.0, free.1, λ i low high. absurd (omega (arith, low, high))),
+  )
+  freeze_falls hook (FreezeStep.Undoes level transition code) role fits free =
+      let u : UpWrite = record { level = level; step = UpWriteStep.Exits transition } in
+      let after : Words = after_event w.words (up_write_next u u.step) in
+      let here : position_sync level (freeze_position (FreezeStep.Undoes level transition code)) ≡ up_write_role u.step =
+      ap (λ q. sync_beside q (nat_lt level level) (up_write_role u.step)) (eq-eqb level level refl) in
+      let even : NobodyInside c after = λ y ly. ap (λ (f : ℕ → ℕ). f y % 2) (up_sections w.words u u.step) ∙ free.0 y ly in
+      undoes_falls c after x even level (exchange_rank (w.words.sync level) transition) code transition
+      (transition_after on_exit transition (found_by (up_write_next u u.step).1 (read w.words (up_write_next u u.step).0)))
+      (λ q. up_umount w.words u u.step ∙ free.1 q)
+      (up_falls c w good t lt u fits.0 fits.1 u.step (role level ∙ here)) fits.0
+  freeze_falls hook (FreezeStep.LocksToUndo code) role fits free =
+      rw free.1 (omega arith, (free.0, tt, λ i low high. absurd (omega (arith, low, high))))
+  freeze_falls hook (FreezeStep.GivesUp level code) role fits free =
+      at_level (λ i. FreezeFalls c (record w.words { stage = 0 }) (3 * (i - 1) + 1) (Next.Go (at_freeze x (freeze_fails (i - 1) code)))) (
+        (omega arith, (free.0, tt, λ i low high. absurd (omega (arith, low, high)))),
+        (omega arith, (free.0, tt, λ i low high. absurd (omega (arith, low, high)))),
+        (omega arith, (free.0, tt, λ i low high. absurd (omega (arith, low, high)))),
+      )
+      level fits.0 fits.1
   freeze_falls hook FreezeStep.LocksAgain role fits free = rw free.1 (omega arith, (free.0, tt, free.2))
   freeze_falls hook FreezeStep.SetsPageFault role fits free = (omega arith, (free.0, λ q. absurd (omega (arith, q)), free.2))
   freeze_falls hook (FreezeStep.Cleans marks) role fits free =

@@ -1,17 +1,19 @@
 -- Each event of a freeze is one of each level, or leaves it.
-use Rattle.std.{proofs.Common.{◌≡◌, ℕ, ◌<◌, refl, ap, arith}, specs.Prelude.{◌==◌, if◌then◌else◌, Option, Some, None, Ok, Err}}
+use Rattle.std.{proofs.Common.{◌≡◌, ℕ, ◌-◌, ◌<◌, refl, ap, arith, subst}, specs.Prelude.{◌==◌, if◌then◌else◌, Option, Some, None, Ok, Err}}
 use Rattle.access_model.specs.{Holders.nobody, Replies.map_next, declared.{errors.GateError.GateError, replies.{Next.Next, Reply.Reply}}}
 use Rattle.cpu_words.specs.{Hooks.HookAnswer, Words.Words}
 use Rattle.node_words.specs.{Nodes.{node_after}, Phases.{clears_at}, declared.marks.ClearMarks.{ClearMarks}}
 use Rattle.freeze_levels.specs.{Freezes.{at_freeze, freeze_closes, freeze_fails, freeze_after, freeze_locked, after_clearing}, Holders.holders_in}
 use Rattle.freeze_levels.specs.declared.freezes.{Freeze.Freeze, FreezeStep.FreezeStep}
-use Rattle.freeze_laws.specs.stages.Roles.{has_position}
-use Rattle.gate_world.specs.{Configs.IsWithin, Roles.{LevelPosition, closed_to}, Rules.{IsGood, Stages, stage_role_of}, Views.{phase_after, view_after}}
+use Rattle.freeze_laws.{proofs.stages.Facts.at_level, specs.{levels.Operations.down_write_role, stages.Roles.{has_position, is_full}}}
+use Rattle.percpu_rwsem.specs.{SyncWords.on_exit, Transitions.transition_after, Writers.sum_begun}
+use Rattle.percpu_rwsem.specs.declared.{transitions.Transition.Transition, writers.UpWriteStep.UpWriteStep}
+use Rattle.gate_world.specs.{Configs.IsWithin, Fits.DownWriteFits, Roles.{LevelPosition, closed_to, open_from, down_count_role}, Rules.{IsGood, Stages, stage_role_of}, Views.{phase_after, view_after}}
 use Rattle.gate_world.specs.{Worlds.{World, after_step, words_after, found_at, value_at}, declared.{config.Config.Config, work.Phase.Phase}}
 use Rattle.gate_schedules.proofs.{frames.{Frames.SameLevelWords, OperationLaws.by_bool}, levels.DownWrite.entered_by_nobody}
-use Rattle.gate_schedules.proofs.levels.{Runs.{levels_stay_runs, down_write_runs, up_write_runs}, PositionRoles.{closing_first, closing_next}}
-use Rattle.gate_schedules.proofs.{levels.{LevelPositions.{HasPosition, LevelsRun}, FreezeCompletes.freezes_runs}, operations.freeze.Closes.stands_then as stands_closing}
-use Rattle.gate_schedules.proofs.operations.freeze.{Events.stands_then as stands_reopening, Fits.found_cases}
+use Rattle.gate_schedules.proofs.levels.{GivenUp.summing_at, Runs.{levels_stay_runs, down_write_runs, up_write_runs, unblocked_runs}, PositionRoles.{closing_first, closing_next, closing_says, closing_says_none, stands_so}}
+use Rattle.gate_schedules.proofs.{levels.{LevelPositions.{HasPosition, LevelsRun}, FreezeCompletes.freezes_runs}, operations.freeze.Closes.{after_closing_stands, stands_then as stands_closing}}
+use Rattle.gate_schedules.proofs.operations.freeze.{Events.stands_then as stands_reopening, Fits.found_cases, GivesUp.undone_stands}
 use Rattle.gate_schedules.proofs.operations.freeze.Stages.{freeze_stands, idle_stands, IsHere, here_fits, here_knows, here_stands}
 
 -- with level 2 closed, a freeze clears another mark or asks the file system for its sync
@@ -77,6 +79,16 @@ module _ (c : Config) (lim : IsWithin c) (w : World) (good : IsGood c w) (t : �
       (record { block_same = refl; level_same = refl; sync_same = refl; section_same = refl; whole_same = rw k refl })
       (here_stands c lim w good t lt x FreezeStep.SetsComplete e) (freeze_stands (at_freeze x (freeze_fails 3 code)))
 
+  -- a store of stage 0 by which it gives up
+  given_up : (hook : HookAnswer) (level code : ℕ) → IsHere c lim w good t lt x (FreezeStep.GivesUp level code) →
+      is_full 0 w.words.sb ≡ is_full w.words.stage w.words.sb →
+      HasPosition (Some (Phase.Freezes (at_freeze x (freeze_fails (level - 1) code)))) (Some (open_from level)) →
+      Runs hook (FreezeStep.GivesUp level code)
+  given_up hook level code e whole now =
+      leaves hook (FreezeStep.GivesUp level code) (Some (open_from level))
+      (record { block_same = refl; level_same = refl; sync_same = refl; section_same = refl; whole_same = whole })
+      (here_stands c lim w good t lt x (FreezeStep.GivesUp level code) e) now
+
   freeze_run : (hook : HookAnswer) (s : FreezeStep) → IsHere c lim w good t lt x s → Runs hook s
   freeze_run hook FreezeStep.Locks e =
       leaves hook FreezeStep.Locks None (assumption) (here_stands c lim w good t lt x FreezeStep.Locks e)
@@ -125,6 +137,43 @@ module _ (c : Config) (lim : IsWithin c) (w : World) (good : IsGood c w) (t : �
       (here_fits c lim w good t lt x (FreezeStep.Closes d) e).5 (here_stands c lim w good t lt x (FreezeStep.Closes d) e)
       (stands_closing c lim w good t lt x hook d e)
       (entered_by_nobody c w good t lt (ap (λ p. has_position (stage_role_of p)) e) d.level)
+  freeze_run (Ok answer) (FreezeStep.Waits d) e =
+      let phase : Phase = Phase.Freezes (at_freeze x (FreezeStep.Waits d)) in
+      let fits : DownWriteFits c d = (here_fits c lim w good t lt x (FreezeStep.Waits d) e).5.0 in
+      down_write_runs c lim w good t lt d (view_after (w.views t) phase (value_at w.words phase (Ok answer)) (Ok answer))
+      fits (here_stands c lim w good t lt x (FreezeStep.Waits d) e)
+      (after_closing_stands x d fits.0 fits.1 (found_at w.words phase (Ok answer)))
+      (entered_by_nobody c w good t lt (ap (λ p. has_position (stage_role_of p)) e) d.level)
+  freeze_run (Err code) (FreezeStep.Waits d) e =
+      let phase : Phase = Phase.Freezes (at_freeze x (FreezeStep.Waits d)) in
+      let fits : DownWriteFits c d × (d.step ≡ sum_begun) = (here_fits c lim w good t lt x (FreezeStep.Waits d) e).5 in
+      let was : HasPosition (w.views t).phase (Some (summing_at d.level)) =
+      subst (λ s. HasPosition (w.views t).phase (Some record { level = d.level; count = down_count_role s; sync = down_write_role s })) fits.1
+      (here_stands c lim w good t lt x (FreezeStep.Waits d) e) in
+      unblocked_runs c lim w good t lt d.level (view_after (w.views t) phase (w.words.block d.level) (Err code)) was
+      (freeze_stands (at_freeze x (FreezeStep.Undoes d.level Transition.Loads code)))
+  freeze_run hook (FreezeStep.Undoes level transition code) e =
+      let phase : Phase = Phase.Freezes (at_freeze x (FreezeStep.Undoes level transition code)) in
+      let fits : _ = (here_fits c lim w good t lt x (FreezeStep.Undoes level transition code) e).5 in
+      up_write_runs c lim w good t lt (record { level = level; step = UpWriteStep.Exits transition })
+      (view_after (w.views t) phase (value_at w.words phase hook) hook) fits
+      (here_stands c lim w good t lt x (FreezeStep.Undoes level transition code) e)
+      (undone_stands x level code fits.0 fits.1 transition (transition_after on_exit transition (found_at w.words phase hook)))
+  freeze_run hook (FreezeStep.LocksToUndo code) e =
+      leaves hook (FreezeStep.LocksToUndo code) (Some (open_from 1)) (assumption) (here_stands c lim w good t lt x (FreezeStep.LocksToUndo code) e)
+      (locked_stands x (FreezeStep.LocksToUndo code) (FreezeStep.GivesUp 1 code) w.words.umount (Some (open_from 1))
+      (freeze_stands (at_freeze x (FreezeStep.LocksToUndo code))) (freeze_stands (at_freeze x (FreezeStep.GivesUp 1 code))))
+  freeze_run hook (FreezeStep.GivesUp level code) e =
+      let fits : _ = (here_fits c lim w good t lt x (FreezeStep.GivesUp level code) e).5 in
+      at_level (λ i. IsHere c lim w good t lt x (FreezeStep.GivesUp i code) → Runs hook (FreezeStep.GivesUp i code)) (
+        λ here. given_up hook 1 code here (rw (here_knows c lim w good t lt x (FreezeStep.GivesUp 1 code) here) refl)
+            (stands_so _ _ _ (closing_says_none 0 0) (freeze_stands (at_freeze x (freeze_fails 0 code)))),
+        λ here. given_up hook 2 code here (rw (here_knows c lim w good t lt x (FreezeStep.GivesUp 2 code) here) refl)
+            (stands_so _ _ _ (closing_says 1 0 0 (omega arith)) (freeze_stands (at_freeze x (freeze_fails 1 code)))),
+        λ here. given_up hook 3 code here (rw (here_knows c lim w good t lt x (FreezeStep.GivesUp 3 code) here) refl)
+            (stands_so _ _ _ (closing_says 2 0 0 (omega arith)) (freeze_stands (at_freeze x (freeze_fails 2 code)))),
+      )
+      level fits.0 fits.1 e
   freeze_run hook FreezeStep.LocksAgain e =
       leaves hook FreezeStep.LocksAgain (Some (closed_to 1)) (assumption) (here_stands c lim w good t lt x FreezeStep.LocksAgain e)
       (locked_stands x FreezeStep.LocksAgain FreezeStep.SetsPageFault w.words.umount (Some (closed_to 1)) (freeze_stands (at_freeze x FreezeStep.LocksAgain))

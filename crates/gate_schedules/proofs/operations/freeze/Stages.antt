@@ -1,6 +1,6 @@
 -- The events of a freeze on `umount`, the stage and the superblock's flag, and its clearing of marks.
 use Rattle.gate_world.specs.Roles.{freeze_owns}
-use Rattle.gate_world.specs.{Configs.{IsWithin, model_limits}, Fits.{Fits, FreezeFits, PhaseFits}, Roles.{LevelPosition, closed_to, freeze_holder_role}}
+use Rattle.gate_world.specs.{Configs.{IsWithin, model_limits}, Fits.{Fits, FreezeFits, PhaseFits}, Roles.{LevelPosition, closed_to, open_from, freeze_holder_role}}
 use Rattle.gate_world.specs.{Roles.{freeze_stage_role, freeze_position, freeze_tree_role}, Rules.{Fitting, Holding, Holds, IsGood, OwnerHolds, Stages, Tree}}
 use Rattle.gate_world.specs.{Rules.{holder_role_of, holder_roles, owns, stage_role_of}, Shown.shown, Trees.{tree_bounds, tree_of, tree_role_of, tree_roles}}
 use Rattle.gate_world.specs.{Views.{held_of, view_with}, Worlds.World, declared.{config.Config.Config, views.View.View, work.Phase.Phase}}
@@ -12,16 +12,17 @@ use Rattle.freeze_levels.specs.{Freezes.{at_freeze, freeze_closes, freeze_fails}
 use Rattle.freeze_levels.specs.declared.freezes.FreezeStep.{FreezeStep}
 use Rattle.freeze_levels.specs.holder_laws.{Events.{Finds, Freezes as FreezesHolders, HoldsFirst, Joins}, Roles.{Apart, Fills, Found, HolderRole, between, minds}}
 use Rattle.gate_schedules.proofs.frames.{Cases.both, Frames.SameLevelCounts, Holders.{holders_after, holders_at, holders_move, holders_stay, nobody_minds}}
-use Rattle.gate_schedules.proofs.{frames.Stages.{IsStageEvent, nobody_owns, owners_alike, stages_in}, levels.PositionRoles.{closing_first, closing_next}}
+use Rattle.gate_schedules.proofs.{frames.Stages.{IsStageEvent, nobody_owns, owners_alike, stages_in}, levels.PositionRoles.{closing_first, closing_next, closing_says, closing_says_none, stands_so}}
 use Rattle.gate_schedules.proofs.{levels.{LevelPositions.{LevelsHold, HasPosition, left_world}, FreezeCompletes.freezes_all}, operations.freeze.Fits.found_cases}
 use Rattle.gate_schedules.proofs.{trees.worlds.Trees.{sealed_frozen, tree_after, tree_then}, writers.Owner.{lock_given, lock_taken, owner_stays}}
 use Rattle.gate_schedules.proofs.writers.Parts.{AsksWhere, IsWriter, SameAtMounts, WriterKeeps, WriterLaw, freezes_write, idle_writes}
 use Rattle.gate_schedules.proofs.writers.Stages.{opened_tree, stays_there, stored_levels, stored_tree, writer_beside, writer_holds, writer_stores}
 use Rattle.gated_tree.specs.Roles.{HasNoCharge, Out as OffTree, TreeState, sealed_by}
 use Rattle.freeze_levels.proofs.holder_laws.{HolderLaws.{finds_some, roles_tell}, Words.{is_nobody, none_held, unpack_pack}}
-use Rattle.freeze_laws.specs.stages.Events.{Advances, Begins, Completes, Fails, FreezesAtOnce, Happens, HoldsOne, LetsGo, LoadsSb, LoadsStage as FindsStage}
+use Rattle.freeze_laws.proofs.stages.Facts.{at_level}
+use Rattle.freeze_laws.specs.stages.Events.{Advances, Begins, Completes, Fails, GivesUp as GivesUpStage, FreezesAtOnce, Happens, HoldsOne, LetsGo, LoadsSb, LoadsStage as FindsStage}
 use Rattle.freeze_laws.specs.stages.Events.{Locks as LocksStage, LocksAgain as LocksStageAgain, Recalls, Releases as ReleasesStage, StageEvent, Stays, Syncs}
-use Rattle.freeze_laws.specs.stages.{Events.{action_of as stage_action_of, playing}, Roles.{Before, HasPassed, KnowsStage, Owning, StageRole, is_full}}
+use Rattle.freeze_laws.specs.stages.{Events.{action_of as stage_action_of, playing}, Roles.{Before, HasPassed, KnowsStage, Owning, Reopening, StageRole, is_full}}
 use Rattle.std.proofs.{Common.{ap, arith, inl, inr, refl, subst, sym, ℕ, ◌+◌, ◌<◌, ◌∙◌, ◌≡◌}, lemmas.Bool.Decides.eqb_tells}
 use Rattle.std.specs.Prelude.{Err, None, Ok, Option, Result, Some, false, if◌then◌else◌, true, ◌∷◌}
 use Rattle.gate_schedules.specs.trees.Events.{Event as TreeEvent, Leaves, Seals, turned}
@@ -223,6 +224,65 @@ module _ (c : Config) (lim : IsWithin c) (w : World) (good : IsGood c w) (t : �
       (ap stage_role_of e, omega arith, refl) refl (λ four. absurd (omega (arith, k, four)))
       (moved (Err code) FreezeStep.SetsComplete s' e 0 refl refl (λ four. omega (arith, k, four)) (λ four. omega (arith, four)))
 
+  -- it gives up: stores stage 0, and releases `umount`, or begins to reopen the levels below
+  gives_up_first : (hook : HookAnswer) (code : ℕ) → IsHere (FreezeStep.GivesUp 1 code) → Keeps hook (FreezeStep.GivesUp 1 code)
+  gives_up_first hook code e =
+      let s : FreezeStep = FreezeStep.GivesUp 1 code in
+      let k : w.words.stage ≡ 1 = here_knows s e in
+      let s' : FreezeStep = freeze_fails 0 code in
+      stores hook s s' e 0 (GivesUpStage 1 (Owning None None)) refl refl tt
+      (kept_levels hook s s' e 0 (Some (open_from 1)) (rw k refl) refl
+      (stands_so _ _ _ (closing_says_none 0 0) (freeze_stands (at_freeze x s'))))
+      (kept_tree hook s s' e 0 refl (rw k refl)) (
+        ap stage_role_of e,
+        record { owns_same = refl; freezes_same = refl; remounts_same = refl; closed_same = refl; passed_same = refl },
+        (tt, tt),
+        (λ m l. absurd (omega (arith, l))),
+        refl,
+      ) refl (λ four. absurd (omega (arith, k, four)))
+      (moved hook s s' e 0 refl refl (λ four. omega (arith, k, four)) (λ four. omega (arith, four)))
+
+  gives_up_second : (hook : HookAnswer) (code : ℕ) → IsHere (FreezeStep.GivesUp 2 code) → Keeps hook (FreezeStep.GivesUp 2 code)
+  gives_up_second hook code e =
+      let s : FreezeStep = FreezeStep.GivesUp 2 code in
+      let k : w.words.stage ≡ 2 = here_knows s e in
+      let s' : FreezeStep = freeze_fails 1 code in
+      stores hook s s' e 0 (GivesUpStage 2 (Reopening 1)) refl refl (omega arith, omega arith, tt)
+      (kept_levels hook s s' e 0 (Some (open_from 2)) (rw k refl) refl
+      (stands_so _ _ _ (closing_says 1 0 0 (omega arith)) (freeze_stands (at_freeze x s'))))
+      (kept_tree hook s s' e 0 refl (rw k refl)) (
+        ap stage_role_of e,
+        record { owns_same = refl; freezes_same = refl; remounts_same = refl; closed_same = refl; passed_same = refl },
+        (refl, omega arith),
+        (λ m l. absurd (omega (arith, l))),
+        refl,
+      ) refl (λ four. absurd (omega (arith, k, four)))
+      (moved hook s s' e 0 refl refl (λ four. omega (arith, k, four)) (λ four. omega (arith, four)))
+
+  gives_up_third : (hook : HookAnswer) (code : ℕ) → IsHere (FreezeStep.GivesUp 3 code) → Keeps hook (FreezeStep.GivesUp 3 code)
+  gives_up_third hook code e =
+      let s : FreezeStep = FreezeStep.GivesUp 3 code in
+      let k : w.words.stage ≡ 3 = here_knows s e in
+      let s' : FreezeStep = freeze_fails 2 code in
+      stores hook s s' e 0 (GivesUpStage 3 (Reopening 2)) refl refl (omega arith, omega arith, tt)
+      (kept_levels hook s s' e 0 (Some (open_from 3)) (rw k refl) refl
+      (stands_so _ _ _ (closing_says 2 0 0 (omega arith)) (freeze_stands (at_freeze x s'))))
+      (opened_tree c w good t lt lim (view_at (WordName.Stage, Touch.Store 0) w.words.stage hook s' (Some (Action.Stage 0)))
+      (sym (here_tree s e))) (
+        ap stage_role_of e,
+        record { owns_same = refl; freezes_same = refl; remounts_same = refl; closed_same = refl; passed_same = refl },
+        (refl, omega arith),
+        (λ m l. absurd (omega (arith, l))),
+        refl,
+      ) refl (λ four. absurd (omega (arith, k, four)))
+      (moved hook s s' e 0 refl refl (λ four. omega (arith, k, four)) (λ four. omega (arith, four)))
+
+  pub gives_up : (hook : HookAnswer) (level code : ℕ) → IsHere (FreezeStep.GivesUp level code) → Keeps hook (FreezeStep.GivesUp level code)
+  gives_up hook level code e =
+      let f : FitsHere (FreezeStep.GivesUp level code) = here_fits (FreezeStep.GivesUp level code) e in
+      at_level (λ i. IsHere (FreezeStep.GivesUp i code) → Keeps hook (FreezeStep.GivesUp i code))
+      (gives_up_first hook code, gives_up_second hook code, gives_up_third hook code) level f.5.0 f.5.1 e
+
   -- an event that leaves all words but `umount`, after which this step comes
   beside : (s s' : FreezeStep) (e : IsHere s) (n value : ℕ) (word : WordName) (touch : Touch) (hook : HookAnswer) (stand : Option LevelPosition)
       (kind : StageEvent) →
@@ -297,6 +357,22 @@ module _ (c : Config) (lim : IsWithin c) (w : World) (good : IsGood c w) (t : �
             (omega (arith, f.0)) refl)
             refl refl refl (ap stage_role_of e, nobody_owns c w good h.1, refl) refl refl)
         | inr h ↦ rw h.0 (tries_again FreezeStep.LocksAgain e hook tt)
+      ]
+
+  -- or with level 1 given up
+  pub locks_to_undo : (hook : HookAnswer) (code : ℕ) → IsHere (FreezeStep.LocksToUndo code) → Keeps hook (FreezeStep.LocksToUndo code)
+  locks_to_undo hook code e =
+      let s : FreezeStep = FreezeStep.LocksToUndo code in
+      let s' : FreezeStep = FreezeStep.GivesUp 1 code in
+      let f : FitsHere s = here_fits s e in
+      elim (eqb_tells w.words.umount 0) [
+        | inl h ↦ rw h.0 (
+            let v : View = tried hook (x.task + 1) s' in
+            tries s s' e (x.task + 1) hook (Some (open_from 1)) (LocksStageAgain 1 Before) (omega arith, omega arith)
+            (lock_taken c w good t lt v (here_writes s e) (freezes_write (at_freeze x s')) (x.task + 1) h.1
+            (omega (arith, f.0)) refl)
+            refl refl refl (ap stage_role_of e, nobody_owns c w good h.1, refl) refl refl)
+        | inr h ↦ rw h.0 (tries_again s e hook tt)
       ]
 
   pub unlocks : (hook : HookAnswer) → IsHere FreezeStep.Unlocks → Keeps hook FreezeStep.Unlocks

@@ -9,7 +9,7 @@ use Rattle.percpu_rwsem.specs.Writers.{down_write_next, down_write_after, enter_
 use Rattle.percpu_rwsem.specs.declared.{grace.Grace.{Grace}, sync_word.SyncWord.{SyncWord}, transitions.TransitionNext.{TransitionNext}}
 use Rattle.percpu_rwsem.specs.declared.writers.{DownWrite.DownWrite, DownWriteStep.DownWriteStep}
 use Rattle.gate_world.specs.Configs.{IsWithin}
-use Rattle.gate_world.specs.traces.Found.{found_sealed, found_complete, stored_stage, cleans, newest, finds_readers, IsLevelSum, sum_of_newest, FoundInside}
+use Rattle.gate_world.specs.traces.Found.{found_sealed, found_complete, stored_stage, cleans, newest, finds_readers, IsLevelSum, sum_of_newest, FoundInside, level_opened}
 use Rattle.gate_world.specs.{Views.with_hook, declared.{config.Config.Config, views.Traced.Traced}}
 
 -- the closing of this level, among the tasks and processors of a configuration, at a step
@@ -41,7 +41,7 @@ ClosingNext c i trace (Next.Done answer) action = action ≡ Some (Action.Pass i
 abbrev pub FoundAsBefore : List Traced → List Traced → Type 0
 FoundAsBefore trace earlier =
     (found_sealed trace ≡ found_sealed earlier) × (stored_stage 3 trace ≡ stored_stage 3 earlier) × (cleans trace ≡ cleans earlier) ×
-    (found_complete trace ≡ found_complete earlier)
+    (found_complete trace ≡ found_complete earlier) × (level_opened trace ≡ level_opened earlier)
 
 module _ (c : Config) (lim : IsWithin c) (i value : ℕ) (hook : HookAnswer) (earlier : List Traced) where
   -- the trace after the event of a step

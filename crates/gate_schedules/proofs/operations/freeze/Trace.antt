@@ -1,5 +1,5 @@
 -- Traces of a freeze of the superblock.
-use Rattle.std.proofs.Common.{◌≡◌, ℕ, zero, suc, Bool, true, false, refl, sym, ap, ◌∙◌, subst, inl, inr, arith}
+use Rattle.std.proofs.Common.{◌≡◌, ℕ, zero, suc, ◌-◌, ◌≤◌, Bool, true, false, refl, sym, ap, ◌∙◌, subst, inl, inr, arith}
 use Rattle.std.proofs.lemmas.{Bool.{eq-eqb, ne_eqb, cases_Bool, Decides.eqb_tells}, Nat.Bits.and_pow}
 use Rattle.std.specs.Prelude.{◌==◌, if◌then◌else◌, Option, Result, Ok, Err, List, [], ◌∷◌, ◌++◌, bit_and}
 use Rattle.access_model.specs.{Holders.nobody, Replies.map_next}
@@ -10,10 +10,10 @@ use Rattle.mount_counts.specs.Phases.{has_flag}
 use Rattle.percpu_rwsem.specs.{SyncWords.on_exit, Transitions.{transition_next, transition_after}, Writers.{down_write_after, exit_made}}
 use Rattle.percpu_rwsem.specs.declared.transitions.{Transition.Transition, TransitionNext.TransitionNext}
 use Rattle.percpu_rwsem.specs.declared.writers.{DownWrite.DownWrite, DownWriteStep.DownWriteStep, UpWrite.UpWrite, UpWriteStep.UpWriteStep}
-use Rattle.freeze_levels.specs.{Freezes.{after_closing, after_clearing, after_reopening}}
+use Rattle.freeze_levels.specs.{Freezes.{after_closing, after_clearing, after_reopening, after_undoing, at_freeze, closing_waits}, Levels.reopening}
 use Rattle.freeze_levels.specs.declared.freezes.{Freeze.Freeze, FreezeStep.FreezeStep}
-use Rattle.gate_world.specs.{Operations.{two_levels_closed, all_levels_closed}, Configs.IsWithin, traces.TraceStates.{IsTrace, state_of_trace}}
-use Rattle.gate_world.specs.traces.Found.{found_sealed, found_complete, stored_stage, cleans, ReadAnswer}
+use Rattle.gate_world.specs.{Operations.{two_levels_closed, all_levels_closed, failed_adds, word_decided}, Configs.IsWithin, traces.TraceStates.{IsTrace, state_of_trace}}
+use Rattle.gate_world.specs.traces.Found.{found_sealed, found_complete, gave_up, level_opened, stored_stage, cleans, ReadAnswer}
 use Rattle.gate_world.specs.{traces.Traces.{actions_of, IsHonestAnswer, Tells, IsShort, most_events}, Views.{actions_after, with_hook}}
 use Rattle.gate_world.specs.declared.{config.Config.Config, operations.Op.Op, views.Traced.Traced, work.Phase.Phase}
 use Rattle.gate_schedules.proofs.operations.freeze.Sums.{ClosingSays, ClosingNext, FoundAsBefore, closing_at, closing_trace, closing_found, closing_leaves}
@@ -38,7 +38,8 @@ freeze_at c t holder step = Phase.Freezes (freeze_of c t holder step)
 -- these actions are added, the superblock wasn't found read-only nor frozen, and stage 3 is stored or not
 abbrev HasAdded : List Action → Bool → List Traced → List Action → Type 0
 HasAdded done third trace added =
-    (added ≡ done) × ((found_sealed trace ≡ false) × (found_complete trace ≡ false)) × (stored_stage 3 trace ≡ third)
+    (added ≡ done) × ((found_sealed trace ≡ false) × (found_complete trace ≡ false)) × (stored_stage 3 trace ≡ third) ×
+    (level_opened trace ≡ 0)
 
 -- these actions are added before stage 3 is stored or any mark is cleared
 abbrev HasBegun : List Action → List Traced → List Action → Type 0
@@ -51,20 +52,22 @@ IsClosing (suc (suc zero)) trace added = HasBegun (Action.Stage 2 ∷ (Action.Pa
 IsClosing (suc (suc (suc zero))) trace added = HasAdded (Action.Stage 3 ∷ two_levels_closed trace) true trace added
 IsClosing i trace added = ⊥
 
--- what a freeze whose hook failed has added where two levels are still closed
-abbrev two_left : List Traced → List Action
-two_left trace =
-    if stored_stage 3 trace
-    then Action.Reopen 3 ∷ (Action.Stage 0 ∷ all_levels_closed trace)
-    else Action.Stage 0 ∷ two_levels_closed trace
+-- these actions with the levels up to this one reopened after them
+abbrev reopened : ℕ → List Action → List Action
+reopened zero added = added
+reopened (suc zero) added = Action.Reopen 1 ∷ added
+reopened (suc (suc zero)) added = Action.Reopen 1 ∷ (Action.Reopen 2 ∷ added)
+reopened (suc (suc (suc i))) added = Action.Reopen 1 ∷ (Action.Reopen 2 ∷ (Action.Reopen 3 ∷ added))
 
--- the same where the levels up to this one are closed
+-- what a freeze whose hook failed has added where the levels up to this one are still closed: all but that these are reopened
 abbrev AreLeft : ℕ → List Traced → List Action → Type 0
-AreLeft zero trace added = added ≡ Action.Reopen 1 ∷ (Action.Reopen 2 ∷ two_left trace)
-AreLeft (suc zero) trace added = added ≡ Action.Reopen 2 ∷ two_left trace
-AreLeft (suc (suc zero)) trace added = added ≡ two_left trace
-AreLeft (suc (suc (suc zero))) trace added = (added ≡ Action.Stage 0 ∷ all_levels_closed trace) × (stored_stage 3 trace ≡ true)
-AreLeft i trace added = ⊥
+AreLeft i trace added = (reopened i added ≡ failed_adds (gave_up trace) trace) × (i ≤ 3)
+
+-- what a freeze that gives up this level has added where it is still to store stage 0
+abbrev GaveUpSay : ℕ → ℕ → List Traced → List Action → Type 0
+GaveUpSay level code trace added =
+    (1 ≤ level) × (level ≤ 3) × (reopened (level - 1) (Action.Stage 0 ∷ added) ≡ failed_adds level trace) × (level_opened trace ≡ level) ×
+    ReadAnswer (WordName.Block level) (Err code) trace
 
 -- while a level is reopened, it is closed until its first event
 abbrev IsReopening : ℕ → UpWriteStep → List Traced → List Action → Type 0
@@ -88,7 +91,8 @@ ClosesSay c d trace added =
 -- a level is reopened, as a hook failed with this code
 abbrev ReopensSay : UpWrite → ℕ → List Traced → List Action → Type 0
 ReopensSay u code trace added =
-    (i : ℕ) × (s : UpWriteStep) × (u ≡ record { level = i; step = s }) × IsReopening i s trace added × ReadAnswer WordName.Stage (Err code) trace
+    (i : ℕ) × (s : UpWriteStep) × (u ≡ record { level = i; step = s }) × IsReopening i s trace added ×
+    ReadAnswer (word_decided (gave_up trace)) (Err code) trace
 
 -- what a trace says at a step: what was found, stored, cleared and added
 abbrev StepSays : Config → Holder → FreezeStep → List Traced → List Action → Type 0
@@ -97,6 +101,10 @@ StepSays c holder (FreezeStep.Holds beside) trace added = added ≡ frozen_adds 
 StepSays c holder FreezeStep.CompletesReadOnly trace added = (added ≡ []) × (found_sealed trace ≡ true) × (found_complete trace ≡ false)
 StepSays c holder FreezeStep.Unlocks trace added = HasBegun (Action.Stage 1 ∷ []) trace added
 StepSays c holder (FreezeStep.Closes d) trace added = ClosesSay c d trace added
+StepSays c holder (FreezeStep.Waits d) trace added = ClosesSay c d trace added
+StepSays c holder (FreezeStep.Undoes level transition code) trace added = GaveUpSay level code trace added
+StepSays c holder (FreezeStep.LocksToUndo code) trace added = GaveUpSay 1 code trace added
+StepSays c holder (FreezeStep.GivesUp level code) trace added = GaveUpSay level code trace added
 StepSays c holder FreezeStep.LocksAgain trace added = HasBegun (Action.Pass 1 ∷ (Action.Stage 1 ∷ [])) trace added
 StepSays c holder FreezeStep.SetsPageFault trace added = HasBegun (Action.Pass 1 ∷ (Action.Stage 1 ∷ [])) trace added
 StepSays c holder (FreezeStep.Cleans marks) trace added = HasAdded (two_levels_closed trace) false trace added
@@ -121,14 +129,32 @@ mark_bit word =
 closing_stays : (i : ℕ) (trace earlier : List Traced) (added : List Action) → FoundAsBefore trace earlier → IsClosing i earlier added →
     IsClosing i trace added
 closing_stays zero trace earlier added l h = absurd h
-closing_stays (suc zero) trace earlier added l h = ((h.0.0, (l.0 ∙ h.0.1.0, l.3 ∙ h.0.1.1), l.1 ∙ h.0.2), l.2 ∙ h.1)
-closing_stays (suc (suc zero)) trace earlier added l h = ((h.0.0, (l.0 ∙ h.0.1.0, l.3 ∙ h.0.1.1), l.1 ∙ h.0.2), l.2 ∙ h.1)
+closing_stays (suc zero) trace earlier added l h = ((h.0.0, (l.0 ∙ h.0.1.0, l.3 ∙ h.0.1.1), l.1 ∙ h.0.2, l.4 ∙ h.0.3), l.2 ∙ h.1)
+closing_stays (suc (suc zero)) trace earlier added l h = ((h.0.0, (l.0 ∙ h.0.1.0, l.3 ∙ h.0.1.1), l.1 ∙ h.0.2, l.4 ∙ h.0.3), l.2 ∙ h.1)
 closing_stays (suc (suc (suc zero))) trace earlier added l h = (
   h.0 ∙ ap (λ (marks : List Action). Action.Stage 3 ∷ (marks ++ (Action.Pass 2 ∷ (Action.Stage 2 ∷ (Action.Pass 1 ∷ (Action.Stage 1 ∷ [])))))) (sym l.2),
   (l.0 ∙ h.1.0, l.3 ∙ h.1.1),
   l.1 ∙ h.2,
+  l.4 ∙ h.3,
 )
 closing_stays (suc (suc (suc (suc i)))) trace earlier added l h = absurd h
+
+-- what a hook that failed leaves is the same while the trace leaves what it speaks of
+failed_same : (g : ℕ) (trace earlier : List Traced) → stored_stage 3 trace ≡ stored_stage 3 earlier → cleans trace ≡ cleans earlier →
+    failed_adds g earlier ≡ failed_adds g trace
+failed_same g trace earlier third marks = grind arith
+
+-- where a freeze that closes a level and one that waits at it say so, one whose down-write waits does
+either_waits : (P : FreezeStep → Type 0) (d : DownWrite) (s : DownWriteStep) → P (FreezeStep.Closes d) → P (FreezeStep.Waits d) → P (closing_waits d s)
+either_waits P d s goes waits = grind arith
+
+-- a down-write waits
+wait_says : (c : Config) (t : ℕ) (holder : Holder) (i : ℕ) (x : Freeze) (e : Traced) (earlier : List Traced) (added : List Action) (d : DownWrite)
+    (action : Option Action) (z : FreezeStep) → Phase.Freezes (at_freeze x z) ≡ freeze_at c t holder z →
+    (ClosesSay c d (e ∷ earlier) added → StepSays c holder z (e ∷ earlier) added) → IsClosing i (e ∷ earlier) added →
+    ClosingNext c i (e ∷ earlier) (Next.Wait d) action →
+    InvariantAfter (FreezeAt c t holder) c (Op.Freeze holder) (e ∷ earlier) (Next.Wait (Phase.Freezes (at_freeze x z))) (actions_after action added)
+wait_says c t holder i x e earlier added d action z is says level h = grind arith
 
 -- what is said of the closing of a level is said of a freeze, by what comes next
 closing_says : (c : Config) (t : ℕ) (holder : Holder) (i : ℕ) (s : DownWriteStep) (e : Traced) (earlier : List Traced) (added : List Action)
@@ -136,6 +162,12 @@ closing_says : (c : Config) (t : ℕ) (holder : Holder) (i : ℕ) (s : DownWrite
     (action : Option Action) → IsClosing i (e ∷ earlier) added → ClosingNext c i (e ∷ earlier) n action →
     InvariantAfter (FreezeAt c t holder) c (Op.Freeze holder) (e ∷ earlier)
     (map_next Phase.Freezes (after_closing (freeze_of c t holder (FreezeStep.Closes (closing_at c i s))) i n)) (actions_after action added)
+closing_says c t holder i s e earlier added (Next.Wait d) action level h =
+    let x : Freeze = freeze_of c t holder (FreezeStep.Closes (closing_at c i s)) in
+    either_waits (λ z. InvariantAfter (FreezeAt c t holder) c (Op.Freeze holder) (e ∷ earlier) (Next.Wait (Phase.Freezes (at_freeze x z)))
+    (actions_after action added)) d d.step
+    (wait_says c t holder i x e earlier added d action (FreezeStep.Closes d) refl (λ k. k) level h)
+    (wait_says c t holder i x e earlier added d action (FreezeStep.Waits d) refl (λ k. k) level h)
 closing_says c t holder i s e earlier added n action level h = grind arith
 
 -- an event that gives `umount` back leaves what is told
@@ -197,60 +229,208 @@ module _ (c : Config) (lim : IsWithin c) (t : ℕ) (holder : Holder) (value : �
       elim (cases_Bool (has_flag value 4)) [
         | inl f ↦ rw (mark_bit value ∙ f) (
             node_says marks trace (Action.Clean marks.node ∷ added)
-            (rw f (ap (λ (l : List Action). Action.Clean marks.node ∷ l) h.0), h.1, h.2)
+            (rw f (ap (λ (l : List Action). Action.Clean marks.node ∷ l) h.0), h.1, h.2, h.3)
             )
-        | inr f ↦ rw (mark_bit value ∙ f) (node_says marks trace added (rw f h.0, h.1, h.2))
+        | inr f ↦ rw (mark_bit value ∙ f) (node_says marks trace added (rw f h.0, h.1, h.2, h.3))
       ]
 
   sets_fs : (hook : HookAnswer) → StepSays c holder FreezeStep.SetsFs earlier added → TraceAfterStep hook FreezeStep.SetsFs
-  sets_fs hook h = grind arith
+  sets_fs (Ok answer) h = (
+    FreezeStep.Closes (closing_at c 3 (DownWriteStep.Enters Transition.Loads)),
+    refl,
+    (3, DownWriteStep.Enters Transition.Loads, refl, (ap (λ (l : List Action). Action.Stage 3 ∷ l) h.0, h.1, refl, h.3), tt),
+  )
+  sets_fs (Err code) h =
+      let trace : List Traced = longer (Err code) FreezeStep.SetsFs in (
+        FreezeStep.Reopens (reopening 2) code,
+        refl,
+        (
+          2,
+          UpWriteStep.ClearsBlock,
+          refl,
+          (
+            subst (λ g. reopened 2 (Action.Stage 0 ∷ added) ≡ failed_adds g trace) (sym h.3)
+                (rw h.2 (ap (λ (l : List Action). Action.Reopen 1 ∷ (Action.Reopen 2 ∷ (Action.Stage 0 ∷ l))) h.0)),
+            omega arith,
+          ),
+          subst (λ g. ReadAnswer (word_decided g) (Err code) trace) (sym h.3) (inl (refl, refl, refl)),
+        ),
+      )
 
   sets_complete : (hook : HookAnswer) → StepSays c holder FreezeStep.SetsComplete earlier added → TraceAfterStep hook FreezeStep.SetsComplete
-  sets_complete hook h = grind arith
+  sets_complete (Ok answer) h = (FreezeStep.Holds nobody, refl, rw (h.1.1, h.1.0) (ap (λ (l : List Action). Action.Stage 4 ∷ l) h.0))
+  sets_complete (Err code) h =
+      let trace : List Traced = longer (Err code) FreezeStep.SetsComplete in (
+        FreezeStep.Reopens (reopening 3) code,
+        refl,
+        (
+          3,
+          UpWriteStep.ClearsBlock,
+          refl,
+          (
+            subst (λ g. reopened 3 (Action.Stage 0 ∷ added) ≡ failed_adds g trace) (sym h.3)
+                (rw h.2 (ap (λ (l : List Action). Action.Reopen 1 ∷ (Action.Reopen 2 ∷ (Action.Reopen 3 ∷ (Action.Stage 0 ∷ l)))) h.0)),
+            omega arith,
+          ),
+          subst (λ g. ReadAnswer (word_decided g) (Err code) trace) (sym h.3) (inl (refl, refl, refl)),
+        ),
+      )
 
   -- a level is being left, or it is left and the level below it comes
   leaves_on : (i code : ℕ) (from : Transition) (trace : List Traced) (n : TransitionNext) → AreLeft i trace added →
-      ReadAnswer WordName.Stage (Err code) trace →
+      ReadAnswer (word_decided (gave_up trace)) (Err code) trace →
       InvariantAfter (FreezeAt c t holder) c (Op.Freeze holder) trace
       (map_next Phase.Freezes
       (after_reopening (freeze_of c t holder (FreezeStep.Reopens (record { level = suc i; step = UpWriteStep.Exits from }) code)) (suc i) code
       (exit_made (record { level = suc i; step = UpWriteStep.Exits from }) n)))
       added
-  leaves_on i code from trace n h said = grind arith
+  leaves_on i code from trace (TransitionNext.More more) h said = (
+    FreezeStep.Reopens (record { level = suc i; step = UpWriteStep.Exits more }) code,
+    refl,
+    (suc i, UpWriteStep.Exits more, refl, h, said),
+  )
+  leaves_on i code from trace TransitionNext.Undefined h said = (
+    FreezeStep.Reopens (record { level = suc i; step = UpWriteStep.Exits Transition.Loads }) code,
+    refl,
+    (suc i, UpWriteStep.Exits Transition.Loads, refl, h, said),
+  )
+  leaves_on zero code from trace (TransitionNext.Made state) h said = (FreezeStep.Releases (Err (GateError.Hook code)), refl, (h.0, said))
+  leaves_on (suc i) code from trace (TransitionNext.Made state) h said =
+      let down : suc (suc i) - 1 ≡ suc i = omega arith in
+      let some : (suc i == 0) ≡ false = ne_eqb (suc i) 0 (λ e. absurd (omega (arith, e))) in
+      rw (down, some) (FreezeStep.Reopens (reopening (suc i)) code, refl, (suc i, UpWriteStep.ClearsBlock, refl, h, said))
 
-  -- an event on a level's words leaves what is left
-  still_left : (hook : HookAnswer) (i n : ℕ) (transition : Transition) → AreLeft n earlier added →
-      AreLeft n (with_hook (event_of (transition_next i transition).0 (transition_next i transition).1 value) hook ∷ earlier) added
-  still_left hook i zero Transition.Loads h = h
-  still_left hook i zero (Transition.Exchanges from to) h = h
-  still_left hook i (suc zero) Transition.Loads h = h
-  still_left hook i (suc zero) (Transition.Exchanges from to) h = h
-  still_left hook i (suc (suc zero)) Transition.Loads h = h
-  still_left hook i (suc (suc zero)) (Transition.Exchanges from to) h = h
-  still_left hook i (suc (suc (suc zero))) Transition.Loads h = h
-  still_left hook i (suc (suc (suc zero))) (Transition.Exchanges from to) h = h
-  still_left hook i (suc (suc (suc (suc n)))) transition h = absurd h
+  -- an event on a level's words leaves what is left, and which answer was read
+  still_left : (hook : HookAnswer) (code i n : ℕ) (transition : Transition) → AreLeft n earlier added →
+      ReadAnswer (word_decided (gave_up earlier)) (Err code) earlier →
+      let trace : List Traced = with_hook (event_of (transition_next i transition).0 (transition_next i transition).1 value) hook ∷ earlier in
+      AreLeft n trace added × ReadAnswer (word_decided (gave_up trace)) (Err code) trace
+  still_left hook code i n Transition.Loads h said = ((h.0 ∙ failed_same (gave_up earlier) _ earlier refl refl, h.1), inr said)
+  still_left hook code i n (Transition.Exchanges from to) h said = ((h.0 ∙ failed_same (gave_up earlier) _ earlier refl refl, h.1), inr said)
 
   -- a level is reopened
   reopens : (hook : HookAnswer) (i : ℕ) → AreLeft (suc i) earlier added →
       AreLeft i (with_hook (event_of (WordName.Block (suc i)) (Touch.Store 0) value) hook ∷ earlier) (Action.Reopen (suc i) ∷ added)
-  reopens hook zero h = ap (λ (l : List Action). Action.Reopen 1 ∷ l) h
-  reopens hook (suc zero) h = ap (λ (l : List Action). Action.Reopen 2 ∷ l) h
-  reopens hook (suc (suc zero)) h = rw h.1 (ap (λ (l : List Action). Action.Reopen 3 ∷ l) h.0)
-  reopens hook (suc (suc (suc i))) h = absurd h
+  reopens hook zero h = (h.0 ∙ failed_same (gave_up earlier) _ earlier refl refl, omega arith)
+  reopens hook (suc zero) h = (h.0 ∙ failed_same (gave_up earlier) _ earlier refl refl, omega arith)
+  reopens hook (suc (suc zero)) h = (h.0 ∙ failed_same (gave_up earlier) _ earlier refl refl, omega arith)
+  reopens hook (suc (suc (suc i))) h = absurd (omega (arith, h.1))
 
   reopening_event : (hook : HookAnswer) (code i : ℕ) (s : UpWriteStep) → IsReopening i s earlier added →
-      ReadAnswer WordName.Stage (Err code) earlier → TraceAfterStep hook (FreezeStep.Reopens (record { level = i; step = s }) code)
+      ReadAnswer (word_decided (gave_up earlier)) (Err code) earlier → TraceAfterStep hook (FreezeStep.Reopens (record { level = i; step = s }) code)
   reopening_event hook code zero s h said = absurd h
   reopening_event hook code (suc i) (UpWriteStep.Exits transition) h said =
+      let now = still_left hook code (suc i) i transition h said in
       leaves_on i code transition (longer hook (FreezeStep.Reopens (record { level = suc i; step = UpWriteStep.Exits transition }) code))
-      (transition_after on_exit transition (found_by (transition_next (suc i) transition).1 value))
-      (still_left hook (suc i) i transition h) (inr said)
+      (transition_after on_exit transition (found_by (transition_next (suc i) transition).1 value)) now.0 now.1
   reopening_event hook code (suc i) UpWriteStep.ClearsBlock h said = (
     FreezeStep.Reopens (record { level = suc i; step = UpWriteStep.Exits Transition.Loads }) code,
     refl,
     (suc i, UpWriteStep.Exits Transition.Loads, refl, reopens hook i h, inr said),
   )
+
+  -- where the hook has answered Ok, an event of a freeze that waits is one of the closing of its level
+  waits_on : (answer : Unit {0}) (d : DownWrite) → ClosesSay c d earlier added → TraceAfterStep (Ok answer) (FreezeStep.Waits d)
+  waits_on answer d h =
+      let i : ℕ = h.0 in
+      let s : DownWriteStep = h.1 in
+      subst (λ (x : DownWrite). TraceAfterStep (Ok answer) (FreezeStep.Waits x)) (sym h.2) (
+      let closing : DownWrite = closing_at c i s in
+      let found : ℕ = closing_found c lim i value (Ok answer) earlier s in
+      closing_says c t holder i s (with_hook (event_at (freeze_at c t holder (FreezeStep.Closes closing)) value (Ok answer)) (Ok answer)) earlier added
+      (down_write_after closing s found).0 (down_write_after closing s found).1
+      (closing_stays i (closing_trace c lim i value (Ok answer) earlier s) earlier added (closing_leaves c lim i value (Ok answer) earlier s) h.3)
+      (closing_event c lim i value (Ok answer) earlier s h.4)
+      )
+
+  -- else it gives the level up
+  unblocks : (code i : ℕ) → IsClosing i earlier added →
+      GaveUpSay i code (with_hook (event_of (WordName.Block i) (Touch.Store 0) value) (Err code) ∷ earlier) added
+  unblocks code zero h = absurd h
+  unblocks code (suc zero) h =
+      (omega arith, omega arith, ap (λ (l : List Action). Action.Stage 0 ∷ l) h.0.0, refl, inl (refl, refl, refl))
+  unblocks code (suc (suc zero)) h =
+      (omega arith, omega arith, ap (λ (l : List Action). Action.Reopen 1 ∷ (Action.Stage 0 ∷ l)) h.0.0, refl, inl (refl, refl, refl))
+  unblocks code (suc (suc (suc zero))) h = (
+    omega arith,
+    omega arith,
+    ap (λ (l : List Action). Action.Reopen 1 ∷ (Action.Reopen 2 ∷ (Action.Stage 0 ∷ l))) h.0,
+    refl,
+    inl (refl, refl, refl),
+  )
+  unblocks code (suc (suc (suc (suc i)))) h = absurd h
+
+  -- the rcu_sync of the level is being left, or it is left
+  undone_on : (level code : ℕ) (x : Freeze) (trace : List Traced) (n : TransitionNext) →
+      ((z : FreezeStep) → Phase.Freezes (at_freeze x z) ≡ freeze_at c t holder z) → GaveUpSay level code trace added →
+      InvariantAfter (FreezeAt c t holder) c (Op.Freeze holder) trace (map_next Phase.Freezes (after_undoing x level code n)) added
+  undone_on level code x trace (TransitionNext.More more) is h = (FreezeStep.Undoes level more code, is (FreezeStep.Undoes level more code), h)
+  undone_on level code x trace TransitionNext.Undefined is h =
+      (FreezeStep.Undoes level Transition.Loads code, is (FreezeStep.Undoes level Transition.Loads code), h)
+  undone_on level code x trace (TransitionNext.Made state) is h =
+      elim (eqb_tells level 1) [
+        | inl q ↦ rw q.0 (FreezeStep.LocksToUndo code, is (FreezeStep.LocksToUndo code), subst (λ l. GaveUpSay l code trace added) q.1 h)
+        | inr q ↦ rw q.0 (FreezeStep.GivesUp level code, is (FreezeStep.GivesUp level code), h)
+      ]
+
+  undoes : (hook : HookAnswer) (level code : ℕ) (transition : Transition) → GaveUpSay level code earlier added →
+      TraceAfterStep hook (FreezeStep.Undoes level transition code)
+  undoes hook level code Transition.Loads h =
+      undone_on level code (freeze_of c t holder (FreezeStep.Undoes level Transition.Loads code))
+      (longer hook (FreezeStep.Undoes level Transition.Loads code)) (transition_after on_exit Transition.Loads value) (λ z. refl)
+      (h.0, h.1, h.2 ∙ failed_same level _ earlier refl refl, h.3, inr h.4)
+  undoes hook level code (Transition.Exchanges from to) h =
+      undone_on level code (freeze_of c t holder (FreezeStep.Undoes level (Transition.Exchanges from to) code))
+      (longer hook (FreezeStep.Undoes level (Transition.Exchanges from to) code))
+      (transition_after on_exit (Transition.Exchanges from to) (found_by (transition_next level (Transition.Exchanges from to)).1 value)) (λ z. refl)
+      (h.0, h.1, h.2 ∙ failed_same level _ earlier refl refl, h.3, inr h.4)
+
+  locks_to_undo : (hook : HookAnswer) (code : ℕ) → GaveUpSay 1 code earlier added → TraceAfterStep hook (FreezeStep.LocksToUndo code)
+  locks_to_undo hook code h = grind arith
+
+  -- stage 0 is stored
+  gives_up : (hook : HookAnswer) (code level : ℕ) → GaveUpSay level code earlier added → TraceAfterStep hook (FreezeStep.GivesUp level code)
+  gives_up hook code zero h = absurd (omega (arith, h.0))
+  gives_up hook code (suc zero) h =
+      let trace : List Traced = longer hook (FreezeStep.GivesUp 1 code) in (
+        FreezeStep.Releases (Err (GateError.Hook code)),
+        refl,
+        (
+          subst (λ g. Action.Stage 0 ∷ added ≡ failed_adds g trace) (sym h.3) (h.2 ∙ failed_same 1 trace earlier refl refl),
+          subst (λ g. ReadAnswer (word_decided g) (Err code) trace) (sym h.3) (inr h.4),
+        ),
+      )
+  gives_up hook code (suc (suc zero)) h =
+      let trace : List Traced = longer hook (FreezeStep.GivesUp 2 code) in (
+        FreezeStep.Reopens (reopening 1) code,
+        refl,
+        (
+          1,
+          UpWriteStep.ClearsBlock,
+          refl,
+          (
+            subst (λ g. reopened 1 (Action.Stage 0 ∷ added) ≡ failed_adds g trace) (sym h.3) (h.2 ∙ failed_same 2 trace earlier refl refl),
+            omega arith,
+          ),
+          subst (λ g. ReadAnswer (word_decided g) (Err code) trace) (sym h.3) (inr h.4),
+        ),
+      )
+  gives_up hook code (suc (suc (suc zero))) h =
+      let trace : List Traced = longer hook (FreezeStep.GivesUp 3 code) in (
+        FreezeStep.Reopens (reopening 2) code,
+        refl,
+        (
+          2,
+          UpWriteStep.ClearsBlock,
+          refl,
+          (
+            subst (λ g. reopened 2 (Action.Stage 0 ∷ added) ≡ failed_adds g trace) (sym h.3) (h.2 ∙ failed_same 3 trace earlier refl refl),
+            omega arith,
+          ),
+          subst (λ g. ReadAnswer (word_decided g) (Err code) trace) (sym h.3) (inr h.4),
+        ),
+      )
+  gives_up hook code (suc (suc (suc (suc level)))) h = absurd (omega (arith, h.1))
 
   freeze_event : (hook : HookAnswer) (step : FreezeStep) → StepSays c holder step earlier added → TraceAfterStep hook step
   freeze_event hook FreezeStep.Locks h = locks hook h
@@ -259,15 +439,22 @@ module _ (c : Config) (lim : IsWithin c) (t : ℕ) (holder : Holder) (value : �
   freeze_event hook FreezeStep.LoadsHolders h = loads_holders hook h
   freeze_event hook (FreezeStep.Holds beside) h = (FreezeStep.Releases (Ok Reply.Unit), refl, (ap (λ (l : List Action). Action.Hold holder ∷ l) h, tt))
   freeze_event hook FreezeStep.CompletesReadOnly h = (FreezeStep.Holds nobody, refl, rw (h.2, h.1) (ap (λ (l : List Action). Action.Stage 4 ∷ l) h.0))
-  freeze_event hook FreezeStep.SetsWrite h = (FreezeStep.Unlocks, refl, ((ap (λ (l : List Action). Action.Stage 1 ∷ l) h.0.0, h.0.1, h.0.2), h.1))
+  freeze_event hook FreezeStep.SetsWrite h = (FreezeStep.Unlocks, refl, ((ap (λ (l : List Action). Action.Stage 1 ∷ l) h.0.0, h.0.1, h.0.2, h.0.3), h.1))
   freeze_event hook FreezeStep.Unlocks h =
       (FreezeStep.Closes (closing_at c 1 (DownWriteStep.Enters Transition.Loads)), refl, (1, DownWriteStep.Enters Transition.Loads, refl, h, tt))
   freeze_event hook (FreezeStep.Closes d) h = closes hook d h
+  freeze_event (Ok answer) (FreezeStep.Waits d) h = waits_on answer d h
+  freeze_event (Err code) (FreezeStep.Waits d) h =
+      subst (λ (x : DownWrite). TraceAfterStep (Err code) (FreezeStep.Waits x)) (sym h.2)
+      (FreezeStep.Undoes h.0 Transition.Loads code, refl, unblocks code h.0 h.3)
+  freeze_event hook (FreezeStep.Undoes level transition code) h = undoes hook level code transition h
+  freeze_event hook (FreezeStep.LocksToUndo code) h = locks_to_undo hook code h
+  freeze_event hook (FreezeStep.GivesUp level code) h = gives_up hook code level h
   freeze_event hook FreezeStep.LocksAgain h = locks_again hook h
   freeze_event hook FreezeStep.SetsPageFault h = (
     FreezeStep.Closes (closing_at c 2 (DownWriteStep.Enters Transition.Loads)),
     refl,
-    (2, DownWriteStep.Enters Transition.Loads, refl, ((ap (λ (l : List Action). Action.Stage 2 ∷ l) h.0.0, h.0.1, h.0.2), h.1), tt),
+    (2, DownWriteStep.Enters Transition.Loads, refl, ((ap (λ (l : List Action). Action.Stage 2 ∷ l) h.0.0, h.0.1, h.0.2, h.0.3), h.1), tt),
   )
   freeze_event hook (FreezeStep.Cleans marks) h = clears hook marks h
   freeze_event hook FreezeStep.SetsFs h = sets_fs hook h
@@ -278,7 +465,7 @@ module _ (c : Config) (lim : IsWithin c) (t : ℕ) (holder : Holder) (value : �
 
 pub freeze_inductive : (c : Config) → IsWithin c → (t : ℕ) (holder : Holder) → IsInductive (FreezeAt c t holder) c t (Op.Freeze holder)
 freeze_inductive c lim t holder = record {
-  first = (FreezeStep.Locks, refl, ((refl, (refl, refl), refl), refl));
+  first = (FreezeStep.Locks, refl, ((refl, (refl, refl), refl, refl), refl));
   more = λ phase value hook earlier added here.
       subst (λ (x : Phase). InvariantAfterStep (FreezeAt c t holder) c (Op.Freeze holder) x value hook earlier added) (sym here.1)
       (freeze_event c lim t holder value earlier added hook here.0 here.2);
@@ -294,11 +481,19 @@ pub freeze_short : (c : Config) (holder : Holder) → IsWithin c → (t : ℕ) (
     IsShort (most_events c (Op.Freeze holder)) trace
 freeze_short c holder lim t trace h = is_short (FreezeAt c t holder) c t (Op.Freeze holder) (freeze_inductive c lim t holder) trace h
 
--- what a freeze has added where it is refused leaves what its task held
-pub freeze_restores : (holder : Holder) (refusal : GateError) (trace : List Traced) (before : List Action) →
-    LeaveAccesses (actions_of (Op.Freeze holder) (Err refusal) trace) before
-freeze_restores holder (GateError.Hook code) trace before =
+-- what a freeze has added whose hook failed does so, whichever level it gave up
+failed_leaves : (g : ℕ) (trace : List Traced) (before : List Action) → LeaveAccesses (failed_adds g trace) before
+failed_leaves zero trace before =
     let closed : LeaveAccesses (two_levels_closed trace) before =
     cleans_leave trace (Action.Pass 2 ∷ (Action.Stage 2 ∷ (Action.Pass 1 ∷ (Action.Stage 1 ∷ [])))) before refl in
     elim (cases_Bool (stored_stage 3 trace)) [ inl f ↦ rw f closed | inr f ↦ rw f closed ]
+failed_leaves (suc zero) trace before = refl
+failed_leaves (suc (suc zero)) trace before = refl
+failed_leaves (suc (suc (suc g))) trace before =
+    cleans_leave trace (Action.Pass 2 ∷ (Action.Stage 2 ∷ (Action.Pass 1 ∷ (Action.Stage 1 ∷ [])))) before refl
+
+-- what a freeze has added where it is refused leaves what its task held
+pub freeze_restores : (holder : Holder) (refusal : GateError) (trace : List Traced) (before : List Action) →
+    LeaveAccesses (actions_of (Op.Freeze holder) (Err refusal) trace) before
+freeze_restores holder (GateError.Hook code) trace before = failed_leaves (gave_up trace) trace before
 freeze_restores holder refusal trace before = refl

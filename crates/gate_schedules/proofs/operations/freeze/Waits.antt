@@ -1,16 +1,17 @@
 -- A freeze waits only where another task has `umount`, where one is inside a read-side section, or where something was counted at the level
 -- that it closes, and is refused only for its cause.
-use Rattle.std.proofs.Common.{◌≡◌, ℕ, ◌+◌, ◌%◌, ◌<◌, ◌≤◌, true, refl, sym, ap, ◌∙◌, inl, inr, arith}
+use Rattle.std.proofs.Common.{◌≡◌, ℕ, ◌+◌, ◌%◌, ◌<◌, ◌≤◌, true, refl, sym, ap, ◌∙◌, subst, inl, inr, arith}
 use Rattle.std.proofs.lemmas.Bool.{cases_Bool, ltb-false, eq-eqb, Decides.eqb_tells}
 use Rattle.std.specs.Prelude.{nat_lt, Some, Ok, Err, List, ◌⊎◌}
 use Rattle.access_model.specs.{Replies.map_next, declared.{errors.GateError.GateError, replies.Next.Next}}
-use Rattle.cpu_words.specs.{Hooks.HookAnswer, Touches.wrap_add, declared.sums.Sum.Sum}
+use Rattle.cpu_words.specs.{Hooks.HookAnswer, Touches.{found_by, wrap_add}, Words.read, declared.sums.Sum.Sum}
 use Rattle.node_words.specs.{Phases.{clear_after}, declared.marks.ClearMarks.{ClearMarks}}
-use Rattle.percpu_rwsem.specs.{Graces.{is_first, passed_on}, SyncWords.{is_passed, is_queued}}
-use Rattle.percpu_rwsem.specs.Writers.{down_write_after, at_down_write, sections_awaited, up_write_after}
+use Rattle.percpu_rwsem.specs.{Graces.{is_first, passed_on}, SyncWords.{is_passed, is_queued, on_exit}, Transitions.transition_after}
+use Rattle.percpu_rwsem.specs.declared.transitions.TransitionNext.{TransitionNext}
+use Rattle.percpu_rwsem.specs.Writers.{down_write_after, down_write_next, at_down_write, sections_awaited, up_write_after}
 use Rattle.percpu_rwsem.specs.declared.{grace.Grace.Grace, sync_word.GpState.GpState}
 use Rattle.percpu_rwsem.specs.declared.writers.{DownWrite.DownWrite, DownWriteStep.DownWriteStep, UpWrite.UpWrite, UpWriteStep.UpWriteStep}
-use Rattle.freeze_levels.specs.{Freezes.{at_freeze, after_closing, after_clearing, after_reopening}, declared.freezes.{Freeze.Freeze, FreezeStep.FreezeStep}}
+use Rattle.freeze_levels.specs.{Freezes.{at_freeze, after_closing, after_clearing, after_reopening, after_undoing}, declared.freezes.{Freeze.Freeze, FreezeStep.FreezeStep}}
 use Rattle.freeze_laws.proofs.levels.CitedLaws.{writers_find}
 use Rattle.freeze_laws.specs.levels.{Changes.{state_found, state_found_in}, Events.SyncLevelHolds, Operations.down_write_role}
 use Rattle.freeze_laws.specs.levels.Roles.{Entered, entered, entering, closed}
@@ -85,6 +86,21 @@ module _ (c : Config) (w : World) (earlier : List World) (good : IsGood c w) (t 
           ]
         ]
 
+    -- so it is of a sum that begins after a wait
+    sum_again : (sum : Sum) → sum.words < c.processors → d.processors ≡ c.processors → DownWriteCause c t w earlier d.level (DownWriteStep.Sums sum) →
+        Waits (FreezeStep.Waits (at_down_write d (DownWriteStep.Sums sum)))
+        (after_closing x d.level (down_write_after d (DownWriteStep.Sums sum) (w.words.level d.level sum.words)).0)
+    sum_again sum there same h =
+        elim (cases_Bool (nat_lt (sum.words + 1) d.processors)) [
+          | inl more ↦ rw more tt
+          | inr less ↦ elim (eqb_tells (wrap_add sum.total (w.words.level d.level sum.words)) 0) [
+            | inl z ↦ rw (less, z.0) tt
+            | inr z ↦
+                rw (less, z.0) (level_ends c t d.level w earlier sum h there
+                (omega (arith, there, same, ltb-false (sum.words + 1) d.processors less)) z.1)
+          ]
+        ]
+
     closing_waits : (hook : HookAnswer) (s : DownWriteStep) →
         (w.views t).phase ≡ Some (Phase.Freezes (at_freeze x (FreezeStep.Closes (at_down_write d s)))) → d.processors ≡ c.processors →
         DownWriteStepFits c s → DownWriteCause c t w earlier d.level s →
@@ -111,6 +127,11 @@ module _ (c : Config) (w : World) (earlier : List World) (good : IsGood c w) (t 
       Waits s (after_reopening x level code (up_write_after u step found).0)
   reopening_waits s u step level code found = grind arith
 
+  undoing_waits : (s : FreezeStep) (level code : ℕ) (n : TransitionNext) → Waits s (after_undoing x level code n)
+  undoing_waits s level code (TransitionNext.More transition) = tt
+  undoing_waits s level code TransitionNext.Undefined = tt
+  undoing_waits s level code (TransitionNext.Made state) = tt
+
   clearing_waits : (s : FreezeStep) (marks : ClearMarks) (found : ℕ) → Waits s (after_clearing x (clear_after marks found).0)
   clearing_waits s marks found = elim (cases_Bool (nat_lt (marks.node + 1) marks.nodes)) [ inl h ↦ rw h tt | inr h ↦ rw h tt ]
 
@@ -130,6 +151,19 @@ module _ (c : Config) (w : World) (earlier : List World) (good : IsGood c w) (t 
       ]
   freeze_waits hook FreezeStep.LoadsSuperblock e f h = elim (eqb_tells w.words.sb 0) [ inl k ↦ rw k.0 tt | inr k ↦ rw k.0 tt ]
   freeze_waits hook (FreezeStep.Closes d) e f h = closing_waits d f.0 f.1 hook d.step e f.3 f.4 h
+  freeze_waits (Ok answer) (FreezeStep.Waits d) e f h =
+      subst (λ s. DownWriteStepFits c s → DownWriteCause c t w earlier d.level s → Waits (FreezeStep.Waits (at_down_write d s))
+      (after_closing x d.level (down_write_after d s (found_by (down_write_next d s).1 (read w.words (down_write_next d s).0))).0)) (sym f.1)
+      (λ there cause. sum_again d f.0.0 f.0.1 (record { words = 0; total = 0 }) there f.0.3 cause) f.0.4 h
+  freeze_waits (Err code) (FreezeStep.Waits d) e f h = tt
+  freeze_waits hook (FreezeStep.Undoes level transition code) e f h =
+      undoing_waits (FreezeStep.Undoes level transition code) level code
+      (transition_after on_exit transition (found_at w.words (Phase.Freezes (at_freeze x (FreezeStep.Undoes level transition code))) hook))
+  freeze_waits hook (FreezeStep.LocksToUndo code) e f h =
+      elim (eqb_tells w.words.umount 0) [
+        | inl k ↦ rw k.0 tt
+        | inr k ↦ rw k.0 (umount_taken c w good t lt (Phase.Freezes (at_freeze x (FreezeStep.LocksToUndo code))) (λ y own. own) k.1 (ap owns e))
+      ]
   freeze_waits hook FreezeStep.LocksAgain e f h =
       elim (eqb_tells w.words.umount 0) [
         | inl k ↦ rw k.0 tt

@@ -2,7 +2,10 @@
 use Rattle.finite_sums.proofs.Totals.{total_at}
 use Rattle.finite_sums.specs.Sums.{total}
 use Rattle.cpu_words.proofs.gate_counts.LevelLaws.{none_frozen, none_passed}
-use Rattle.cpu_words.specs.gate_counts.{Gates.past, Levels.{Passed}}
+use Rattle.cpu_words.specs.gate_counts.{Gates.past, Levels.{LevelRole, Passed}}
+use Rattle.freeze_levels.specs.declared.freezes.FreezeStep.{FreezeStep}
+use Rattle.percpu_rwsem.specs.declared.writers.DownWriteStep.{DownWriteStep}
+use Rattle.gate_world.specs.Roles.{count_beside, down_count_role, freeze_position, freeze_stage_role, place_of, position_count}
 use Rattle.gate_schedules.proofs.{frames.Stages.{stages_in, stages_right}}
 use Rattle.gate_world.specs.{Levels.{at_level, is_frozen_whole, level_role_of}, Operations.{is_writer, some_mount}}
 use Rattle.gate_world.specs.{Rules.{AtLevel, AtMount, IsGood, MountHoldsIn, Owner, Stages}}
@@ -10,10 +13,10 @@ use Rattle.gate_world.specs.{Rules.{at_mount, stage_role_of, stage_roles}, Views
 use Rattle.gate_world.specs.declared.{config.Config.Config, work.Phase.Phase}
 use Rattle.mount_counts.specs.{Roles.{mount_as_gate, ro_bit}}
 use Rattle.freeze_laws.proofs.stages.CitedLaws.{freeze_is_under_way}
-use Rattle.freeze_laws.specs.stages.Roles.{Freezing, Place, passed_by}
-use Rattle.std.proofs.{Common.{Bool, ap, arith, false, inl, inr, refl, suc, sym, true, true≢false, zero, ℕ, ◌<◌, ◌≡◌, ◌≤◌, ◌⊎◌}, lemmas.Bool.cases_Bool}
+use Rattle.freeze_laws.specs.stages.Roles.{Freezing, Place, passed_at, passed_by}
+use Rattle.std.proofs.{Common.{Bool, ap, arith, false, inl, inr, refl, suc, sym, true, true≢false, zero, ℕ, ◌-◌, ◌<◌, ◌≡◌, ◌≤◌, ◌⊎◌}, lemmas.Bool.cases_Bool}
 use Rattle.std.proofs.lemmas.Bool.{cases_lt, ltb-true}
-use Rattle.std.specs.Prelude.{Option, ◌&&◌}
+use Rattle.std.specs.Prelude.{Option, Some, nat_lt, ◌&&◌, ◌==◌}
 
 pub both_true : (a b : Bool) → (a && b) ≡ true → (a ≡ true) × (b ≡ true)
 both_true true b h = (refl, h)
@@ -30,7 +33,22 @@ mount_there (suc n) held h =
 place_passed : (stage : ℕ) (place : Place) (owner : Bool) → stage ≤ suc (passed_by (Freezing stage place owner))
 place_passed stage place owner = grind arith
 
+below_there : (i level : ℕ) (r : LevelRole) → 1 ≤ i → i ≤ level - 1 → count_beside (i == level) (nat_lt i level) r ≡ Passed
+below_there i level r low le = grind arith
+
+place_below : (level : ℕ) (s : DownWriteStep) → passed_at level (place_of s) ≡ level - 1
+place_below level s = grind arith
+
+freeze_there : (i : ℕ) → 1 ≤ i → (nodes : ℕ) (s : FreezeStep) → i ≤ passed_by (freeze_stage_role nodes s) →
+    position_count i (freeze_position s) ≡ Passed
+freeze_there i low nodes (FreezeStep.Closes d) le =
+    below_there i d.level (down_count_role d.step) low (omega (arith, le, place_below d.level d.step))
+freeze_there i low nodes (FreezeStep.Waits d) le =
+    below_there i d.level (down_count_role d.step) low (omega (arith, le, place_below d.level d.step))
+freeze_there i low nodes s le = grind arith
+
 pub passed_there : (i : ℕ) → 1 ≤ i → (p : Option Phase) → i ≤ passed_by (stage_role_of p) → level_role_of i p ≡ Passed
+passed_there i low (Some (Phase.Freezes x)) le = freeze_there i low x.nodes x.step le
 passed_there i low p le = grind arith
 
 -- What nobody has shut: the superblock is writable and no remount has set `remount`, the stage is below 3, and no task has passed this

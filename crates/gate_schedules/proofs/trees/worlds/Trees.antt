@@ -17,7 +17,7 @@ use Rattle.percpu_rwsem.specs.declared.writers.{DownWriteStep.DownWriteStep, UpW
 use Rattle.freeze_laws.specs.stages.Roles.{CleanBelow, Freezing, KnowsStage, MarksHold, clean_by}
 use Rattle.std.proofs.{Common.{Bool, ap, arith, inl, inr, refl, subst, suc, sym, zero, ℕ, ◌<◌, ◌≡◌, ◌≤◌}, lemmas.Bool.le-leb}
 use Rattle.std.proofs.lemmas.Bool.Decides.{eqb_tells}
-use Rattle.std.specs.Prelude.{List, None, Option, Some, false, nat_lt}
+use Rattle.std.specs.Prelude.{List, None, Option, Some, false, nat_lt, true}
 use Rattle.gate_schedules.proofs.trees.Each.{each_event}
 use Rattle.gate_schedules.specs.trees.Events.{Event}
 
@@ -111,6 +111,9 @@ module _ (c : Config) (w : World) (good : IsGood c w) where
   freeze_clean : (nodes : ℕ) (holder : Holder) (s : FreezeStep) (t : ℕ) → t < c.tasks → nodes ≡ c.nodes → FreezeFits c holder s →
       tree_roles w t ≡ freeze_tree_role nodes s → CleanBelow (clean_by (freeze_stage_role nodes s)) (marks_of w.words)
   freeze_clean nodes holder (Closes d) t lt same fits is = closing_clean d.level d.step (nat_lt 1 d.level)
+  freeze_clean nodes holder (FreezeStep.Waits d) t lt same fits is = closing_clean d.level d.step (nat_lt 1 d.level)
+  freeze_clean nodes holder (FreezeStep.Undoes level transition code) t lt same fits is = closing_clean level DownWriteStep.SetsBlock (nat_lt 1 level)
+  freeze_clean nodes holder (FreezeStep.GivesUp level code) t lt same fits is = closing_clean level DownWriteStep.SetsBlock true
   freeze_clean nodes holder (FreezeStep.Cleans marks) t lt same fits is = cleared_clean marks.node (omega (arith, fits.2)) t lt is
   freeze_clean nodes holder FreezeStep.SetsFs t lt same fits is = cleared_clean nodes (omega (arith, same)) t lt is
   freeze_clean nodes holder (FreezeStep.Reopens u code) t lt same fits is = reopening_clean u.level u.step

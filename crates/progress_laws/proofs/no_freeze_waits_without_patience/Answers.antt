@@ -1,0 +1,10 @@
+use Rattle.gate_schedules.proofs.schedules.HeadlineProof.{whole_rule}
+use Rattle.gate_world.specs.Headline.{world_after}
+use Rattle.progress_laws.proofs.GivingUp.{replies_or_thaw, settles_impatiently}
+use Rattle.progress_laws.proofs.no_freeze_waits_without_patience.Goals as goal
+
+pub returns-clause-replies : goal.returns-clause-replies
+returns-clause-replies start c lim entries = replies_or_thaw c lim (world_after c entries) (whole_rule c lim entries)
+
+pub returns-clause-beside_lost : goal.returns-clause-beside_lost
+returns-clause-beside_lost start c lim lost entries = settles_impatiently c lim lost (world_after c entries) (whole_rule c lim entries)

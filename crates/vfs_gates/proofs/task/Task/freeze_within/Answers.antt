@@ -1,0 +1,12 @@
+-- the freeze asks the file system's hooks by those with a limit
+use Rattle.std.proofs.Common.{rules}
+use Rattle.gate_world.specs.declared.operations.Op.TheVariants.{Freeze as FreezeOp}
+use Rattle.vfs_gates.specs.Patience.{with_deadline}
+use Rattle.vfs_gates.proofs.OwnHooks.{own_end}
+use Rattle.vfs_gates.proofs.task.Task.freeze_within.Goals as goal
+
+pub returns : goal.returns
+returns g c =
+    own_end (λ s. s.hooks.ghost_name) (λ s. s.hooks.now) _ (with_deadline g.H.TimedHooks.answers) (λ call at before after answer asked. asked)
+    (FreezeOp c.args.holder) c.args.self.now c.freeze-outcome.new.self c.freeze-outcome.result _ c.freeze-outcome.new.hooks
+    c.freeze-outcome.ensures _ (search rules)
