@@ -1,7 +1,7 @@
 #!/bin/bash
 # Tests the gates from C, Rust and Python with this machine's own compilers. It builds and installs the C library into out/c, compiles the header as
-# C and C++, runs the C and Python programs and the tests of the Rust crate, C programs also under the thread sanitizer where it can, and says what
-# it does. A difference ends it.
+# C and C++, runs the C and Python programs and the tests of the Rust crate, C programs also under the thread sanitizer where it can, has bin/mntgate judge
+# what the recording library writes, and says what it does. A difference ends it.
 #
 #     bindings/test.sh
 set -euo pipefail
@@ -45,11 +45,15 @@ test_header() {
     done
 }
 
-# Compiles a C program against what was installed.
+# Compiles a C program against what was installed: the library in this folder.
+compile_with() {
+    local library=$1 source=$2 program=$3
+    shift 3
+    "$compiler" -std=c11 -O2 -D_GNU_SOURCE "${strict[@]}" -I"$prefix/include" -o "$program" "$source" "$@" "$library/libmntgate.a" -lpthread
+}
+
 compile() {
-    local source=$1 program=$2
-    shift 2
-    "$compiler" -std=c11 -O2 -D_GNU_SOURCE "${strict[@]}" -I"$prefix/include" -o "$program" "$source" "$@" "$prefix/lib/libmntgate.a" -lpthread
+    compile_with "$prefix/lib" "$@"
 }
 
 test_c() {
@@ -62,9 +66,38 @@ test_c() {
     expect "$(cat bindings/c/examples/first.stdout)" "$work/first"
     compile bindings/c/examples/remount.c "$work/remount"
     expect "$(cat bindings/c/examples/remount.stdout)" "$work/remount"
+    compile bindings/c/examples/pool.c "$work/pool"
+    expect "$(cat bindings/c/examples/pool.stdout)" "$work/pool"
     compile bindings/c/examples/log_backup.c "$work/log_backup"
     expect "without the gates: backups are torn" "$work/log_backup" without
     expect "with the gates: no backup is torn" "$work/log_backup" with
+}
+
+# Fails unless some execution of the model has the history in this file, whose calls are as many as a pattern says.
+expect_possible() {
+    local pattern=$1 came
+    came=$("$root/bin/mntgate" validate --limit 60000000 "$2" 2>"$work/said") || { cat "$work/said" >&2; say "$2 isn't possible"; exit 1; }
+    [[ $came =~ ^possible:\ $pattern\ calls ]] || { say "$2: $came"; exit 1; }
+}
+
+# The library that records: it does the same, and what it writes is possible. A file that can't be written is told, and the program goes on.
+test_recording() {
+    local recording=$prefix/lib/mntgate-recording
+    diff <(nm -D --defined-only "$recording/libmntgate.so" | cut -d ' ' -f 3) <(nm -D --defined-only "$prefix/lib/libmntgate.so" | cut -d ' ' -f 3)
+    compile_with "$recording" bindings/c/tests/calls.c "$work/calls"
+    expect "all calls" "$work/calls"
+    expect "all calls" env MNTGATE_HISTORY="$work/calls.history" "$work/calls"
+    expect_possible 323 "$work/calls.history"
+    expect "all calls" env MNTGATE_HISTORY="$work/none/calls.history" "$work/calls"
+    grep -q "^mntgate: no history is recorded: $work/none/calls.history: No such file or directory" "$work/said"
+    expect "all calls" env MNTGATE_HISTORY=/dev/full "$work/calls"
+    grep -q '^mntgate: the history ends here: No space left on device' "$work/said"
+    compile_with "$recording" bindings/c/tests/histories.c "$work/histories"
+    MNTGATE_HISTORY=$work/threads.history "$work/histories" 4 400 1 300 >"$work/said"
+    expect_possible '[0-9]*' "$work/threads.history"
+    MNTGATE_LIBRARY=$recording/libmntgate.so.1 MNTGATE_HISTORY=$work/remount.history \
+        expect "$(cat bindings/python/examples/remount.stdout)" python3 -B bindings/python/examples/remount.py
+    expect_possible '[0-9]*' "$work/remount.history"
 }
 
 # Prints the first compiler here that has the runtime of the thread sanitizer.
@@ -120,6 +153,8 @@ if [[ -n $(thread_sanitizer) ]]; then
 else
     say "no compiler here has the thread sanitizer's runtime: its tests are left out"
 fi
+say "records histories, and judges them"
+test_recording
 say "runs the Python programs"
 test_python
 say "runs the tests of the Rust crate"

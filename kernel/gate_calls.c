@@ -26,6 +26,8 @@ void open_gates(void) {
     }
 }
 
+int have_gates(void) { return gates[0] > 0; }
+
 static const unsigned long commands[VERBS] = {
     [FREEZE] = GATES_FREEZE,          [THAW] = GATES_THAW,   [WANT] = GATES_WANT,           [DROP] = GATES_DROP,
     [WANT_WRITE] = GATES_WANT_WRITE,  [START] = GATES_START, [DROP_WRITE] = GATES_DROP_WRITE, [TRY_START] = GATES_TRYSTART,
@@ -63,7 +65,7 @@ static void note(struct task *task, const struct call *call) {
 /* Does a call of the gates, and hands out its errno. One that gives back what the task doesn't hold is EDEADLK, and not done: the gates call
  * that Order. */
 int call_gates(struct task *task, const struct call *call) {
-    struct gates_call given = {.argument = call->argument};
+    struct gates_call given = {.argument = call->argument, .hook = call->hook, .error = call->error};
     if (commands[call->verb] == 0) return ENOSYS;
     if (!holds_enough(task, call)) return EDEADLK;
     if (call->verb != FREEZE && call->verb != THAW) move_to(call->processor);
@@ -99,23 +101,54 @@ void stamp(unsigned long long *at) {
     *at = given.returned;
 }
 
-static void say_counts(const char *name, int number, const int *counts) {
-    for (int i = 0; i < processors && i < GATES_PROCESSORS; i++) say(" %s%d.cpu%d %d", name, number, i, counts[i]);
+/* Whether the readers of each level would take its fast path; true where the module isn't loaded. */
+int are_levels_idle(void) {
+    struct gates_words words;
+    if (!have_gates()) return 1;
+    need(ioctl(gates[0], GATES_WORDS, &words) == 0, "the words");
+    return !words.levels[0].state && !words.levels[1].state && !words.levels[2].state;
 }
 
-/* Says the words behind the gates: "words NAME VALUE ..". */
+/* Says a word that isn't 0. */
+static void say_word(const char *name, long value) {
+    if (value) say(" %s %ld", name, value);
+}
+
+static void say_numbered(const char *name, int number, long value) {
+    char numbered[LINE];
+    snprintf(numbered, sizeof numbered, "%s%d", name, number);
+    say_word(numbered, value);
+}
+
+static void say_counts(const char *name, int number, const int *counts) {
+    char counted[LINE / 2];
+    for (int i = 0; i < processors && i < GATES_PROCESSORS; i++) {
+        snprintf(counted, sizeof counted, "%s%d.cpu", name, number);
+        say_numbered(counted, i, counts[i]);
+    }
+}
+
+/* Says the words behind the gates that aren't 0: "words NAME VALUE ..". */
 void say_words(void) {
     struct gates_words words[MOUNTS];
     for (int i = 0; i < MOUNTS; i++) need(ioctl(gates[i], GATES_WORDS, &words[i]) == 0, "the words");
     const struct gates_words *first = &words[0];
-    say("words umount %u stage %u kernel %u user %u sb %u remount %u removed %u", first->umount, first->stage, first->kernel_freezes,
-        first->user_freezes, first->read_only, first->remount, first->removed);
+    say("words");
+    say_word("umount", first->umount);
+    say_word("stage", first->stage);
+    say_word("kernel", first->kernel_freezes);
+    say_word("user", first->user_freezes);
+    say_word("sb", first->read_only);
+    say_word("remount", first->remount);
+    say_word("removed", first->removed);
     for (int i = 0; i < MOUNTS; i++) {
-        say(" flags%d %u", i, words[i].mount_flags);
+        say_numbered("flags", i, words[i].mount_flags);
         say_counts("mount", i, words[i].writers);
     }
     for (int i = 0; i < LEVELS; i++) {
-        say(" block%d %u state%d %u entered%d %u", i + 1, first->levels[i].block, i + 1, first->levels[i].state, i + 1, first->levels[i].entered);
+        say_numbered("block", i + 1, first->levels[i].block);
+        say_numbered("state", i + 1, first->levels[i].state);
+        say_numbered("entered", i + 1, first->levels[i].entered);
         say_counts("level", i + 1, first->levels[i].readers);
     }
     say("\n");

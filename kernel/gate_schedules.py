@@ -11,10 +11,14 @@ TASKS, MOUNTS, LEVELS, PROCESSORS = 4, 3, 3, 2
 # Task 4 only tells where the answers to a question end, and task 5 runs the callbacks that the kernel is seen to have run.
 RUNNER = TASKS + 1
 CONFIG = f"config {TASKS + 2} {PROCESSORS} {MOUNTS} 2 8"
-GP_EXIT = 3
+GP_EXIT, GP_REPLAY = 3, 4
 
-WEIGHTS = {"want": 5, "drop": 6, "wantwrite": 5, "dropwrite": 6, "start": 8, "trystart": 6, "end": 9, "freeze": 6, "thaw": 7, "bind": 3,
-           "setattr": 2, "remount": 3, "spare": 1}
+# The words behind the gates by the guest's names: those of the superblock, of each mount and of each level.
+WORDS = ["umount", "stage", "kernel", "user", "sb", "remount", "removed"]
+WORDS += [f"flags{mount}" for mount in range(MOUNTS)]
+WORDS += [f"{name}{level}" for level in range(1, LEVELS + 1) for name in ("block", "state", "entered")]
+COUNTS = [f"mount{mount}" for mount in range(MOUNTS)] + [f"level{level}" for level in range(1, LEVELS + 1)]
+WORDS += [f"{count}.cpu{cpu}" for count in COUNTS for cpu in range(PROCESSORS)]
 # A call that the kernel hasn't ended yet is looked at again for so many seconds.
 PATIENCE = 10
 
@@ -26,52 +30,53 @@ def read_guest(line):
 
 
 def read_words(line):
-    """The words that the guest told, by name."""
+    """The words that the guest told, by name; it tells those that aren't 0."""
     parts = line.split(" ")
-    if parts[0] != "words" or len(parts) % 2 == 0:
+    told = dict(zip(parts[1::2], parts[2::2]))
+    if parts[0] != "words" or len(parts) != 1 + 2 * len(told) or not told.keys() <= set(WORDS):
         raise schedules.Unreadable(f"the guest told its words as '{line}'")
-    return {name: int(value) for name, value in zip(parts[1::2], parts[2::2])}
+    return {name: int(told.get(name, 0)) for name in WORDS}
 
 
 class Replay(schedules.Replay):
-    """A replay whose calls are the gates' own, and its words as the guest tells them."""
+    """A replay whose calls are the gates' own, and its words as the guest tells them. `put_off` are tasks whose call the gates aren't asked for yet."""
+
+    put_off = frozenset()
 
     def __init__(self, program, log):
         super().__init__(program, log, CONFIG)
 
     def do(self, task, words):
         """Does a call, and hands out its answer. One that waits goes on when it is looked at."""
+        if words[0] != "look":
+            self.failing[task] = schedules.part_that_fails(words)
         begins = [] if words[0] == "look" else [f"{task} {' '.join(as_call(words))}"]
-        printed = self.ask(*begins, f"{task} run")
-        found = re.fullmatch(rf"{task} (ok|waiting|refused .*)", printed[0]) if len(printed) == 1 else None
-        if not found:
-            raise schedules.Unreadable(f"the replay answered {printed}")
+        found = self.run(task, begins, "ok|waiting|refused .*")
         return "waits" if found[1] == "waiting" else found[1]
 
     def words(self):
         """The words, by the guest's names. That of `umount` is whether it is taken."""
         told = {name: int(value) for name, value in (line.split(" ") for line in self.ask("words"))}
         del self.lines[-1]
-        holders = told.get("holders", 0)
-        words = {"umount": int(told.get("umount", 0) > 0), "stage": told.get("stage", 0), "kernel": holders & 1, "user": holders >> 1,
-                 "sb": told.get("sb", 0), "remount": told.get("remount", 0), "removed": told.get("removed", 0)}
+        words = {name: told.get(name, 0) for name in WORDS}
+        words["umount"] = int(words["umount"] > 0)
+        words["kernel"], words["user"] = told.get("holders", 0) & 1, told.get("holders", 0) >> 1
         for mount in range(MOUNTS):
             words[f"flags{mount}"] = told.get(f"mount{mount}.flags", 0)
         for level in range(1, LEVELS + 1):
             sync = told.get(f"sync{level}", 0)
-            words.update({f"block{level}": told.get(f"block{level}", 0), f"state{level}": sync & 7, f"entered{level}": sync >> 8})
-        counts = [f"mount{mount}" for mount in range(MOUNTS)] + [f"level{level}" for level in range(1, LEVELS + 1)]
-        for name in (f"{count}.cpu{cpu}" for count in counts for cpu in range(PROCESSORS)):
-            words[name] = signed(told.get(name, 0))
-        return words
+            words.update({f"state{level}": sync & 7, f"entered{level}": sync >> 8})
+        return {name: signed(value) if ".cpu" in name else value for name, value in words.items()}
 
     def words_as_far_as(self, kernel):
-        """The words once the callbacks have run that the kernel is seen to have run."""
+        """The words once the callbacks have run that the kernel is seen to have run. None has if it ran before a freeze entered."""
         words = self.words()
+        if ran_before(words, kernel):
+            return words
         for level in range(1, LEVELS + 1):
             while words[f"state{level}"] >= GP_EXIT and words[f"state{level}"] != kernel[f"state{level}"]:
                 if self.ask(f"{RUNNER} callback {level}", f"{RUNNER} run") != [f"{RUNNER} ok ran"]:
-                    raise schedules.Unreadable("a callback that is queued doesn't run")
+                    raise schedules.Stopped("a callback that is queued doesn't run")
                 words = self.words()
         return words
 
@@ -84,13 +89,14 @@ def signed(word):
 def as_call(words):
     """The gates' call for one of the guest's."""
     verb = {"bind": "change", "setattr": "change", "spare": "remount"}.get(words[0], words[0])
-    return [verb, *words[1:]]
+    return [verb, *words[1 : len(words) - len(schedules.part_that_fails(words))]]
 
 
 class Drawn(schedules.Drawing):
     """A schedule that is drawn by a seed, and what it has come to: what each task holds, and who waits in what."""
 
-    WEIGHTS = WEIGHTS
+    WEIGHTS = {"want": 5, "drop": 6, "wantwrite": 5, "dropwrite": 6, "start": 8, "trystart": 6, "end": 9, "freeze": 6, "thaw": 7, "bind": 3,
+               "setattr": 2, "remount": 3, "spare": 1}
 
     def __init__(self, seed, holders):
         self.draw = random.Random(seed)
@@ -126,6 +132,10 @@ class Drawn(schedules.Drawing):
             choices += self.changes(mount)
         return choices
 
+    def part(self, *names):
+        """Mostly nothing; else one of these parts of the file system, which is to fail, and its errno."""
+        return [self.draw.choice(names), "5"] if self.draw.random() < 0.2 else []
+
     def changes(self, mount):
         """The calls that take `umount`."""
         draw, words = self.draw, self.words
@@ -133,8 +143,12 @@ class Drawn(schedules.Drawing):
         if under_way and sum(self.locks(call) for call in self.waits.values()) >= 2:
             return []
         ways = ["rw"] if words["sb"] else ["ro", "rw"]
-        choices = [["freeze", draw.choice(self.holders)], ["thaw", draw.choice(self.holders).rstrip("+")]]
+        choices = [["freeze", draw.choice(self.holders), *self.part("sync", "freeze")],
+                   ["thaw", draw.choice(self.holders).rstrip("+"), *self.part("unfreeze")]]
         choices += [[verb, draw.choice(["ro", "rw"])] for verb in ("remount", "spare")]
+        if not words["umount"]:
+            # A file system is asked by the kernel, and not by the gates, if its remount changes nothing.
+            choices.append(["remount", ways[0], "reconfigure", "22"])
         choices += [["bind", mount, draw.choice(ways)]]
         if not words["umount"]:
             choices += [["setattr", mount, draw.choice(ways)]]
@@ -181,17 +195,25 @@ class Drawn(schedules.Drawing):
 
 
 def let_go_on(drawn, replay):
-    """Looks at all tasks that wait, in the order in which they began to, until none of them goes on. Hands out the answers."""
+    """Looks at the tasks that wait until none of them goes on, and from the first one again once one has. First come those that wait for a level,
+    since whoever opens it lets them in before it gives back s_umount; then those that wait for that, and last those that were put off. Hands out
+    the answers."""
+
+    def place(waiting):
+        task, words = waiting
+        return task in replay.put_off, drawn.locks(words)
+
     answers = {}
-    again = True
-    while again:
-        again = False
-        for task, words in list(drawn.waits.items()):
+    gone = True
+    while gone:
+        gone = False
+        for task, words in sorted(drawn.waits.items(), key=place):
             answer = replay.do(task, ["look"])
-            if answer != "waits":
+            gone = answer != "waits"
+            if gone:
                 drawn.note(task, words, answer)
                 answers[task] = answer
-                again = True
+                break
     return {**{task: "waits" for task in drawn.waits}, **answers}
 
 
@@ -201,6 +223,7 @@ class Kernel:
     def __init__(self, guest, spoil):
         self.guest, self.spoil = guest, spoil
         self.base = {}
+        self.calls = {}
         end = time.monotonic() + PATIENCE
         # The schedule before this one may have left callbacks, which the kernel runs soon.
         while any(value for name, value in self.words().items() if ".cpu" not in name):
@@ -214,13 +237,15 @@ class Kernel:
 
     def do(self, task, words, ours):
         """Its answer to a call, or to a look at one. One that isn't ended there yet, but here, is looked at again."""
+        if words[0] != "look":
+            self.calls[task] = words
         found, text = read_guest(self.spoil(self.guest.ask(f"{task} {' '.join(words)}")))
         end = time.monotonic() + PATIENCE
         while text == "waits" and ours != "waits" and time.monotonic() < end:
             found, text = read_guest(self.guest.ask(f"{task} look"))
         if found != task:
             raise schedules.Unreadable(f"the guest answered for task {found} and not for {task}")
-        return text
+        return schedules.by_part(text, self.calls[task])
 
 
 def summed(words, levels):
@@ -230,28 +255,34 @@ def summed(words, levels):
     return {**counts, **{f"level{level}.cpu0": sum(words[f"level{level}.cpu{cpu}"] for cpu in range(PROCESSORS)) for level in levels}}
 
 
+def ran_before(ours, theirs):
+    """Whether a level's callback has run in the kernel before a freeze entered, and here not yet: GP_REPLAY became GP_EXIT there. It would become
+    GP_PASSED here, as it does there by the next callback."""
+    return any(ours[f"state{level}"] == GP_REPLAY and ours[f"entered{level}"] and theirs[f"state{level}"] == GP_EXIT for level in range(1, LEVELS + 1))
+
+
 def compare_words(replay, kernel, slept):
     """The words here, and those that differ, with both values. Where `umount` alone differs the kernel's are read again: a thread of its own may have
-    taken s_umount for a moment, as write-back does. In the levels `slept` a reader has slept."""
+    taken s_umount for a moment, as write-back does. So they are where the kernel will run a callback soon (ran_before). In the levels `slept` a
+    reader has slept."""
     end = time.monotonic() + PATIENCE
     while True:
         theirs = kernel.words()
         ours = replay.words_as_far_as(theirs)
         both = {**ours, **summed(ours, slept)}, {**theirs, **summed(theirs, slept)}
         differing = {name: (both[0][name], both[1][name]) for name in theirs if both[0][name] != both[1][name]}
-        if set(differing) != {"umount"} or time.monotonic() > end:
+        if (set(differing) != {"umount"} and not ran_before(ours, theirs)) or time.monotonic() > end:
             return ours, differing
 
 
-def run(drawn, replay, guest, spoil):
-    """Does a schedule on both sides. Hands out its answers, up to the first one that differs."""
-    answers = []
+def run(drawn, replay, guest, spoil, answers):
+    """Does a schedule on both sides, and puts down its answers, up to the first one that differs."""
     kernel = Kernel(guest, spoil)
     drawn.words = replay.words_as_far_as(kernel.words())
     while True:
         step = drawn.next() or drawn.next_of_end()
         if step is None:
-            return answers
+            return
         task, words = step
         waited = list(drawn.waits)
         ours = {task: replay.do(task, words)}
@@ -262,96 +293,9 @@ def run(drawn, replay, guest, spoil):
             theirs = kernel.do(other, call, ours[other])
             answers.append(schedules.Answer(f"{other} {' '.join(call)}", (ours[other], ""), (theirs, ""), len(replay.lines)))
             if answers[-1].differs():
-                return answers
+                return
         drawn.words, differing = compare_words(replay, kernel, drawn.slept)
         if differing:
             answers[-1].ours = (answers[-1].ours[0], str({name: pair[0] for name, pair in differing.items()}))
             answers[-1].kernel = (answers[-1].kernel[0], str({name: pair[1] for name, pair in differing.items()}))
-            return answers
-
-
-class OneHolder(Replay):
-    """A kernel before 6.6: one freeze at a time, which is user space's here."""
-
-    HOLDERS = ("user",)
-
-
-class TwoHolders(Replay):
-    """A kernel like 6.12, by the gates and these rules, which docs/kernel.md lists as differences:
-
-    - a freeze that finds another one under way waits for it;
-    - a holder's freezes that may nest ('user+') are counted, and each thaw of it but the last only counts down;
-    - a thaw behind which a freeze stands is Ok, whether or not it has taken one away; up to 6.12.110 it is Invalid, whether or not.
-    """
-
-    HOLDERS = ("user", "kernel", "user+", "kernel+")
-    FROZEN_STILL = "ok"
-
-    def __init__(self, program, log):
-        super().__init__(program, log)
-        self.calls = {}
-        self.put_off = set()
-        self.nested = {"user": 0, "kernel": 0}
-        self.known = []
-
-    def words(self):
-        """The words; of the holders, how many freezes each has."""
-        words = super().words()
-        return {**words, **{holder: words[holder] + nested for holder, nested in self.nested.items()}}
-
-    def do(self, task, words):
-        """Does a call by these rules."""
-        if words[0] != "look":
-            self.calls[task] = words
-        call = self.calls[task]
-        if call[0] == "freeze":
-            return self.freeze(task, words, call)
-        return self.thaw(task, words, call) if call[0] == "thaw" else super().do(task, words)
-
-    def freeze(self, task, words, call):
-        """A freeze, which the gates are asked for once none is under way."""
-        now = self.words()
-        begun = words[0] == "look" and task not in self.put_off
-        if not begun and now["stage"] in (1, 2, 3) and not now["umount"]:
-            self.put_off.add(task)
-            return "waits"
-        if task in self.put_off:
-            self.put_off.remove(task)
-            self.known.append("a freeze waits for another one under way")
-            words = call
-        holder = call[1].rstrip("+")
-        answer = super().do(task, words if words[0] == "look" else ["freeze", holder])
-        if answer != "refused 16 Busy" or not call[1].endswith("+"):
-            return answer
-        self.nested[holder] += 1
-        self.known.append("a freeze of the same holder that may nest is counted")
-        return "ok"
-
-    def thaw(self, task, words, call):
-        """A thaw; the gates aren't asked for one that only counts down."""
-        now, holder = self.words(), call[1]
-        if self.nested[holder]:
-            self.nested[holder] -= 1
-            self.known.append("a thaw of a freeze that was nested only counts down")
-            answer = "ok"
-        else:
-            answer = super().do(task, words)
-        stands = now["user"] + now["kernel"] - (now[holder] > 0)
-        if now["stage"] != 4 or not stands or answer == self.FROZEN_STILL:
-            return answer
-        self.known.append(f"a thaw that {'takes one freeze of several' if now[holder] else 'takes none, as the other holder froze,'} is "
-                          f"{self.FROZEN_STILL}, and not {answer}")
-        return self.FROZEN_STILL
-
-
-class TwoHoldersBefore111(TwoHolders):
-    """6.12 before 6.12.111."""
-
-    FROZEN_STILL = "refused 22 Invalid"
-
-
-def replay_for(release, program, log):
-    """The replay for a kernel of this release."""
-    if release < (6, 6):
-        return OneHolder(program, log)
-    return (TwoHolders if release >= (6, 12, 111) else TwoHoldersBefore111)(program, log)
+            return

@@ -4,7 +4,7 @@
  *   T CALL                  T ok | T errno N | T inside | T waits FUNCTION, and the flags behind it
  *   race ROUNDS SECONDS SEED CALL[,CALL..] ..                 seen COUNT ANSWERS, for each row of answers; then raced ROUNDS
  *   restore                 restored: nothing is under way, frozen, open or read-only
- *   words                   words ..: those behind the gates, by the module
+ *   words                   words NAME VALUE ..: those behind the gates that aren't 0, by the module
  *   history CALLS SEED CHANGES HOLDERS     what threads have called at once (histories.c)
  *   off                     the guest ends
  *
@@ -13,11 +13,14 @@
  *   open M, close M         open for writing of a file at mount M (0 to 2), and its close
  *   touch M                 utimensat of a path at mount M
  *   write M                 a write to the file that the task has open at M
+ *   fault M                 a page fault for writing in a mapping of that file (faults.c); flush M by fsync of it
  *   begin M, end            the same, held up in the middle by its buffer's page until 'end': it answers 'inside', and 'end' as a write
  *   remove M                makes a file at mount M, opens it for reading, and removes it; release closes it
  *   bind M ro|rw            remount of the mount, by MS_REMOUNT and MS_BIND; setattr M ro|rw by mount_setattr
  *   remount ro|rw           the superblock, by fsconfig; spare ro|rw by mount with MS_REMOUNT at a mount that no other call uses
+ *   remount ro|rw reconfigure 22           the same, with an option that ext4 refuses once it is asked: EINVAL
  *   freeze, thaw            FIFREEZE, FITHAW
+ *   freeze user sync 5      FIFREEZE while each write to the disk fails, so that what is dirty can't be written: EIO (mapped.c)
  *   look                    whether what the task waited in is done now
  *
  * and, where the module is loaded, by its device (module/gates.h), on processor P:
@@ -25,7 +28,8 @@
  *   want M P, drop M P      __mnt_want_write, __mnt_drop_write at mount M
  *   wantwrite M P, dropwrite M P
  *   start L P, trystart L P, end L P       of level L, 1 to 3
- *   freeze H, thaw H        freeze_super, thaw_super for a holder: kernel or user, with '+' behind it where it may nest
+ *   freeze H, thaw H        freeze_super, thaw_super for a holder: kernel or user, with '+' behind it where it may nest. Behind it 'sync N',
+ *                           'freeze N' or 'unfreeze N' may stand: that part of the file system fails with errno N
  *
  * The flags are those of /proc/self/mountinfo: the superblock's, then each mount's own, as 'rw:rw,ro,rw'. In a race a call's words are
  * joined by '.', as bind.0.ro. Its answers stand for each task in order, and for each of its calls: 0, an errno, or w where it waits. */
@@ -56,15 +60,17 @@
 
 #include "guest.h"
 
-/* Each verb's word, and its arguments: a mount, a way (ro or rw), a level, a processor, or a holder. */
+/* Each verb's word, and its arguments: a mount, a way (ro or rw), a level, a processor, a holder, or a part of the file system that fails and its
+ * errno; the last two may be left out. */
 static const struct {
     const char *word, *arguments;
 } verbs[VERBS] = {
     [OPEN] = {"open", "m"},           [CLOSE] = {"close", "m"},          [TOUCH] = {"touch", "m"},
     [WRITE] = {"write", "m"},         [BEGIN] = {"begin", "m"},          [REMOVE] = {"remove", "m"},
-    [BIND] = {"bind", "mw"},          [SETATTR] = {"setattr", "mw"},     [REMOUNT] = {"remount", "w"},
-    [SPARE] = {"spare", "w"},         [RELEASE] = {"release", ""},       [FREEZE] = {"freeze", "h"},
-    [THAW] = {"thaw", "h"},           [WANT] = {"want", "mp"},           [DROP] = {"drop", "mp"},
+    [FAULT] = {"fault", "m"},         [FLUSH] = {"flush", "m"},          [RELEASE] = {"release", ""},
+    [BIND] = {"bind", "mw"},          [SETATTR] = {"setattr", "mw"},     [REMOUNT] = {"remount", "wfe"},
+    [SPARE] = {"spare", "w"},         [FREEZE] = {"freeze", "hfe"},      [THAW] = {"thaw", "hfe"},
+    [WANT] = {"want", "mp"},          [DROP] = {"drop", "mp"},
     [WANT_WRITE] = {"wantwrite", "mp"}, [DROP_WRITE] = {"dropwrite", "mp"}, [START] = {"start", "lp"},
     [TRY_START] = {"trystart", "lp"}, [END] = {"end", "lp"},
 };
@@ -105,7 +111,7 @@ static int result(long answer) { return answer < 0 ? errno : 0; }
 static int open_file(struct task *task, int mount) {
     char path[LINE];
     snprintf(path, sizeof path, "/m%d/file%d", mount, task->number);
-    int file = open(path, O_WRONLY | O_CLOEXEC);
+    int file = open(path, O_RDWR | O_CLOEXEC);
     if (file < 0) return errno;
     if (task->opens[mount] == OPENS) return close(file), EMFILE;
     task->opened[mount][task->opens[mount]++] = file;
@@ -117,10 +123,12 @@ static int close_file(struct task *task, int mount) {
     return result(close(task->opened[mount][--task->opens[mount]]));
 }
 
+/* The file that the task opened last at the mount, or -1. */
+static int last_file(const struct task *task, int mount) { return task->opens[mount] ? task->opened[mount][task->opens[mount] - 1] : -1; }
+
 static int write_file(struct task *task, int mount, const char *from) {
     enum { BYTES = 512 };
-    if (task->opens[mount] == 0) return EBADF;
-    return result(pwrite(task->opened[mount][task->opens[mount] - 1], from, BYTES, 0));
+    return result(pwrite(last_file(task, mount), from, BYTES, 0));
 }
 
 static int touch(int mount) {
@@ -159,10 +167,12 @@ static int set_attribute(int mount, int read_only) {
     return result(syscall(SYS_mount_setattr, AT_FDCWD, path, 0, &wanted, sizeof wanted));
 }
 
-static int remount(int read_only) {
+/* By fsconfig. ext4 parses `nombcache`, and refuses it when it is to reconfigure itself. */
+static int remount(int read_only, int fails) {
     int context = syscall(SYS_fspick, AT_FDCWD, "/m0", FSPICK_CLOEXEC);
     if (context < 0) return errno;
     int failed = result(syscall(SYS_fsconfig, context, FSCONFIG_SET_FLAG, read_only ? "ro" : "rw", NULL, 0));
+    if (failed == 0 && fails) failed = result(syscall(SYS_fsconfig, context, FSCONFIG_SET_FLAG, "nombcache", NULL, 0));
     if (failed == 0) failed = result(syscall(SYS_fsconfig, context, FSCONFIG_CMD_RECONFIGURE, NULL, NULL, 0));
     close(context);
     return failed;
@@ -172,6 +182,17 @@ static int remount_spare(int read_only) {
     return result(syscall(SYS_mount, NULL, "/spare", NULL, MS_REMOUNT | (read_only ? MS_RDONLY : 0), NULL));
 }
 
+/* A freeze that fails has something to write, which is all that it loses. The sync before it may tell of what the one before that has lost. */
+static int freeze(const struct call *call) {
+    if (call->hook == 0) return result(ioctl(root, FIFREEZE, 0));
+    syncfs(root);
+    need(utimensat(AT_FDCWD, "/dirty/touched", NULL, 0) == 0, "something dirty");
+    let_disk_fail(1);
+    int answer = result(ioctl(root, FIFREEZE, 0));
+    let_disk_fail(0);
+    return answer;
+}
+
 int perform(struct task *task, const struct call *call) {
     switch (call->verb) {
     case OPEN: return open_file(task, call->mount);
@@ -179,22 +200,24 @@ int perform(struct task *task, const struct call *call) {
     case TOUCH: return touch(call->mount);
     case WRITE: return write_file(task, call->mount, written);
     case BEGIN: return write_file(task, call->mount, task->page);
+    case FAULT: return fault_in(task, last_file(task, call->mount));
+    case FLUSH: return result(fsync(last_file(task, call->mount)));
     case REMOVE: return remove_open(task, call->mount);
     case RELEASE: return release(task);
     case BIND: return bind_mount(call->mount, call->read_only);
     case SETATTR: return set_attribute(call->mount, call->read_only);
-    case REMOUNT: return remount(call->read_only);
+    case REMOUNT: return remount(call->read_only, call->hook != 0);
     case SPARE: return remount_spare(call->read_only);
-    case FREEZE: return call->argument ? call_gates(task, call) : result(ioctl(root, FIFREEZE, 0));
-    case THAW: return call->argument ? call_gates(task, call) : result(ioctl(root, FITHAW, 0));
+    case FREEZE: return call->argument && have_gates() ? call_gates(task, call) : freeze(call);
+    case THAW: return call->argument && have_gates() ? call_gates(task, call) : result(ioctl(root, FITHAW, 0));
     default: return call_gates(task, call);
     }
 }
 
-static void wake(atomic_int *word) { syscall(SYS_futex, word, 1 /* FUTEX_WAKE */, 1, NULL, NULL, 0); }
+void wake(atomic_int *word) { syscall(SYS_futex, word, 1 /* FUTEX_WAKE */, 1, NULL, NULL, 0); }
 
 /* Sleeps while the word has this value, and for so many microseconds at most; without end where they are 0. */
-static void sleep_at(atomic_int *word, int value, long most) {
+void sleep_at(atomic_int *word, int value, long most) {
     struct timespec end = {0, most * 1000};
     syscall(SYS_futex, word, 0 /* FUTEX_WAIT */, value, most ? &end : NULL, NULL, 0);
 }
@@ -202,7 +225,7 @@ static void sleep_at(atomic_int *word, int value, long most) {
 /* The calls of a task, one list after the other. In a race it spins for the begin of the round, and then for its delay. */
 static void *run_task(void *given) {
     struct task *task = given;
-    task->thread = syscall(SYS_gettid);
+    atomic_store(&task->thread, syscall(SYS_gettid));
     for (int seen = 0;; seen++) {
         while (atomic_load(&task->asked) == seen) {
             if (atomic_load(&task->racing)) sched_yield();
@@ -235,7 +258,7 @@ static const char *const waits[] = {"percpu_rwsem_wait", "freeze_super", "thaw_s
 /* Which of these a thread sleeps in; NULL where it runs, or sleeps for another reason. `name` is the function's name, and "0" where it runs. */
 static const char *where_asleep(struct task *task, char name[LINE]) {
     char path[LINE];
-    snprintf(path, sizeof path, "/proc/self/task/%d/wchan", task->thread);
+    snprintf(path, sizeof path, "/proc/%d/wchan", atomic_load(&task->thread));
     int file = open(path, O_RDONLY | O_CLOEXEC);
     ssize_t size = file < 0 ? 0 : read(file, name, LINE - 1);
     if (file >= 0) close(file);
@@ -315,12 +338,18 @@ static void answer(struct task *task) {
 /* Reads one argument of a call; false where it is none. */
 static int read_argument(char kind, const char *word, struct call *call) {
     static const char *const holders[] = {"kernel", "user", "", "", "kernel+", "user+"};
-    int number = word ? word[0] - '0' : -1;
+    static const char *const hooks[] = {"sync", "freeze", "unfreeze", "reconfigure"};
+    int number = word && *word >= '0' && *word <= '9' ? atoi(word) : -1;
     switch (kind) {
     case 'm': return call->mount = number, number >= 0 && number < MOUNTS;
     case 'l': return call->argument = number, number >= 1 && number <= LEVELS;
     case 'p': return call->processor = number, number >= 0;
     case 'w': return call->read_only = word != NULL && strcmp(word, "ro") == 0, word != NULL;
+    case 'e': return call->error = number, word == NULL || number > 0;
+    case 'f':
+        for (int i = 0; word && i < (int)(sizeof hooks / sizeof *hooks); i++)
+            if (strcmp(word, hooks[i]) == 0) call->hook = i + 1;
+        return word == NULL || call->hook > 0;
     default:
         for (int i = 0; word && i < (int)(sizeof holders / sizeof *holders); i++)
             if (strcmp(word, holders[i]) == 0) call->argument = i + 1;
@@ -424,7 +453,7 @@ static void restore(void) {
         if (tasks[i].removed) release(&tasks[i]);
     }
     if (is_read_only())
-        need(remount(0) == 0 && bind_mount(0, 0) == 0 && bind_mount(1, 0) == 0 && bind_mount(2, 0) == 0, "all writable again");
+        need(remount(0, 0) == 0 && bind_mount(0, 0) == 0 && bind_mount(1, 0) == 0 && bind_mount(2, 0) == 0, "all writable again");
 }
 
 struct row {
@@ -450,6 +479,12 @@ static void read_answers(int count, char *text) {
             text += j < done ? sprintf(text, "%d", tasks[i].answers[j]) : sprintf(text, "w");
         }
     }
+}
+
+/* In half of the rounds it waits until a thaw's callbacks have run, if they do soon, so that readers are on their fast path again. */
+static void await_idle(unsigned *seed) {
+    long end = now() + (rand_r(seed) & 1 ? 200000 : 0);
+    while (!are_levels_idle() && now() < end) usleep(1000);
 }
 
 /* A delay of loops that do nothing: of any order of magnitude, so that calls overlap in each of their parts. */
@@ -478,6 +513,7 @@ static void race(char *words) {
     long round = 0;
     for (; round < rounds && now() < end; round++) {
         struct look before = {-1, 0, 0};
+        await_idle(&seed);
         for (int i = 0; i < count; i++) tasks[i].delay = draw_delay(&seed);
         for (int i = 0; i < count; i++) atomic_store(&tasks[i].done, 0);
         atomic_store(&ended, 0);
@@ -493,14 +529,17 @@ static void race(char *words) {
     say("raced %ld\n", round);
 }
 
-/* Loads the modules that /modules lists, in its order. */
+/* Loads the modules that /modules lists, in its order: each with its parameters behind its path. */
 static void load_modules(void) {
-    char path[LINE];
+    char line[LINE];
     FILE *list = fopen("/modules", "re");
     need(list != NULL, "/modules");
-    while (fscanf(list, "%255s", path) == 1) {
-        int file = open(path, O_RDONLY | O_CLOEXEC);
-        need(file >= 0 && syscall(SYS_finit_module, file, strstr(path, "brd") ? "rd_nr=1 rd_size=16384" : "", 0) == 0, path);
+    while (fgets(line, sizeof line, list)) {
+        char *parameters = line + strcspn(line, " ");
+        parameters[strcspn(parameters, "\n")] = 0;
+        *parameters++ = 0;
+        int file = open(line, O_RDONLY | O_CLOEXEC);
+        need(file >= 0 && syscall(SYS_finit_module, file, parameters, 0) == 0, line);
         close(file);
     }
     fclose(list);
@@ -516,18 +555,20 @@ static void fill_disk(void) {
     need(close(to) == 0, "the disk's end");
 }
 
-/* Mounts /m0 to /m2 and /spare, and makes the files. A file that stays open keeps its name in the dentry cache: an open for writing of
+/* Mounts /m0 to /m2, /spare and /dirty, and makes the files. A file that stays open keeps its name in the dentry cache: an open for writing of
  * another one takes level 1 for a moment. */
 static void make_mounts(void) {
     char path[LINE];
     for (int i = 0; i < MOUNTS; i++) {
         snprintf(path, sizeof path, "/m%d", i);
         mkdir(path, 0755);
-        if (i == 0) need(mount("/dev/ram0", "/m0", "ext4", 0, "") == 0, "the mount");
+        if (i == 0) need(mount(map_disk(), "/m0", "ext4", 0, "") == 0, "the mount");
         else need(mount("/m0", path, NULL, MS_BIND, NULL) == 0, "a mount more");
     }
     mkdir("/spare", 0755);
     need(mount("/m0", "/spare", NULL, MS_BIND, NULL) == 0, "the spare mount");
+    mkdir("/dirty", 0755);
+    need(mount("/m0", "/dirty", NULL, MS_BIND, NULL) == 0, "the mount to make something dirty at");
     for (int i = 0; i <= TASKS; i++) {
         if (i < TASKS) snprintf(path, sizeof path, "/m0/file%d", i);
         else strcpy(path, "/m0/touched");
@@ -556,7 +597,7 @@ static void make_tasks(void) {
         pthread_t thread;
         tasks[i].number = i;
         need(pthread_create(&thread, NULL, run_task, &tasks[i]) == 0, "a thread");
-        while (*(volatile pid_t *)&tasks[i].thread == 0) usleep(100);
+        while (atomic_load(&tasks[i].thread) == 0) usleep(100);
         cpu_set_t one;
         CPU_ZERO(&one);
         CPU_SET(i % processors, &one);
@@ -589,6 +630,7 @@ int main(void) {
     fill_disk();
     make_mounts();
     make_pages();
+    make_faulters();
     make_tasks();
     open_gates();
     say("ready\n");

@@ -23,14 +23,16 @@ PROGRAMS = {"qemu-system-x86_64": "qemu-system-x86", "gcc": "gcc", "make": "make
 # The guest's modules. Which others each needs it says itself; that ext4 needs a driver for crc32c, it doesn't.
 MODULES = ["crc32c_generic", "brd", "ext4"]
 DISK = 12 << 20
-NEEDED = re.compile(r"\./(boot/vmlinuz-|(usr/)?lib/modules/[^/]+/(modules\.builtin$|kernel/(fs|lib|crypto|drivers/block)/))")
+# The RAM disk's, in KiB.
+DISK_PARAMETERS = "rd_nr=1 rd_size=16384"
+NEEDED = r"\./(boot/vmlinuz-|(usr/)?lib/modules/[^/]+/(modules\.builtin$|kernel/(fs|lib|crypto|drivers/(block|md|dax))/))"
 
 # The names of the stock kernels' packages, by release, behind linux-image- and linux-headers-.
 RELEASES = {"6.1": r"6\.1\.0-\d+-amd64", "6.12": r"6\.12\.\d+\+deb12-amd64"}
 
-# Seconds that the guest may take to come up, and for one answer.
-BOOT = 180
-ANSWER = 60
+# Seconds that the guest may take to come up, and for one answer: an emulated one on a machine with much else to do gets few of them.
+BOOT = 300
+ANSWER = 300
 
 
 class Failed(Exception):
@@ -96,15 +98,16 @@ def fetch(name, about=""):
     return max(have)
 
 
-def sum_of(path):
-    """The beginning of a file's checksum. What is made of a file is kept by that, since a name says nothing of what is in it."""
+def sum_of(path, how):
+    """The beginning of a checksum of a file and of how it is used. What is made of a file is kept by that, since a name says nothing of what is in
+    it."""
     with open(path, "rb") as file:
-        return hashlib.file_digest(file, "sha256").hexdigest()[:16]
+        return hashlib.sha256(hashlib.file_digest(file, "sha256").digest() + how.encode()).hexdigest()[:16]
 
 
 def unpack(package):
     """What is needed of the package's files, as a folder."""
-    folder = f"{OUT}/image-{sum_of(package)}"
+    folder = f"{OUT}/image-{sum_of(package, NEEDED)}"
     if os.path.exists(f"{folder}/whole"):
         return folder
     shutil.rmtree(folder, ignore_errors=True)
@@ -113,7 +116,7 @@ def unpack(package):
         with subprocess.Popen(["dpkg-deb", "--fsys-tarfile", package], stdout=subprocess.PIPE) as reader:
             with tarfile.open(fileobj=reader.stdout, mode="r|") as files:
                 for file in files:
-                    if file.isfile() and NEEDED.match(file.name):
+                    if file.isfile() and re.match(NEEDED, file.name):
                         files.extract(file, folder)
     except tarfile.TarError as cause:
         raise Failed(f"the kernel's package {package} can't be read: {cause}") from cause
@@ -128,7 +131,8 @@ def fetch_headers(image):
     version = os.path.basename(image).split("_")[0].removeprefix("linux-image-")
     root = f"{OUT}/headers-{version}"
     folder = f"{root}/usr/src/linux-headers-{version}"
-    if os.path.exists(f"{root}/whole"):
+    # Their makefiles have paths, which lead elsewhere if all was moved.
+    if os.path.exists(f"{root}/whole") and read(f"{root}/whole").decode() == root:
         return folder
     shutil.rmtree(root, ignore_errors=True)
     package = fetch(f"linux-headers-{version}")
@@ -139,7 +143,8 @@ def fetch_headers(image):
     for name in glob.glob(f"{root}/usr/src/*/Makefile"):
         move_paths(name, root)
     follow_links(root)
-    open(f"{root}/whole", "w", encoding="utf-8").close()
+    with open(f"{root}/whole", "w", encoding="utf-8") as file:
+        file.write(root)
     return folder
 
 
@@ -171,9 +176,7 @@ def build_module(headers, *words):
         raise Failed(f"there are no headers of a kernel in {headers}: give the folder that it was built in by --headers DIR")
     folder = f"{OUT}/module-{hashlib.sha256(os.path.realpath(headers).encode()).hexdigest()[:16]}"
     shutil.rmtree(folder, ignore_errors=True)
-    os.makedirs(folder)
-    for name in ("gates.c", "gates.h", "Kbuild"):
-        shutil.copy(f"{HERE}/module/{name}", folder)
+    shutil.copytree(f"{HERE}/module", folder)
     # Type information for debuggers would need another program.
     run(["make", "-C", headers, f"M={folder}", "CONFIG_DEBUG_INFO_BTF_MODULES=", *words, "modules"], "the module can't be built")
     return f"{folder}/gates.ko"
@@ -205,10 +208,10 @@ def find_modules(folder):
     return files, built_in
 
 
-def module_files(folder):
+def module_files(folder, names):
     """The guest's modules in the order in which they are loaded, each after those that it needs: (name, bytes). A kernel that was given without a
     folder has all of them in itself."""
-    files, built_in = find_modules(folder) if folder else ({}, set(MODULES))
+    files, built_in = find_modules(folder) if folder else ({}, set(names))
     ordered = {}
 
     def reach(name):
@@ -222,7 +225,7 @@ def module_files(folder):
             reach(other)
         ordered.setdefault(f"{name}.ko", data)
 
-    for name in MODULES:
+    for name in names:
         reach(name)
     return ordered
 
@@ -243,20 +246,23 @@ def read(path):
         return file.read()
 
 
-def build_guest(folder, module):
-    """The guest's initramfs: our init, the modules, and a disk with an ext4."""
+def build_guest(folder, module, options):
+    """The guest's initramfs: our init, the modules, and a disk with an ext4. Where its writes may fail it has no journal, which would be given up."""
     init, disk, guest = f"{OUT}/init", f"{OUT}/disk.ext4", f"{OUT}/guest.cpio"
-    sources = [f"{HERE}/{name}.c" for name in ("init", "gate_calls", "histories")]
+    sources = [f"{HERE}/{name}.c" for name in ("init", "faults", "gate_calls", "histories", "mapped")]
     run([find("gcc"), "-O2", "-Wall", "-Wextra", "-static", "-pthread", "-o", init, *sources], "the guest's init can't be built")
     with open(disk, "wb") as file:
         file.truncate(DISK)
-    run([find("mkfs.ext4"), "-q", "-F", disk], "the guest's disk can't be made")
-    modules = module_files(folder)
+    run([find("mkfs.ext4"), "-q", "-F", *(["-O", "^has_journal"] if options.failing_disk else []), disk], "the guest's disk can't be made")
+    modules = module_files(folder, [*MODULES, "dm_mod"] if options.failing_disk else MODULES)
     if module:
         modules["gates.ko"] = read(module)
     entries = [("dev", b"", 0o40755), ("init", read(init), 0o100755), ("disk.ext4", read(disk), 0o100644)]
     entries += [(name, data, 0o100644) for name, data in modules.items()]
-    entries.append(("modules", "".join(f"/{name}\n" for name in modules).encode(), 0o100644))
+    if options.failing_disk:
+        entries.append(("mapped", b"", 0o100644))
+    parameters = {"brd.ko": DISK_PARAMETERS, "gates.ko": options.wrong}
+    entries.append(("modules", "".join(f"/{name} {parameters.get(name, '')}\n" for name in modules).encode(), 0o100644))
     with open(guest, "wb") as file:
         file.write(archive(entries))
     return guest
@@ -288,7 +294,7 @@ def make_ready(options, with_module):
         kernel, folder, headers = own(options.image, options.modules, options.headers)
     else:
         kernel, folder, headers = stock(options.package, options.kernel, with_module)
-    return kernel, build_guest(folder, build_module(headers) if with_module else None)
+    return kernel, build_guest(folder, build_module(headers) if with_module else None, options)
 
 
 def accelerator(emulate):
@@ -309,11 +315,11 @@ class Guest:
         self.said = f"{OUT}/kernel-{processors}.log"
         words = [find("qemu-system-x86_64"), "-accel", by, "-cpu", "max", "-smp", str(processors), "-m", "320", "-nodefaults",
                  "-display", "none", "-no-reboot", "-kernel", kernel, "-initrd", guest,
-                 "-append", "console=ttyS0 loglevel=5 panic=-1 rcupdate.rcu_expedited=1 brd.rd_nr=1 brd.rd_size=16384 rdinit=/init",
+                 "-append", f"console=ttyS0 loglevel=5 panic=-1 rcupdate.rcu_expedited=1 {' '.join(f'brd.{it}' for it in DISK_PARAMETERS.split())} rdinit=/init",
                  "-serial", f"file:{self.said}", "-serial", "stdio"]
         self.qemu = subprocess.Popen(words, stdin=subprocess.PIPE, stdout=subprocess.PIPE, stderr=subprocess.PIPE)
         self.expect("ready", BOOT)
-        self.processors = self.ask("hello").split()[1]
+        self.processors = int(self.ask("hello").split()[1])
         self.version = self.receive(ANSWER).split(" ", 1)[1]
         self.release = tuple(int(number) for number in re.search(r"(\d+)\.(\d+)\.(\d+)", self.version).groups())
 
@@ -355,7 +361,9 @@ class Guest:
         return self.receive(seconds)
 
     def end(self):
-        """Ends the guest."""
+        """Ends the guest, if it has not ended."""
+        if self.qemu.returncode is not None:
+            return
         self.send("off")
         try:
             self.qemu.communicate(timeout=10)

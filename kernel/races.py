@@ -89,9 +89,11 @@ def compare(options, program, guest):
     wrong = int(os.environ.get("COMPARE_WRONG", "0"))
     differing = 0
     folder = "races/module" if options.module else "races"
-    races = [Race(path) for path in sorted(glob.glob(f"{machine.HERE}/{folder}/*.race"))]
+    races = [Race(path) for path in sorted(glob.glob(f"{machine.HERE}/{folder}/{options.race}.race"))]
     # Before 6.6 there is no second holder.
     known = [race for race in races if guest.release >= (6, 6) or not any(".kernel" in call for call in race.calls)]
+    if not known:
+        raise machine.Failed(f"this kernel has no race {options.race}: see kernel/{folder}")
     for number, race in enumerate(known, 1):
         allowed = race.allowed(program)
         guest.send(f"race {options.rounds} {options.seconds} {options.seed} {' '.join(race.calls)}")

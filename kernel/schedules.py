@@ -13,13 +13,27 @@ END = f"{TASKS} run"
 # The names of refusals that both sides give, by errno.
 NAMES = {11: "Again", 12: "NoMemory", 16: "Busy", 22: "Invalid", 30: "ReadOnly", 35: "Order"}
 
-# How often each call is drawn, beside the others that are possible.
-WEIGHTS = {"open": 8, "close": 5, "touch": 5, "write": 4, "begin": 3, "end": 5, "bind": 3, "setattr": 3, "remount": 3, "spare": 2, "freeze": 5,
-           "thaw": 5, "remove": 2, "release": 3}
+# The calls that ask a part of the file system, which may be told to fail. Its words are the last two then: its name, and the errno.
+HOOKED = ("freeze", "thaw", "remount")
 
 
 class Unreadable(Exception):
     """An answer that is none of those that are known."""
+
+
+class Stopped(Unreadable):
+    """The replay doesn't go on, as it does with a mutant whose model forbids what it has done."""
+
+
+def part_that_fails(words):
+    """The part of the file system that is told to fail in this call, with its errno; empty where none is."""
+    return words[2:] if words[0] in HOOKED else []
+
+
+def by_part(text, words):
+    """The kernel's answer to this call: with the errno of the part that failed in it, it is told as that part's."""
+    part = part_that_fails(words)
+    return f"refused hook {part[1]}" if part and text.startswith(f"refused {part[1]} ") else text
 
 
 def read_kernel(line):
@@ -54,6 +68,7 @@ class Replay:
         self.lines = []
         self.steps = {}
         self.nodes = {}
+        self.failing = {}
         self.ask(config)
 
     def ask(self, *lines):
@@ -68,20 +83,18 @@ class Replay:
                 return printed
             printed.append(line.rstrip("\n"))
             self.log.append(f"replay< {printed[-1]}")
-        raise Unreadable(f"the replay ended after {printed}")
+        raise Stopped(f"the replay ended after {printed}")
 
     def do(self, task, words):
         """Does a call, and hands out its answer. One that waits goes on when it is looked at."""
         if words[0] != "look":
             self.steps[task] = calls_of(words, len(self.lines) % 2)
+            self.failing[task] = part_that_fails(words)
         steps = self.steps[task]
         while steps:
             call = steps[0]
             begins = [] if call is None else [f"{task} {call.format(node=self.nodes.get(task))}"]
-            printed = self.ask(*begins, f"{task} run")
-            found = re.fullmatch(rf"{task} (ok|ok node (\d)|waiting|refused .*)", printed[0])
-            if not found:
-                raise Unreadable(f"the replay answered {printed}")
+            found = self.run(task, begins, r"ok|ok node (\d)|waiting|refused .*")
             if found[1] == "waiting":
                 steps[0] = None
                 return "waits"
@@ -92,6 +105,14 @@ class Replay:
                 self.nodes[task] = found[2]
             steps.pop(0)
         return "ok"
+
+    def run(self, task, begins, answers):
+        """Lets a task go on behind these lines: its answer, which is one of `answers`."""
+        printed = self.ask(*begins, " ".join([f"{task} run", *self.failing.get(task, [])]))
+        found = re.fullmatch(rf"{task} ({answers})", printed[0]) if len(printed) == 1 else None
+        if not found:
+            raise Stopped(f"the replay answered {printed}")
+        return found
 
     def flags(self):
         """The flags and the stage now."""
@@ -118,6 +139,7 @@ def calls_of(words, cpu):
     mount = rest[0] if rest else None
     return {"open": [f"want {mount} {cpu}"], "close": [f"drop {mount} {cpu}"], "touch": [f"wantwrite {mount} {cpu}", f"dropwrite {mount} {1 - cpu}"],
             "write": [f"start 1 {cpu}", f"end 1 {1 - cpu}"], "begin": [f"start 1 {cpu}"], "end": [f"end 1 {cpu}"],
+            "fault": [f"start 2 {cpu}", f"end 2 {1 - cpu}"], "flush": [f"start 3 {cpu}", f"end 3 {1 - cpu}"],
             "remove": [f"wantwrite {mount} {cpu}", "create 0 file", "open {node}", "remove {node}", f"dropwrite {mount} {cpu}"],
             "release": [f"close {{node}} {cpu}"]}[verb]
 
@@ -147,10 +169,12 @@ class Drawn(Drawing):
     """A schedule that is drawn by a seed, and what it has come to: what tasks have open, who waits in what, and who is inside a write that is
     held up."""
 
-    WEIGHTS = WEIGHTS
+    WEIGHTS = {"open": 8, "close": 5, "touch": 5, "write": 4, "begin": 3, "end": 5, "fault": 9, "flush": 5, "bind": 3, "setattr": 3, "remount": 3,
+               "spare": 2, "freeze": 5, "thaw": 5, "remove": 2, "release": 3}
 
-    def __init__(self, seed):
+    def __init__(self, seed, failing_disk=False):
         self.draw = random.Random(seed)
+        self.failing_disk = failing_disk
         self.left = self.draw.randint(8, 18)
         self.opens = {task: [] for task in range(TASKS)}
         self.removed = set()
@@ -161,7 +185,7 @@ class Drawn(Drawing):
 
     def choices(self, task):
         """The calls that the task can make. Left out is a change to read-only of a mount while the superblock is: the kernel sets the mount's
-        own flag then, and the gates don't (docs/kernel.md)."""
+        own flag then, and the gates don't (docs/kernel.md). So is a flush while all is frozen, when there is nothing to write."""
         if task in self.inside:
             return [["end"]]
         draw, ways = self.draw, ["rw"] if self.flags.startswith("ro") else ["ro", "rw"]
@@ -171,7 +195,13 @@ class Drawn(Drawing):
         choices += [[verb, mount, draw.choice(ways)] for verb in ("bind", "setattr")]
         choices.append(["release"] if task in self.removed else ["remove", mount])
         if self.opens[task]:
-            choices += [[verb, str(draw.choice(self.opens[task]))] for verb in ("close", "write", "begin")]
+            verbs = ("close", "write", "begin", "fault") if self.stage == 4 else ("close", "write", "begin", "fault", "flush")
+            choices += [[verb, str(draw.choice(self.opens[task]))] for verb in verbs]
+        # A file system is asked by the kernel, and not by the gates, if its remount changes nothing.
+        choices.append(["remount", "rw" if self.flags.startswith("ro") else "ro", "reconfigure", "22"])
+        # Whoever is inside could write to the disk as well.
+        if self.failing_disk and self.stage == 0 and not self.inside and self.flags.startswith("rw"):
+            choices.append(["freeze", "user", "sync", "5"])
         return choices
 
     def next_of_end(self):
@@ -229,13 +259,13 @@ class Answer:
         return f"{self.call}: {self.ours[0]}"
 
 
-def run(drawn, replay, guest, spoil):
-    """Does a schedule on both sides. Hands out its answers, up to the first one that differs. `spoil` sees, and may change, each line of the
+def run(drawn, replay, guest, spoil, answers):
+    """Does a schedule on both sides, and puts down its answers, up to the first one that differs. `spoil` sees, and may change, each line of the
     guest."""
-    answers = []
 
     def do(task, words):
         held_up = drawn.is_held_up(task, words)
+        begun = drawn.waits[task] if words[0] == "look" else words
         ours = replay.do(task, words)
         drawn.note(task, words, ours)
         if held_up and ours == "ok":
@@ -245,19 +275,19 @@ def run(drawn, replay, guest, spoil):
         found, text, flags = read_kernel(spoil(guest.ask(call)))
         if found != task:
             raise Unreadable(f"the guest answered for task {found} and not for {task}")
-        answers.append(Answer(call, (ours, drawn.flags), (text, flags), len(replay.lines)))
+        answers.append(Answer(call, (ours, drawn.flags), (by_part(text, begun), flags), len(replay.lines)))
         return not answers[-1].differs()
 
     while True:
         step = drawn.next() or drawn.next_of_end()
         if step is None or not do(*step):
-            return answers
+            return
         for task in sorted(drawn.waits):
             if task != step[0] and not do(task, ["look"]):
-                return answers
+                return
 
 
 def as_schedule(replay, answer):
     """The schedule for `replay` up to this answer, with what each side said as remarks."""
-    told = f"# {answer.call}: here {', flags '.join(answer.ours)}; the kernel {', flags '.join(answer.kernel)}"
+    told = f"# {answer.call}: here {' '.join(answer.ours).strip()}; the kernel {' '.join(answer.kernel).strip()}"
     return [*replay.lines[: answer.lines], "model", told]

@@ -9,8 +9,8 @@ import unittest
 import gate_schedules
 import histories
 import races
+import rules
 import schedules
-
 
 
 def read_log(name):
@@ -51,7 +51,7 @@ class Sides(schedules.Replay):
 
     def __init__(self, log):
         self.log, self.place = log, 0
-        self.lines, self.steps, self.nodes = [], {}, {}
+        self.lines, self.steps, self.nodes, self.failing = [], {}, {}, {}
         self.ask(schedules.CONFIG)
 
     def answers(self, side, lines):
@@ -94,13 +94,13 @@ class RecordedCalls(gate_schedules.Drawn):
 
 def sides_of_calls(log):
     """Both sides of a recorded schedule of the module's calls, by the rules of its kernel."""
-    kernel = gate_schedules.TwoHolders if log[0].startswith("# 6.12") else gate_schedules.OneHolder
+    kernel = rules.TwoHolders if log[0].startswith("# 6.12") else rules.OneHolder
 
     class CallSides(kernel):
         """The replay, which answers as it did."""
 
         def __init__(self):
-            self.log, self.place, self.lines = [line for line in log if not line.startswith("#")], 0, []
+            self.log, self.place, self.lines, self.failing = [line for line in log if not line.startswith("#")], 0, [], {}
             self.calls, self.put_off, self.nested, self.known = {}, set(), {"user": 0, "kernel": 0}, []
             self.ask(gate_schedules.CONFIG)
 
@@ -121,7 +121,9 @@ class Calls(unittest.TestCase):
         """The answers of a recorded schedule, whose lines of the guest may be changed."""
         sides = sides_of_calls(log)
         sides.log = [f"guest< {change(line.removeprefix('guest< '))}" if line.startswith("guest< ") else line for line in sides.log]
-        return gate_schedules.run(RecordedCalls(log), sides, Guest(sides), lambda line: line), sides
+        answers = []
+        gate_schedules.run(RecordedCalls(log), sides, Guest(sides), lambda line: line, answers)
+        return answers, sides
 
     def test_recorded_schedules_agree(self):
         told, known = set(), set()
@@ -130,8 +132,9 @@ class Calls(unittest.TestCase):
             self.assertFalse(any(answer.differs() for answer in answers))
             told |= {answer.ours[0] for answer in answers}
             known |= set(sides.known)
-        self.assertEqual(told, {"ok", "waits", "refused 11 Again", "refused 16 Busy", "refused 22 Invalid", "refused 30 ReadOnly"})
-        self.assertTrue(known)
+        self.assertEqual(told, {"ok", "waits", "refused 11 Again", "refused 16 Busy", "refused 22 Invalid", "refused 30 ReadOnly", "refused hook 5",
+                                "refused hook 22"})
+        self.assertEqual(known, set(rules.Rule))
 
     def test_each_wrong_word_differs(self):
         log = self.logs[0]
@@ -141,17 +144,50 @@ class Calls(unittest.TestCase):
             lines = [place for place, line in enumerate(log) if line.startswith("guest< ")]
 
             def change(line, last=last, name=name, count=count, lines=lines):
-                there = lines[next(count)] == last
-                return re.sub(rf"( {re.escape(name)} )(-?\d+)", lambda found: f"{found[1]}{int(found[2]) + 1}", line) if there else line
+                if lines[next(count)] != last:
+                    return line
+                words = gate_schedules.read_words(line)
+                words[name] += 1
+                return " ".join(["words", *(f"{word} {value}" for word, value in words.items() if value)])
 
             answers, _ = self.run_recorded(log, change)
             self.assertEqual([answer.differs() for answer in answers[-2:]], [False, True], name)
 
+    def test_a_callback_before_a_freeze(self):
+        def words(state, entered):
+            return {**dict.fromkeys(gate_schedules.WORDS, 0), "state1": state, "entered1": entered}
+
+        self.assertTrue(gate_schedules.ran_before(words(4, 1), words(3, 1)))
+        for ours, theirs in ((words(4, 0), words(3, 0)), (words(4, 1), words(2, 1)), (words(3, 1), words(3, 1)), (words(0, 0), words(3, 0))):
+            self.assertFalse(gate_schedules.ran_before(ours, theirs))
+
+    def test_parts_that_fail(self):
+        for words, part in ((["freeze", "user", "sync", "5"], ["sync", "5"]), (["thaw", "kernel"], []), (["want", "0", "1"], [])):
+            self.assertEqual(schedules.part_that_fails(words), part)
+        failing = ["remount", "ro", "reconfigure", "22"]
+        self.assertEqual(gate_schedules.as_call(failing), ["remount", "ro"])
+        self.assertEqual(schedules.by_part("refused 22 Invalid", failing), "refused hook 22")
+        self.assertEqual(schedules.by_part("refused 16 Busy", failing), "refused 16 Busy")
+        self.assertEqual(schedules.by_part("refused 22 Invalid", ["thaw", "user"]), "refused 22 Invalid")
+
+    def test_words(self):
+        self.assertEqual(gate_schedules.read_words("words stage 4 level1.cpu0 -2")["level1.cpu0"], -2)
+        for line in ("words stage", "words stages 4", "words stage 4 stage 4", "stage 4"):
+            self.assertRaises(schedules.Unreadable, gate_schedules.read_words, line)
+
     def test_histories(self):
-        lines = iter(["1 0 begin want 0 0", "3 0 return ok", "4 1 begin freeze user", "5 1 return errno 16", "recorded 2"])
+        said = ["1 0 begin want 0 0", "3 1 begin freeze user", "4 0 return ok", "5 2 begin thaw kernel", "6 1 return ok", "7 2 return ok",
+                "8 1 begin freeze user", "9 1 return errno 16"]
+        lines = iter([*said, "recorded 4"])
         guest = type("Teller", (), {"receive": lambda self, seconds: next(lines)})()
-        told, calls = histories.read_history(guest, 1)
-        self.assertEqual((told[-1], calls), ("5 1 return refused 16 Busy", 2))
+        calls = histories.read_history(guest, 1)
+        told = ["0 want 0 0", "1 freeze user", "0 ok", "2 thaw kernel", "1 ok", "2 ok", "1 freeze user", "1 refused 16 Busy"]
+        self.assertEqual(histories.as_history(calls, (6, 1, 192)), told)
+        told[1], told[5] = "1 retry freeze user", "2 ?"
+        self.assertEqual(histories.as_history(calls, (6, 12, 117)), told)
+        told[5] = "2 ok"
+        self.assertEqual(histories.as_history(calls, (6, 12, 110)), told)
+        self.assertRaises(schedules.Unreadable, histories.as_history, calls[:-1], (6, 1, 192))
         lines = iter(["1 0 begins want"])
         self.assertRaises(schedules.Unreadable, histories.read_history, guest, 1)
 
@@ -161,8 +197,9 @@ class Readings(unittest.TestCase):
 
     def run_recorded(self, log, spoil=lambda line: line):
         """The answers of a recorded schedule."""
-        sides = Sides(log)
-        return schedules.run(Recorded(log), sides, Guest(sides), spoil)
+        answers, sides = [], Sides(log)
+        schedules.run(Recorded(log), sides, Guest(sides), spoil, answers)
+        return answers
 
     def test_recorded_schedules_agree(self):
         told = set()
@@ -171,7 +208,7 @@ class Readings(unittest.TestCase):
             self.assertFalse(any(answer.differs() for answer in answers))
             self.assertEqual(len(answers), sum(line.startswith("guest< ") for line in log))
             told |= {answer.ours[0] for answer in answers}
-        self.assertEqual(told, {"ok", "waits", "inside", "refused 16 Busy", "refused 22 Invalid", "refused 30 ReadOnly"})
+        self.assertEqual(told, {"ok", "waits", "inside", "refused 16 Busy", "refused 22 Invalid", "refused 30 ReadOnly", "refused hook 22"})
 
     def test_each_wrong_answer_differs(self):
         log = schedules_of(LOG)[0]
@@ -186,8 +223,8 @@ class Readings(unittest.TestCase):
 
     def test_a_schedule_that_differs_is_one_for_replay(self):
         log = schedules_of(LOG)[0]
-        sides = Sides(log)
-        answers = schedules.run(Recorded(log), sides, Guest(sides), lambda line: line[:-2] + "ro")
+        answers, sides = [], Sides(log)
+        schedules.run(Recorded(log), sides, Guest(sides), lambda line: line[:-2] + "ro", answers)
         told = schedules.as_schedule(sides, answers[-1])
         self.assertEqual(told[0], schedules.CONFIG)
         self.assertTrue(told[-1].startswith("# "))

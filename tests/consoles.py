@@ -8,7 +8,7 @@ import subprocess
 
 ROOT = os.path.dirname(os.path.dirname(os.path.realpath(__file__)))
 PROGRAM = f"{ROOT}/crates/mntgate/out/mntgate"
-FOLDERS = ("crates", "bench", "bin", "bindings", "docs", "examples", "kernel", "man", "tests", ".ci")
+FOLDERS = ("crates", "bench", "bin", "bindings", "docs", "examples", "kernel", "man", "tests", "tools", ".ci")
 PATH = re.compile(rf"^(?:{'|'.join(map(re.escape, FOLDERS))})/[\w./*-]*$")
 # What a path may have that stands for many, or that is built.
 OPEN_ENDS = ("NAME", "..", "<", "/out")

@@ -2,8 +2,10 @@
 """Tests the pages README.md, CONTRIBUTING.md, docs/**/*.md and examples/**/*.md against the repository and the built program.
 
     tests/test_pages.py [--links] [PROGRAM]
+    tests/test_pages.py --in FOLDER PAGE..
 
-With no PROGRAM it takes crates/mntgate/out/mntgate. With --links it runs no command. Five things are tested:
+With no PROGRAM it takes crates/mntgate/out/mntgate. With --links it runs no command. With --in it runs the commands of these pages in that folder, which
+has its own bin/mntgate, and tests nothing else. Five things are tested:
 
 Links      A link to a file names one that exists, and its #heading one that the file has. Links to other hosts are not followed.
 Paths      A path in backticks that begins with a folder of the repository exists. One with NAME, `..`, `<` or /out is skipped.
@@ -141,15 +143,20 @@ def commands_of(block):
     return [(number, "\n".join(words), printed) for number, words, printed in found]
 
 
-def command_faults(page, program):
-    """The commands of a page that print something else; and how many there are."""
+def faults_in(folder, page):
+    """The commands of a page that print something else in this folder; and how many there are."""
     faults = []
+    for block in page.blocks:
+        for number, command, wanted in commands_of(block) if block.info == "console" else []:
+            faults.append(command_fault(f"{page.path}:{number}", command, wanted, folder))
+    return [fault for fault in faults if fault], len(faults)
+
+
+def command_faults(page, program):
+    """The same in a folder like the repository, with this program."""
     with tempfile.TemporaryDirectory() as folder:
         make_folder(folder, program)
-        for block in page.blocks:
-            for number, command, wanted in commands_of(block) if block.info == "console" else []:
-                faults.append(command_fault(f"{page.path}:{number}", command, wanted, folder))
-    return [fault for fault in faults if fault], len(faults)
+        return faults_in(folder, page)
 
 
 def quote_faults(page):
@@ -179,8 +186,19 @@ def quote_faults(page):
     return faults, count
 
 
+def type_in(folder, paths):
+    """Runs the commands of these pages in a folder; the exit status."""
+    faults, commands = [], 0
+    for path in paths:
+        ended, count = faults_in(folder, read_page(path))
+        faults, commands = faults + ended, commands + count
+    return verdict(faults, f"{' and '.join(paths)}: {commands} commands print what they say in {folder}")
+
+
 def main(words):
     """Tests the pages; the exit status."""
+    if words[:1] == ["--in"]:
+        return type_in(words[1], words[2:])
     links_alone = "--links" in words
     program = next((word for word in words if word != "--links"), PROGRAM)
     if not links_alone:

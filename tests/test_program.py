@@ -71,8 +71,9 @@ def checks_of_cases(cases):
 
 
 def checks_of_examples():
-    """A check of all examples, schedules and races: each prints what it says that it prints."""
+    """A check of all examples, schedules, races and histories: each prints what it says that it prints."""
     files = sorted(glob.glob(f"{ROOT}/examples/*.schedule")) + sorted(glob.glob(f"{ROOT}/examples/races/**/*.race", recursive=True))
+    files += sorted(glob.glob(f"{ROOT}/examples/histories/*.history"))
     yield check_of(Program.run, ["check", *files], "all examples", (0, f"{len(files)} passed, 0 failed\n", ""))
 
 

@@ -38,7 +38,8 @@
  *   of the gates: what follows the call comes after what preceded every such call that began earlier. So it reports no accesses that the gates
  *   order, and it misses some races that they don't prevent. It isn't told of a call through a pointer to one of these functions.
  *
- * Link with -lmntgate -lpthread (pkg-config mntgate). docs/c.md is the guide.
+ * Link with -lmntgate -lpthread (pkg-config mntgate). docs/c.md is the guide. The library in lib/mntgate-recording does the same, and writes a history of
+ * all calls to the file that MNTGATE_HISTORY names: docs/histories.md.
  */
 #ifndef MNTGATE_H
 #define MNTGATE_H

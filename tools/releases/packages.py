@@ -104,10 +104,12 @@ def put_manual(folder, pages, section):
 
 
 def package_program(out, work, version, epoch):
-    """The program, its manual, the pages and the examples."""
+    """The program, its manual, its completions, the pages and the examples."""
     folder, top = f"{work}/mntgate.deb", f"{work}/top"
     put(f"{folder}/usr/bin/mntgate", read(f"{top}/bin/mntgate"), 0o755)
     put_manual(folder, f"{top}/share/man", 1)
+    put(f"{folder}/usr/share/bash-completion/completions/mntgate", read(f"{top}/share/bash-completion/completions/mntgate"))
+    put(f"{folder}/usr/share/zsh/vendor-completions/_mntgate", read(f"{top}/share/zsh/site-functions/_mntgate"))
     for name in ("html", "examples"):
         shutil.copytree(f"{top}/{name}", f"{folder}/usr/share/doc/mntgate/{name}")
     put(f"{folder}/usr/share/doc/mntgate/PROOF.txt", read(f"{top}/PROOF.txt"))

@@ -30,6 +30,11 @@ def tools():
     return [said(*words).splitlines()[0] for words in asked]
 
 
+def kit_of():
+    """Returns the line of `rt version` of the kit that README.md names."""
+    return re.search(r"`(rattle-kit-\S+ logic \S+)`", text("README.md"))[1]
+
+
 def evidence(log, epoch, built):
     """Returns the text of PROOF.txt. Stops unless the log has a proof of each crate, by one kit, and ends with no failure."""
     verdicts = verdicts_in(log)
@@ -39,7 +44,7 @@ def evidence(log, epoch, built):
     ends = re.findall(r"^rt: ok; .*", log, re.M)[-1:] + re.findall(r"^\d+ passed, 0 failed$", log, re.M)[-1:]
     if len(ends) != 2:
         stop("the log doesn't end with 'N passed, 0 failed'")
-    kit = re.search(r"`(rattle-kit-\S+ logic \S+)`", text("README.md"))[1]
+    kit = kit_of()
     if {line.split("sum=")[1].split()[0] for line in verdicts.values() if "sum=" in line} != {kit.split()[-1]}:
         stop(f"the log is of another logic than {kit}, which README.md names")
     commit = said("git", "-C", ROOT, "rev-parse", "HEAD")
@@ -57,7 +62,8 @@ def evidence(log, epoch, built):
         "Its verdict on each crate. The words behind it are explained in docs/testing.md, \"What a verdict says\".",
         *(f"{crate:{width}} {verdicts[crate]}" for crate in crates),
         "",
-        "SHA-256 of what it built. The release has them stripped, and the library linked with the kit's lines of C:",
+        "SHA-256 of what it built. The release has them stripped. The program's --version has this commit and kit, and nothing else in it is changed.",
+        "The library is linked with the kit's lines of C:",
         *sums,
         "The output of .ci/run names this commit and these sums." if fits else "The output of .ci/run names another commit or other sums: that it is of these is the word of whoever made the release.",
         "",

@@ -1,1 +1,2 @@
+pub mod Deadlines
 pub mod Reports

@@ -4,6 +4,7 @@
 #![tactic(auto)]
 
 mod backup;
+pub mod deadline;
 mod report;
 pub mod run;
 mod writer;

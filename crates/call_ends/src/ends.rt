@@ -1,18 +1,16 @@
 //! Operations done to their end, event after event, each in the form of its own kind, with nothing written down in between.
 
-ghost use Rattle.std.specs.Prelude.{◌≡◌, ℕ, Some, None};
+ghost use Rattle.std.specs.Prelude.{◌≡◌, Some, None};
 ghost use Rattle.access_model.specs.Replies.{map_next};
-ghost use Rattle.access_model.specs.declared.replies.Next.TheVariants.{Go};
-ghost use Rattle.gate_world.specs.Views.{phase_after};
+ghost use Rattle.access_model.specs.declared.replies.Next.TheVariants.{Done, Go};
 ghost use Rattle.gate_world.specs.declared.operations.Op.{Op as OpType};
 ghost use Rattle.gate_world.specs.declared.work.Phase.TheVariants.{Callbacks, Freezes, Remounts, Thaws};
 ghost use Rattle.call_lines.specs.CallingBack.{of_callback};
 ghost use Rattle.call_lines.specs.Closings.{of_freeze};
-ghost use Rattle.gate_steps.specs.call_events.KnownSteps.{KnownSteps, KnownStepsAsking};
+ghost use Rattle.gate_steps.specs.call_events.Led.{Led, LedAsking, Stands, StaysSeated, seated_at};
 ghost use Rattle.call_lines.specs.Remounting.{of_remount};
 ghost use Rattle.call_lines.specs.Reopenings.{of_thaw};
-ghost use Rattle.gate_steps.specs.call_events.SeatedTasks.{SeatedTask, task_state};
-ghost use Rattle.gate_steps.specs.call_events.Turns.{StateAgrees, AgreesAfter};
+ghost use Rattle.gate_steps.specs.call_events.SeatedTasks.{SeatedTask};
 ghost use Rattle.gate_steps.specs.call_events.Runs.{Called, OpUnderWay, IsTrying};
 ghost use Rattle.gate_steps.specs.call_events.Asking.{CalledAsking, OpUnderWayAsking, OpAfterStepAsking};
 
@@ -36,8 +34,7 @@ pub trait Waiting: PendingOp {
     ghost use Rattle.access_model.specs.Replies.{map_next};
     ghost use Rattle.access_model.specs.declared.replies.Next.TheVariants.{Go};
     ghost use Rattle.gate_steps.specs.call_events.Asking.{call_at};
-    ghost use Rattle.gate_steps.specs.call_events.KnownSteps.{KnownStepsAsking};
-    ghost use Rattle.gate_steps.specs.call_events.Turns.{StateAgrees};
+    ghost use Rattle.gate_steps.specs.call_events.Led.{LedAsking, Stands};
 
     /// The hook whose answer the next event reads, with what it is asked.
     fn asks(&self) -> Option<HookCall>
@@ -53,11 +50,9 @@ pub trait Waiting: PendingOp {
         op: Op,
         hooks: &mut H,
     ) -> Next<Self>
-        requires table { seat.old.table_id ≡ gates.now.table.shared.table_id }
-        requires agrees { StateAgrees gates.now.config (Some op) (Some (Self.as_phase self)) accesses.now seat.old.me.0.items }
-        ensures slots { seat.new.me.1 ≡ seat.old.me.1 }
-        ensures led { KnownStepsAsking H.answers gates.now.config (Some op) accesses.now (Go (Self.as_phase self)) seat.old.table_id seat.old.me.0
-            hooks.old (map_next Self.as_phase result) seat.new.table_id seat.new.me.0 hooks.new };
+        requires { Stands gates.now (Some op) (Go (Self.as_phase self)) accesses.now seat.old }
+        ensures { LedAsking H.answers gates.now (Some op) (Go (Self.as_phase self)) accesses.now seat.old hooks.old
+            (map_next Self.as_phase result) accesses.now seat.new hooks.new };
 
     /// Does the steps that come next and stand in a line, likewise; none where the operation stands at none of these.
     fn run_fast_path<H: TimedHooks>(
@@ -67,11 +62,9 @@ pub trait Waiting: PendingOp {
         accesses: &Accesses,
         hooks: &mut H,
     ) -> Next<Self>
-        requires table { seat.old.table_id ≡ gates.now.table.shared.table_id }
-        requires agrees { StateAgrees gates.now.config None (Some (Self.as_phase self)) accesses.now seat.old.me.0.items }
-        ensures slots { seat.new.me.1 ≡ seat.old.me.1 }
-        ensures led { KnownStepsAsking H.answers gates.now.config None accesses.now (Go (Self.as_phase self)) seat.old.table_id seat.old.me.0
-            hooks.old (map_next Self.as_phase result) seat.new.table_id seat.new.me.0 hooks.new };
+        requires { Stands gates.now None (Go (Self.as_phase self)) accesses.now seat.old }
+        ensures { LedAsking H.answers gates.now None (Go (Self.as_phase self)) accesses.now seat.old hooks.old (map_next Self.as_phase result)
+            accesses.now seat.new hooks.new };
 }
 
 impl Waiting for Freeze {
@@ -219,11 +212,9 @@ fn thaw_in_line<H: TimedHooks>(
     thaw: Thaw,
     hooks: &mut H,
 ) -> Next<Thaw>
-    requires table { seat.old.table_id ≡ gates.now.table.shared.table_id }
-    requires agrees { StateAgrees gates.now.config None (Some (Thaws thaw)) accesses.now seat.old.me.0.items }
-    ensures slots { seat.new.me.1 ≡ seat.old.me.1 }
-    ensures led { KnownStepsAsking H.answers gates.now.config None accesses.now (Go (Thaws thaw)) seat.old.table_id seat.old.me.0 hooks.old
-        (of_thaw result) seat.new.table_id seat.new.me.0 hooks.new }
+    requires { Stands gates.now None (Go (Thaws thaw)) accesses.now seat.old }
+    ensures { LedAsking H.answers gates.now None (Go (Thaws thaw)) accesses.now seat.old hooks.old (of_thaw result) accesses.now seat.new
+        hooks.new }
 {
     match thaw.step {
         ThawStep::LoadsStage => thaw_locked(gates, seat, accesses, thaw, hooks),
@@ -241,11 +232,9 @@ fn remount_in_line<H: TimedHooks>(
     remount: Remount,
     hooks: &mut H,
 ) -> Next<Remount>
-    requires table { seat.old.table_id ≡ gates.now.table.shared.table_id }
-    requires agrees { StateAgrees gates.now.config None (Some (Remounts remount)) accesses.now seat.old.me.0.items }
-    ensures slots { seat.new.me.1 ≡ seat.old.me.1 }
-    ensures led { KnownStepsAsking H.answers gates.now.config None accesses.now (Go (Remounts remount)) seat.old.table_id seat.old.me.0 hooks.old
-        (of_remount result) seat.new.table_id seat.new.me.0 hooks.new }
+    requires { Stands gates.now None (Go (Remounts remount)) accesses.now seat.old }
+    ensures { LedAsking H.answers gates.now None (Go (Remounts remount)) accesses.now seat.old hooks.old (of_remount result) accesses.now
+        seat.new hooks.new }
 {
     match remount.step {
         RemountStep::LoadsStage => remount_locked(gates, seat, accesses, remount, hooks),
@@ -261,11 +250,8 @@ fn callback_in_line(
     accesses: &Accesses,
     callback: Callback,
 ) -> Next<Callback>
-    requires table { seat.old.table_id ≡ gates.now.table.shared.table_id }
-    requires agrees { StateAgrees gates.now.config None (Some (Callbacks callback)) accesses.now seat.old.me.0.items }
-    ensures slots { seat.new.me.1 ≡ seat.old.me.1 }
-    ensures led { KnownSteps gates.now.config None accesses.now (Go (Callbacks callback)) seat.old.table_id seat.old.me.0
-        (of_callback result) seat.new.table_id seat.new.me.0 }
+    requires { Stands gates.now None (Go (Callbacks callback)) accesses.now seat.old }
+    ensures { Led gates.now None (Go (Callbacks callback)) accesses.now seat.old (of_callback result) accesses.now seat.new }
 {
     match callback.step {
         CallbackStep::AwaitsSections(grace) => {
@@ -289,11 +275,9 @@ fn freeze_in_line<H: TimedHooks>(
     freeze: Freeze,
     hooks: &mut H,
 ) -> Next<Freeze>
-    requires table { seat.old.table_id ≡ gates.now.table.shared.table_id }
-    requires agrees { StateAgrees gates.now.config None (Some (Freezes freeze)) accesses.now seat.old.me.0.items }
-    ensures slots { seat.new.me.1 ≡ seat.old.me.1 }
-    ensures led { KnownStepsAsking H.answers gates.now.config None accesses.now (Go (Freezes freeze)) seat.old.table_id seat.old.me.0 hooks.old
-        (of_freeze result) seat.new.table_id seat.new.me.0 hooks.new }
+    requires { Stands gates.now None (Go (Freezes freeze)) accesses.now seat.old }
+    ensures { LedAsking H.answers gates.now None (Go (Freezes freeze)) accesses.now seat.old hooks.old (of_freeze result) accesses.now seat.new
+        hooks.new }
 {
     match freeze.step {
         FreezeStep::LoadsStage => freeze_locked(gates, seat, accesses, &freeze, hooks),
@@ -313,18 +297,9 @@ fn step_asking<P: Waiting, H: TimedHooks>(
     under_way: P,
     hooks: &mut H,
 ) -> Next<P>
-    requires table { seat.old.table_id ≡ gates.now.table.shared.table_id }
-    requires agrees { StateAgrees gates.now.config None (Some (P.as_phase under_way)) accesses.old seat.old.me.0.items }
-    ensures table { seat.new.table_id ≡ seat.old.table_id }
-    ensures slots { seat.new.me.1 ≡ seat.old.me.1 }
-    ensures agrees { AgreesAfter gates.now.config None (Some (P.as_phase under_way)) accesses.old seat.old.me.0.items
-        (phase_after (map_next P.as_phase result)) accesses.new seat.new.me.0.items }
-    ensures still { StateAgrees gates.now.config None (phase_after (map_next P.as_phase result)) accesses.new seat.new.me.0.items }
-    ensures asked { (waits : ℕ) (op : OpType) (start : SeatedTask) (before : H) →
-        OpUnderWayAsking H.answers waits op start before
-        (task_state seat.old.table_id gates.now.config None (Some (P.as_phase under_way)) seat.old.me.0) hooks.old →
-        OpAfterStepAsking H.answers waits op start before (map_next P.as_phase result)
-        (task_state seat.new.table_id gates.now.config None (phase_after (map_next P.as_phase result)) seat.new.me.0) hooks.new }
+    requires { Stands gates.now None (Go (P.as_phase under_way)) accesses.old seat.old }
+    ensures { LedAsking H.answers gates.now None (Go (P.as_phase under_way)) accesses.old seat.old hooks.old (map_next P.as_phase result)
+        accesses.new seat.new hooks.new }
 {
     let hook = match under_way.asks() {
         Some(call) => hooks.ask(call, seat),
@@ -342,11 +317,9 @@ fn go_on_in_line<P: Waiting, H: TimedHooks>(
     next: Next<P>,
     hooks: &mut H,
 ) -> Next<P>
-    requires table { seat.old.table_id ≡ gates.now.table.shared.table_id }
-    requires agrees { StateAgrees gates.now.config None (phase_after (map_next P.as_phase next)) accesses.now seat.old.me.0.items }
-    ensures slots { seat.new.me.1 ≡ seat.old.me.1 }
-    ensures led { KnownStepsAsking H.answers gates.now.config None accesses.now (map_next P.as_phase next) seat.old.table_id seat.old.me.0 hooks.old
-        (map_next P.as_phase result) seat.new.table_id seat.new.me.0 hooks.new }
+    requires { Stands gates.now None (map_next P.as_phase next) accesses.now seat.old }
+    ensures { LedAsking H.answers gates.now None (map_next P.as_phase next) accesses.now seat.old hooks.old (map_next P.as_phase result)
+        accesses.now seat.new hooks.new }
 {
     match next {
         Next::Go(under_way) => under_way.run_fast_path(gates, seat, accesses, hooks),
@@ -364,16 +337,12 @@ pub fn run_to_reply<P: PendingOp>(
     op: Op,
     first: P,
 ) -> Result<Reply, GateError>
-    requires table { seat.old.table_id ≡ gates.now.table.shared.table_id }
-    requires agrees { StateAgrees gates.now.config (Some op) (Some (P.as_phase first)) accesses.old seat.old.me.0.items }
-    requires trying { IsTrying (task_state seat.old.table_id gates.now.config (Some op) (Some (P.as_phase first)) seat.old.me.0) }
-    ensures table { seat.new.table_id ≡ seat.old.table_id }
-    ensures slots { seat.new.me.1 ≡ seat.old.me.1 }
-    ensures agrees { AgreesAfter gates.now.config (Some op) (Some (P.as_phase first)) accesses.old seat.old.me.0.items
-        None accesses.new seat.new.me.0.items }
+    requires stands { Stands gates.now (Some op) (Go (P.as_phase first)) accesses.old seat.old }
+    requires trying { IsTrying (seated_at gates.now (Some op) (Go (P.as_phase first)) seat.old) }
+    ensures seated { StaysSeated gates.now (Some op) (Go (P.as_phase first)) accesses.old seat.old (Done result) accesses.new seat.new }
     ensures called { (of : OpType) (start : SeatedTask) →
-        OpUnderWay of start (task_state seat.old.table_id gates.now.config (Some op) (Some (P.as_phase first)) seat.old.me.0) →
-        Called of start (task_state seat.new.table_id gates.now.config None None seat.new.me.0) result }
+        OpUnderWay of start (seated_at gates.now (Some op) (Go (P.as_phase first)) seat.old) →
+        Called of start (seated_at gates.now None (Done result) seat.new) result }
 {
     let mut begins = Some(op);
     let mut under_way = first;
@@ -405,17 +374,12 @@ fn step_waiting<R: Wait, H: TimedHooks, P: Waiting>(
     begun: Next<P>,
     hooks: &mut H,
 ) -> (Result<Reply, GateError>, u64)
-    requires table { seat.old.table_id ≡ gates.now.table.shared.table_id }
-    requires agrees { StateAgrees gates.now.config None (phase_after (map_next P.as_phase begun)) accesses.old seat.old.me.0.items }
-    ensures table { seat.new.table_id ≡ seat.old.table_id }
-    ensures slots { seat.new.me.1 ≡ seat.old.me.1 }
-    ensures agrees { AgreesAfter gates.now.config None (phase_after (map_next P.as_phase begun)) accesses.old seat.old.me.0.items
-        None accesses.new seat.new.me.0.items }
+    requires { Stands gates.now None (map_next P.as_phase begun) accesses.old seat.old }
+    ensures seated { StaysSeated gates.now None (map_next P.as_phase begun) accesses.old seat.old (Done result.0) accesses.new seat.new }
     ensures called { (of : OpType) (start : SeatedTask) (before : H) →
-        OpAfterStepAsking H.answers 0 of start before (map_next P.as_phase begun)
-        (task_state seat.old.table_id gates.now.config None (phase_after (map_next P.as_phase begun)) seat.old.me.0) hooks.old →
-        CalledAsking H.answers of start before (task_state seat.new.table_id gates.now.config None None seat.new.me.0) result.0 result.1
-        hooks.new }
+        OpAfterStepAsking H.answers 0 of start before (map_next P.as_phase begun) (seated_at gates.now None (map_next P.as_phase begun) seat.old)
+        hooks.old →
+        CalledAsking H.answers of start before (seated_at gates.now None (Done result.0) seat.new) result.0 result.1 hooks.new }
 {
     let mut backoff = Backoff::new();
     let mut waited: u64 = 0;
@@ -448,17 +412,11 @@ pub fn wait_for_reply<R: Wait, H: TimedHooks, P: Waiting>(
     first: P,
     hooks: &mut H,
 ) -> (Result<Reply, GateError>, u64)
-    requires table { seat.old.table_id ≡ gates.now.table.shared.table_id }
-    requires agrees { StateAgrees gates.now.config (Some op) (Some (P.as_phase first)) accesses.old seat.old.me.0.items }
-    ensures table { seat.new.table_id ≡ seat.old.table_id }
-    ensures slots { seat.new.me.1 ≡ seat.old.me.1 }
-    ensures agrees { AgreesAfter gates.now.config (Some op) (Some (P.as_phase first)) accesses.old seat.old.me.0.items
-        None accesses.new seat.new.me.0.items }
+    requires { Stands gates.now (Some op) (Go (P.as_phase first)) accesses.old seat.old }
+    ensures seated { StaysSeated gates.now (Some op) (Go (P.as_phase first)) accesses.old seat.old (Done result.0) accesses.new seat.new }
     ensures called { (of : OpType) (start : SeatedTask) (before : H) →
-        OpUnderWayAsking H.answers 0 of start before
-        (task_state seat.old.table_id gates.now.config (Some op) (Some (P.as_phase first)) seat.old.me.0) hooks.old →
-        CalledAsking H.answers of start before (task_state seat.new.table_id gates.now.config None None seat.new.me.0) result.0 result.1
-        hooks.new }
+        OpUnderWayAsking H.answers 0 of start before (seated_at gates.now (Some op) (Go (P.as_phase first)) seat.old) hooks.old →
+        CalledAsking H.answers of start before (seated_at gates.now None (Done result.0) seat.new) result.0 result.1 hooks.new }
 {
     let next = first.begin_in_line(gates, seat, accesses, op, hooks);
     if let Next::Done(answer) = next {

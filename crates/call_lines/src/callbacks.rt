@@ -1,12 +1,11 @@
 //! The steps of a callback, in a line.
 
-ghost use Rattle.std.specs.Prelude.{◌≡◌, Some, None};
+ghost use Rattle.std.specs.Prelude.{Some, None};
 ghost use Rattle.access_model.specs.declared.replies.Next.TheVariants.{Go};
 ghost use Rattle.percpu_rwsem.specs.declared.callbacks.CallbackStep.TheVariants.{AwaitsSections, CallsBack, Claims};
 ghost use Rattle.percpu_rwsem.specs.declared.transitions.Transition.TheVariants.{Loads};
 ghost use Rattle.call_lines.specs.CallingBack.{called_or, calling_at, of_callback, sections_ended};
-ghost use Rattle.gate_steps.specs.call_events.KnownSteps.{KnownSteps};
-ghost use Rattle.gate_steps.specs.call_events.Turns.{StateAgrees};
+ghost use Rattle.gate_steps.specs.call_events.Led.{Led, Stands};
 
 use access_model::{Next, Reply};
 use cpu_words::{Touch, WordName};
@@ -25,11 +24,9 @@ fn await_sections(
     tasks: u8,
     mut grace: Grace,
 ) -> Option<Grace>
-    requires table { seat.old.table_id ≡ gates.now.table.shared.table_id }
-    requires agrees { StateAgrees gates.now.config None (Some (calling_at level tasks (AwaitsSections grace))) accesses.now seat.old.me.0.items }
-    ensures slots { seat.new.me.1 ≡ seat.old.me.1 }
-    ensures led { KnownSteps gates.now.config None accesses.now (Go (calling_at level tasks (AwaitsSections grace))) seat.old.table_id seat.old.me.0
-        (sections_ended level tasks result) seat.new.table_id seat.new.me.0 }
+    requires { Stands gates.now None (Go (calling_at level tasks (AwaitsSections grace))) accesses.now seat.old }
+    ensures { Led gates.now None (Go (calling_at level tasks (AwaitsSections grace))) accesses.now seat.old (sections_ended level tasks result)
+        accesses.now seat.new }
 {
     loop {
         let step = CallbackStep::AwaitsSections(grace);
@@ -55,11 +52,9 @@ fn call_back(
     tasks: u8,
     rest: &mut Next<Callback>,
 ) -> bool
-    requires table { seat.old.table_id ≡ gates.now.table.shared.table_id }
-    requires agrees { StateAgrees gates.now.config None (Some (calling_at level tasks (CallsBack Loads))) accesses.now seat.old.me.0.items }
-    ensures slots { seat.new.me.1 ≡ seat.old.me.1 }
-    ensures led { KnownSteps gates.now.config None accesses.now (Go (calling_at level tasks (CallsBack Loads))) seat.old.table_id seat.old.me.0
-        (called_or result rest.new) seat.new.table_id seat.new.me.0 }
+    requires { Stands gates.now None (Go (calling_at level tasks (CallsBack Loads))) accesses.now seat.old }
+    ensures { Led gates.now None (Go (calling_at level tasks (CallsBack Loads))) accesses.now seat.old (called_or result rest.new) accesses.now
+        seat.new }
 {
     let sync = WordName::Sync(level);
     let step = CallbackStep::CallsBack(Transition::Loads);
@@ -96,11 +91,9 @@ pub fn run_callback(
     grace: Grace,
     rest: &mut Next<Callback>,
 ) -> bool
-    requires table { seat.old.table_id ≡ gates.now.table.shared.table_id }
-    requires agrees { StateAgrees gates.now.config None (Some (calling_at level tasks (AwaitsSections grace))) accesses.now seat.old.me.0.items }
-    ensures slots { seat.new.me.1 ≡ seat.old.me.1 }
-    ensures led { KnownSteps gates.now.config None accesses.now (Go (calling_at level tasks (AwaitsSections grace))) seat.old.table_id seat.old.me.0
-        (called_or result rest.new) seat.new.table_id seat.new.me.0 }
+    requires { Stands gates.now None (Go (calling_at level tasks (AwaitsSections grace))) accesses.now seat.old }
+    ensures { Led gates.now None (Go (calling_at level tasks (AwaitsSections grace))) accesses.now seat.old (called_or result rest.new)
+        accesses.now seat.new }
 {
     if let Some(further) = await_sections(gates, seat, accesses, level, tasks, grace) {
         let step = CallbackStep::AwaitsSections(further);
@@ -120,11 +113,9 @@ pub fn callback_first(
     level: u8,
     tasks: u8,
 ) -> Next<Callback>
-    requires table { seat.old.table_id ≡ gates.now.table.shared.table_id }
-    requires agrees { StateAgrees gates.now.config (Some op) (Some (calling_at level tasks (Claims Loads))) accesses.now seat.old.me.0.items }
-    ensures slots { seat.new.me.1 ≡ seat.old.me.1 }
-    ensures led { KnownSteps gates.now.config (Some op) accesses.now (Go (calling_at level tasks (Claims Loads))) seat.old.table_id seat.old.me.0
-        (of_callback result) seat.new.table_id seat.new.me.0 }
+    requires { Stands gates.now (Some op) (Go (calling_at level tasks (Claims Loads))) accesses.now seat.old }
+    ensures { Led gates.now (Some op) (Go (calling_at level tasks (Claims Loads))) accesses.now seat.old (of_callback result) accesses.now
+        seat.new }
 {
     let sync = WordName::Sync(level);
     let step = CallbackStep::Claims(Transition::Loads);

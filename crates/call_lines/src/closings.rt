@@ -1,6 +1,6 @@
 //! The events by which a freeze closes a level, in a line.
 
-ghost use Rattle.std.specs.Prelude.{◌≡◌, Some, None};
+ghost use Rattle.std.specs.Prelude.{◌≡◌, None};
 ghost use Rattle.access_model.specs.declared.replies.Next.TheVariants.{Go, Wait};
 ghost use Rattle.freeze_levels.specs.Freezes.{freeze_closes};
 ghost use Rattle.gate_world.specs.declared.work.Phase.TheVariants.{Freezes};
@@ -8,8 +8,7 @@ ghost use Rattle.percpu_rwsem.specs.declared.writers.DownWriteStep.TheVariants.{
 ghost use Rattle.percpu_rwsem.specs.declared.transitions.Transition.TheVariants.{Loads};
 ghost use Rattle.percpu_rwsem.specs.Writers.{entered_from};
 ghost use Rattle.call_lines.specs.Closings.{awaited, closed_or, closing_at, standing, summed, waiting_at};
-ghost use Rattle.gate_steps.specs.call_events.KnownSteps.{KnownSteps};
-ghost use Rattle.gate_steps.specs.call_events.Turns.{StateAgrees};
+ghost use Rattle.gate_steps.specs.call_events.Led.{Led, Stands};
 
 use access_model::Next;
 use cpu_words::{Sum, Taken, Touch, WordName};
@@ -94,11 +93,9 @@ fn enter(
     freeze: &Freeze,
     level: u8,
 ) -> DownWriteStep
-    requires table { seat.old.table_id ≡ gates.now.table.shared.table_id }
-    requires agrees { StateAgrees gates.now.config None (Some (closing_at freeze.now level (Enters Loads))) accesses.now seat.old.me.0.items }
-    ensures slots { seat.new.me.1 ≡ seat.old.me.1 }
-    ensures led { KnownSteps gates.now.config None accesses.now (Go (closing_at freeze.now level (Enters Loads))) seat.old.table_id seat.old.me.0
-        (Go (closing_at freeze.now level result)) seat.new.table_id seat.new.me.0 }
+    requires { Stands gates.now None (Go (closing_at freeze.now level (Enters Loads))) accesses.now seat.old }
+    ensures { Led gates.now None (Go (closing_at freeze.now level (Enters Loads))) accesses.now seat.old
+        (Go (closing_at freeze.now level result)) accesses.now seat.new }
 {
     let sync = WordName::Sync(level);
     let again = DownWriteStep::Enters(Transition::Loads);
@@ -141,11 +138,9 @@ fn await_sections(
     level: u8,
     mut grace: Grace,
 ) -> Option<Grace>
-    requires table { seat.old.table_id ≡ gates.now.table.shared.table_id }
-    requires agrees { StateAgrees gates.now.config None (Some (closing_at freeze.now level (AwaitsSections grace))) accesses.now seat.old.me.0.items }
-    ensures slots { seat.new.me.1 ≡ seat.old.me.1 }
-    ensures led { KnownSteps gates.now.config None accesses.now (Go (closing_at freeze.now level (AwaitsSections grace))) seat.old.table_id seat.old.me.0
-        (awaited freeze.now level result) seat.new.table_id seat.new.me.0 }
+    requires { Stands gates.now None (Go (closing_at freeze.now level (AwaitsSections grace))) accesses.now seat.old }
+    ensures { Led gates.now None (Go (closing_at freeze.now level (AwaitsSections grace))) accesses.now seat.old
+        (awaited freeze.now level result) accesses.now seat.new }
 {
     loop {
         let step = DownWriteStep::AwaitsSections(grace);
@@ -183,11 +178,9 @@ fn call_back(
     freeze: &Freeze,
     level: u8,
 ) -> DownWriteStep
-    requires table { seat.old.table_id ≡ gates.now.table.shared.table_id }
-    requires agrees { StateAgrees gates.now.config None (Some (closing_at freeze.now level (CallsBack Loads))) accesses.now seat.old.me.0.items }
-    ensures slots { seat.new.me.1 ≡ seat.old.me.1 }
-    ensures led { KnownSteps gates.now.config None accesses.now (Go (closing_at freeze.now level (CallsBack Loads))) seat.old.table_id seat.old.me.0
-        (Go (closing_at freeze.now level result)) seat.new.table_id seat.new.me.0 }
+    requires { Stands gates.now None (Go (closing_at freeze.now level (CallsBack Loads))) accesses.now seat.old }
+    ensures { Led gates.now None (Go (closing_at freeze.now level (CallsBack Loads))) accesses.now seat.old
+        (Go (closing_at freeze.now level result)) accesses.now seat.new }
 {
     let sync = WordName::Sync(level);
     let again = DownWriteStep::CallsBack(Transition::Loads);
@@ -229,11 +222,9 @@ fn sum_counts(
     level: u8,
     mut sum: Sum,
 ) -> bool
-    requires table { seat.old.table_id ≡ gates.now.table.shared.table_id }
-    requires agrees { StateAgrees gates.now.config None (Some (closing_at freeze.now level (Sums sum))) accesses.now seat.old.me.0.items }
-    ensures slots { seat.new.me.1 ≡ seat.old.me.1 }
-    ensures led { KnownSteps gates.now.config None accesses.now (Go (closing_at freeze.now level (Sums sum))) seat.old.table_id seat.old.me.0
-        (summed freeze.now level result) seat.new.table_id seat.new.me.0 }
+    requires { Stands gates.now None (Go (closing_at freeze.now level (Sums sum))) accesses.now seat.old }
+    ensures { Led gates.now None (Go (closing_at freeze.now level (Sums sum))) accesses.now seat.old (summed freeze.now level result)
+        accesses.now seat.new }
 {
     loop {
         let step = DownWriteStep::Sums(sum);
@@ -266,11 +257,9 @@ fn sum(
     so_far: Sum,
     rest: &mut Next<Freeze>,
 ) -> bool
-    requires table { seat.old.table_id ≡ gates.now.table.shared.table_id }
-    requires agrees { StateAgrees gates.now.config None (Some (closing_at freeze.now level (Sums so_far))) accesses.now seat.old.me.0.items }
-    ensures slots { seat.new.me.1 ≡ seat.old.me.1 }
-    ensures led { KnownSteps gates.now.config None accesses.now (Go (closing_at freeze.now level (Sums so_far))) seat.old.table_id seat.old.me.0
-        (closed_or freeze.now level result rest.new) seat.new.table_id seat.new.me.0 }
+    requires { Stands gates.now None (Go (closing_at freeze.now level (Sums so_far))) accesses.now seat.old }
+    ensures { Led gates.now None (Go (closing_at freeze.now level (Sums so_far))) accesses.now seat.old
+        (closed_or freeze.now level result rest.new) accesses.now seat.new }
 {
     if sum_counts(gates, seat, accesses, freeze, level, so_far) {
         return true;
@@ -288,11 +277,9 @@ fn block(
     level: u8,
     rest: &mut Next<Freeze>,
 ) -> bool
-    requires table { seat.old.table_id ≡ gates.now.table.shared.table_id }
-    requires agrees { StateAgrees gates.now.config None (Some (closing_at freeze.now level SetsBlock)) accesses.now seat.old.me.0.items }
-    ensures slots { seat.new.me.1 ≡ seat.old.me.1 }
-    ensures led { KnownSteps gates.now.config None accesses.now (Go (closing_at freeze.now level SetsBlock)) seat.old.table_id seat.old.me.0
-        (closed_or freeze.now level result rest.new) seat.new.table_id seat.new.me.0 }
+    requires { Stands gates.now None (Go (closing_at freeze.now level SetsBlock)) accesses.now seat.old }
+    ensures { Led gates.now None (Go (closing_at freeze.now level SetsBlock)) accesses.now seat.old (closed_or freeze.now level result rest.new)
+        accesses.now seat.new }
 {
     let step = DownWriteStep::SetsBlock;
     let write = DownWrite {
@@ -324,11 +311,9 @@ fn pass(
     grace: Grace,
     rest: &mut Next<Freeze>,
 ) -> bool
-    requires table { seat.old.table_id ≡ gates.now.table.shared.table_id }
-    requires agrees { StateAgrees gates.now.config None (Some (closing_at freeze.now level (AwaitsSections grace))) accesses.now seat.old.me.0.items }
-    ensures slots { seat.new.me.1 ≡ seat.old.me.1 }
-    ensures led { KnownSteps gates.now.config None accesses.now (Go (closing_at freeze.now level (AwaitsSections grace))) seat.old.table_id seat.old.me.0
-        (closed_or freeze.now level result rest.new) seat.new.table_id seat.new.me.0 }
+    requires { Stands gates.now None (Go (closing_at freeze.now level (AwaitsSections grace))) accesses.now seat.old }
+    ensures { Led gates.now None (Go (closing_at freeze.now level (AwaitsSections grace))) accesses.now seat.old
+        (closed_or freeze.now level result rest.new) accesses.now seat.new }
 {
     match await_sections(gates, seat, accesses, freeze, level, grace) {
         Some(further) => {
@@ -353,11 +338,9 @@ pub(crate) fn close_level(
     level: u8,
     rest: &mut Next<Freeze>,
 ) -> bool
-    requires table { seat.old.table_id ≡ gates.now.table.shared.table_id }
-    requires agrees { StateAgrees gates.now.config None (Some (standing freeze.now (freeze_closes freeze.now level))) accesses.now seat.old.me.0.items }
-    ensures slots { seat.new.me.1 ≡ seat.old.me.1 }
-    ensures led { KnownSteps gates.now.config None accesses.now (Go (standing freeze.now (freeze_closes freeze.now level))) seat.old.table_id seat.old.me.0
-        (closed_or freeze.now level result rest.new) seat.new.table_id seat.new.me.0 }
+    requires { Stands gates.now None (Go (standing freeze.now (freeze_closes freeze.now level))) accesses.now seat.old }
+    ensures { Led gates.now None (Go (standing freeze.now (freeze_closes freeze.now level))) accesses.now seat.old
+        (closed_or freeze.now level result rest.new) accesses.now seat.new }
 {
     match enter(gates, seat, accesses, freeze, level) {
         DownWriteStep::SetsBlock => block(gates, seat, accesses, freeze, level, rest),
@@ -379,11 +362,9 @@ pub(crate) fn go_on_closing(
     step: DownWriteStep,
     rest: &mut Next<Freeze>,
 ) -> bool
-    requires table { seat.old.table_id ≡ gates.now.table.shared.table_id }
-    requires agrees { StateAgrees gates.now.config None (Some (closing_at freeze.now level step)) accesses.now seat.old.me.0.items }
-    ensures slots { seat.new.me.1 ≡ seat.old.me.1 }
-    ensures led { KnownSteps gates.now.config None accesses.now (Go (closing_at freeze.now level step)) seat.old.table_id seat.old.me.0
-        (closed_or freeze.now level result rest.new) seat.new.table_id seat.new.me.0 }
+    requires { Stands gates.now None (Go (closing_at freeze.now level step)) accesses.now seat.old }
+    ensures { Led gates.now None (Go (closing_at freeze.now level step)) accesses.now seat.old (closed_or freeze.now level result rest.new)
+        accesses.now seat.new }
 {
     match step {
         DownWriteStep::Enters(transition) => match transition {

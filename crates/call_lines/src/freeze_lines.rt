@@ -17,8 +17,7 @@ ghost use Rattle.freeze_levels.specs.declared.freezes.FreezeStep.TheVariants.{
   SetsWrite,
 };
 ghost use Rattle.call_lines.specs.Closings.{of_freeze, standing};
-ghost use Rattle.gate_steps.specs.call_events.KnownSteps.{KnownSteps, KnownStepsAsking};
-ghost use Rattle.gate_steps.specs.call_events.Turns.{StateAgrees};
+ghost use Rattle.gate_steps.specs.call_events.Led.{Led, LedAsking, Stands};
 
 use crate::closings::{close_level, go_on_closing};
 use access_model::{Holders, Next, Reply};
@@ -52,11 +51,9 @@ pub fn freeze_first<H: TimedHooks>(
     freeze: &Freeze,
     hooks: &mut H,
 ) -> Next<Freeze>
-    requires table { seat.old.table_id ≡ gates.now.table.shared.table_id }
-    requires agrees { StateAgrees gates.now.config (Some op) (Some (standing freeze.now Locks)) accesses.now seat.old.me.0.items }
-    ensures slots { seat.new.me.1 ≡ seat.old.me.1 }
-    ensures led { KnownStepsAsking H.answers gates.now.config (Some op) accesses.now (Go (standing freeze.now Locks)) seat.old.table_id seat.old.me.0
-        hooks.old (of_freeze result) seat.new.table_id seat.new.me.0 hooks.new }
+    requires { Stands gates.now (Some op) (Go (standing freeze.now Locks)) accesses.now seat.old }
+    ensures { LedAsking H.answers gates.now (Some op) (Go (standing freeze.now Locks)) accesses.now seat.old hooks.old (of_freeze result)
+        accesses.now seat.new hooks.new }
 {
     let locks = Freeze {
         step: FreezeStep::Locks,
@@ -87,11 +84,9 @@ pub fn freeze_locked<H: TimedHooks>(
     freeze: &Freeze,
     hooks: &mut H,
 ) -> Next<Freeze>
-    requires table { seat.old.table_id ≡ gates.now.table.shared.table_id }
-    requires agrees { StateAgrees gates.now.config None (Some (standing freeze.now LoadsStage)) accesses.now seat.old.me.0.items }
-    ensures slots { seat.new.me.1 ≡ seat.old.me.1 }
-    ensures led { KnownStepsAsking H.answers gates.now.config None accesses.now (Go (standing freeze.now LoadsStage)) seat.old.table_id seat.old.me.0
-        hooks.old (of_freeze result) seat.new.table_id seat.new.me.0 hooks.new }
+    requires { Stands gates.now None (Go (standing freeze.now LoadsStage)) accesses.now seat.old }
+    ensures { LedAsking H.answers gates.now None (Go (standing freeze.now LoadsStage)) accesses.now seat.old hooks.old (of_freeze result)
+        accesses.now seat.new hooks.new }
 {
     let here = Freeze {
         step: FreezeStep::LoadsStage,
@@ -121,11 +116,9 @@ fn close_first<H: TimedHooks>(
     freeze: &Freeze,
     hooks: &mut H,
 ) -> Next<Freeze>
-    requires table { seat.old.table_id ≡ gates.now.table.shared.table_id }
-    requires agrees { StateAgrees gates.now.config None (Some (standing freeze.now SetsWrite)) accesses.now seat.old.me.0.items }
-    ensures slots { seat.new.me.1 ≡ seat.old.me.1 }
-    ensures led { KnownStepsAsking H.answers gates.now.config None accesses.now (Go (standing freeze.now SetsWrite)) seat.old.table_id seat.old.me.0
-        hooks.old (of_freeze result) seat.new.table_id seat.new.me.0 hooks.new }
+    requires { Stands gates.now None (Go (standing freeze.now SetsWrite)) accesses.now seat.old }
+    ensures { LedAsking H.answers gates.now None (Go (standing freeze.now SetsWrite)) accesses.now seat.old hooks.old (of_freeze result)
+        accesses.now seat.new hooks.new }
 {
     let here = Freeze {
         step: FreezeStep::SetsWrite,
@@ -155,11 +148,9 @@ fn lock_again<H: TimedHooks>(
     freeze: &Freeze,
     hooks: &mut H,
 ) -> Next<Freeze>
-    requires table { seat.old.table_id ≡ gates.now.table.shared.table_id }
-    requires agrees { StateAgrees gates.now.config None (Some (standing freeze.now LocksAgain)) accesses.now seat.old.me.0.items }
-    ensures slots { seat.new.me.1 ≡ seat.old.me.1 }
-    ensures led { KnownStepsAsking H.answers gates.now.config None accesses.now (Go (standing freeze.now LocksAgain)) seat.old.table_id seat.old.me.0
-        hooks.old (of_freeze result) seat.new.table_id seat.new.me.0 hooks.new }
+    requires { Stands gates.now None (Go (standing freeze.now LocksAgain)) accesses.now seat.old }
+    ensures { LedAsking H.answers gates.now None (Go (standing freeze.now LocksAgain)) accesses.now seat.old hooks.old (of_freeze result)
+        accesses.now seat.new hooks.new }
 {
     let again = Freeze {
         step: FreezeStep::LocksAgain,
@@ -183,11 +174,9 @@ pub fn close_second<H: TimedHooks>(
     freeze: &Freeze,
     hooks: &mut H,
 ) -> Next<Freeze>
-    requires table { seat.old.table_id ≡ gates.now.table.shared.table_id }
-    requires agrees { StateAgrees gates.now.config None (Some (standing freeze.now SetsPageFault)) accesses.now seat.old.me.0.items }
-    ensures slots { seat.new.me.1 ≡ seat.old.me.1 }
-    ensures led { KnownStepsAsking H.answers gates.now.config None accesses.now (Go (standing freeze.now SetsPageFault)) seat.old.table_id seat.old.me.0
-        hooks.old (of_freeze result) seat.new.table_id seat.new.me.0 hooks.new }
+    requires { Stands gates.now None (Go (standing freeze.now SetsPageFault)) accesses.now seat.old }
+    ensures { LedAsking H.answers gates.now None (Go (standing freeze.now SetsPageFault)) accesses.now seat.old hooks.old (of_freeze result)
+        accesses.now seat.new hooks.new }
 {
     let here = Freeze {
         step: FreezeStep::SetsPageFault,
@@ -211,11 +200,9 @@ fn clean(
     freeze: &Freeze,
     mut clearing: ClearMarks,
 )
-    requires table { seat.old.table_id ≡ gates.now.table.shared.table_id }
-    requires agrees { StateAgrees gates.now.config None (Some (standing freeze.now (Cleans clearing))) accesses.now seat.old.me.0.items }
-    ensures slots { seat.new.me.1 ≡ seat.old.me.1 }
-    ensures led { KnownSteps gates.now.config None accesses.now (Go (standing freeze.now (Cleans clearing))) seat.old.table_id seat.old.me.0
-        (Go (standing freeze.now SetsFs)) seat.new.table_id seat.new.me.0 }
+    requires { Stands gates.now None (Go (standing freeze.now (Cleans clearing))) accesses.now seat.old }
+    ensures { Led gates.now None (Go (standing freeze.now (Cleans clearing))) accesses.now seat.old (Go (standing freeze.now SetsFs))
+        accesses.now seat.new }
 {
     loop {
         let step = FreezeStep::Cleans(clearing);
@@ -239,11 +226,9 @@ fn sync<H: TimedHooks>(
     freeze: &Freeze,
     hooks: &mut H,
 ) -> Next<Freeze>
-    requires table { seat.old.table_id ≡ gates.now.table.shared.table_id }
-    requires agrees { StateAgrees gates.now.config None (Some (standing freeze.now (level_closed 2 freeze.now.nodes))) accesses.now seat.old.me.0.items }
-    ensures slots { seat.new.me.1 ≡ seat.old.me.1 }
-    ensures led { KnownStepsAsking H.answers gates.now.config None accesses.now (Go (standing freeze.now (level_closed 2 freeze.now.nodes))) seat.old.table_id seat.old.me.0
-        hooks.old (of_freeze result) seat.new.table_id seat.new.me.0 hooks.new }
+    requires { Stands gates.now None (Go (standing freeze.now (level_closed 2 freeze.now.nodes))) accesses.now seat.old }
+    ensures { LedAsking H.answers gates.now None (Go (standing freeze.now (level_closed 2 freeze.now.nodes))) accesses.now seat.old hooks.old
+        (of_freeze result) accesses.now seat.new hooks.new }
 {
     let clearing = ClearMarks::start(freeze.nodes);
     clean(gates, seat, accesses, freeze, clearing);
@@ -259,11 +244,9 @@ fn close_third<H: TimedHooks>(
     freeze: &Freeze,
     hooks: &mut H,
 ) -> Next<Freeze>
-    requires table { seat.old.table_id ≡ gates.now.table.shared.table_id }
-    requires agrees { StateAgrees gates.now.config None (Some (standing freeze.now SetsFs)) accesses.now seat.old.me.0.items }
-    ensures slots { seat.new.me.1 ≡ seat.old.me.1 }
-    ensures led { KnownStepsAsking H.answers gates.now.config None accesses.now (Go (standing freeze.now SetsFs)) seat.old.table_id seat.old.me.0
-        hooks.old (of_freeze result) seat.new.table_id seat.new.me.0 hooks.new }
+    requires { Stands gates.now None (Go (standing freeze.now SetsFs)) accesses.now seat.old }
+    ensures { LedAsking H.answers gates.now None (Go (standing freeze.now SetsFs)) accesses.now seat.old hooks.old (of_freeze result)
+        accesses.now seat.new hooks.new }
 {
     let here = Freeze {
         step: FreezeStep::SetsFs,
@@ -289,11 +272,9 @@ fn complete<H: TimedHooks>(
     freeze: &Freeze,
     hooks: &mut H,
 ) -> Next<Freeze>
-    requires table { seat.old.table_id ≡ gates.now.table.shared.table_id }
-    requires agrees { StateAgrees gates.now.config None (Some (standing freeze.now SetsComplete)) accesses.now seat.old.me.0.items }
-    ensures slots { seat.new.me.1 ≡ seat.old.me.1 }
-    ensures led { KnownStepsAsking H.answers gates.now.config None accesses.now (Go (standing freeze.now SetsComplete)) seat.old.table_id seat.old.me.0
-        hooks.old (of_freeze result) seat.new.table_id seat.new.me.0 hooks.new }
+    requires { Stands gates.now None (Go (standing freeze.now SetsComplete)) accesses.now seat.old }
+    ensures { LedAsking H.answers gates.now None (Go (standing freeze.now SetsComplete)) accesses.now seat.old hooks.old (of_freeze result)
+        accesses.now seat.new hooks.new }
 {
     let here = Freeze {
         step: FreezeStep::SetsComplete,
@@ -329,11 +310,9 @@ pub fn go_on_level<H: TimedHooks>(
     write: DownWrite,
     hooks: &mut H,
 ) -> Next<Freeze>
-    requires table { seat.old.table_id ≡ gates.now.table.shared.table_id }
-    requires agrees { StateAgrees gates.now.config None (Some (standing freeze.now (Closes write))) accesses.now seat.old.me.0.items }
-    ensures slots { seat.new.me.1 ≡ seat.old.me.1 }
-    ensures led { KnownStepsAsking H.answers gates.now.config None accesses.now (Go (standing freeze.now (Closes write))) seat.old.table_id seat.old.me.0
-        hooks.old (of_freeze result) seat.new.table_id seat.new.me.0 hooks.new }
+    requires { Stands gates.now None (Go (standing freeze.now (Closes write))) accesses.now seat.old }
+    ensures { LedAsking H.answers gates.now None (Go (standing freeze.now (Closes write))) accesses.now seat.old hooks.old (of_freeze result)
+        accesses.now seat.new hooks.new }
 {
     // A freeze closes each level among its own tasks and processors.
     if write.tasks != freeze.tasks || write.processors != freeze.processors {
@@ -358,11 +337,9 @@ fn go_on_closed<H: TimedHooks>(
     level: u8,
     hooks: &mut H,
 ) -> Next<Freeze>
-    requires table { seat.old.table_id ≡ gates.now.table.shared.table_id }
-    requires agrees { StateAgrees gates.now.config None (Some (standing freeze.now (level_closed level freeze.now.nodes))) accesses.now seat.old.me.0.items }
-    ensures slots { seat.new.me.1 ≡ seat.old.me.1 }
-    ensures led { KnownStepsAsking H.answers gates.now.config None accesses.now (Go (standing freeze.now (level_closed level freeze.now.nodes))) seat.old.table_id seat.old.me.0
-        hooks.old (of_freeze result) seat.new.table_id seat.new.me.0 hooks.new }
+    requires { Stands gates.now None (Go (standing freeze.now (level_closed level freeze.now.nodes))) accesses.now seat.old }
+    ensures { LedAsking H.answers gates.now None (Go (standing freeze.now (level_closed level freeze.now.nodes))) accesses.now seat.old
+        hooks.old (of_freeze result) accesses.now seat.new hooks.new }
 {
     if level == 1 {
         return lock_again(gates, seat, accesses, freeze, hooks);
@@ -382,11 +359,8 @@ pub fn end_freeze(
     freeze: &Freeze,
     beside: Holders,
 ) -> Next<Freeze>
-    requires table { seat.old.table_id ≡ gates.now.table.shared.table_id }
-    requires agrees { StateAgrees gates.now.config None (Some (standing freeze.now (Holds beside))) accesses.now seat.old.me.0.items }
-    ensures slots { seat.new.me.1 ≡ seat.old.me.1 }
-    ensures led { KnownSteps gates.now.config None accesses.now (Go (standing freeze.now (Holds beside))) seat.old.table_id seat.old.me.0
-        (of_freeze result) seat.new.table_id seat.new.me.0 }
+    requires { Stands gates.now None (Go (standing freeze.now (Holds beside))) accesses.now seat.old }
+    ensures { Led gates.now None (Go (standing freeze.now (Holds beside))) accesses.now seat.old (of_freeze result) accesses.now seat.new }
 {
     let here = Freeze {
         step: FreezeStep::Holds(beside),

@@ -16,8 +16,7 @@ ghost use Rattle.mount_counts.specs.declared.remounts.RemountStep.TheVariants.{
   SetsWritable,
 };
 ghost use Rattle.call_lines.specs.Remounting.{done_remount, first_count, held_or, of_remount, past_or, remounting_at, summed_or};
-ghost use Rattle.gate_steps.specs.call_events.KnownSteps.{KnownSteps, KnownStepsAsking};
-ghost use Rattle.gate_steps.specs.call_events.Turns.{StateAgrees};
+ghost use Rattle.gate_steps.specs.call_events.Led.{Led, LedAsking, Stands};
 
 use access_model::{GateError, Next, Reply};
 use bitflags::Flags;
@@ -52,11 +51,9 @@ fn sum_mount(
     held: MountSet,
     rest: &mut Next<Remount>,
 ) -> bool
-    requires table { seat.old.table_id ≡ gates.now.table.shared.table_id }
-    requires agrees { StateAgrees gates.now.config None (Some (remounting_at remount (first_count mount held))) accesses.now seat.old.me.0.items }
-    ensures slots { seat.new.me.1 ≡ seat.old.me.1 }
-    ensures led { KnownSteps gates.now.config None accesses.now (Go (remounting_at remount (first_count mount held))) seat.old.table_id seat.old.me.0
-        (summed_or remount mount held result rest.new) seat.new.table_id seat.new.me.0 }
+    requires { Stands gates.now None (Go (remounting_at remount (first_count mount held))) accesses.now seat.old }
+    ensures { Led gates.now None (Go (remounting_at remount (first_count mount held))) accesses.now seat.old
+        (summed_or remount mount held result rest.new) accesses.now seat.new }
 {
     let mut sum = Sum::start();
     loop {
@@ -89,11 +86,9 @@ fn hold_mount(
     held: MountSet,
     rest: &mut Next<Remount>,
 ) -> Option<MountSet>
-    requires table { seat.old.table_id ≡ gates.now.table.shared.table_id }
-    requires agrees { StateAgrees gates.now.config None (Some (remounting_at remount (LoadsFlags mount held))) accesses.now seat.old.me.0.items }
-    ensures slots { seat.new.me.1 ≡ seat.old.me.1 }
-    ensures led { KnownSteps gates.now.config None accesses.now (Go (remounting_at remount (LoadsFlags mount held))) seat.old.table_id seat.old.me.0
-        (past_or remount mount result rest.new) seat.new.table_id seat.new.me.0 }
+    requires { Stands gates.now None (Go (remounting_at remount (LoadsFlags mount held))) accesses.now seat.old }
+    ensures { Led gates.now None (Go (remounting_at remount (LoadsFlags mount held))) accesses.now seat.old
+        (past_or remount mount result rest.new) accesses.now seat.new }
 {
     let step = RemountStep::LoadsFlags { mount, held };
     let here = Remount { step, ..remount };
@@ -122,11 +117,9 @@ fn hold_mounts(
     remount: Remount,
     rest: &mut Next<Remount>,
 ) -> Option<MountSet>
-    requires table { seat.old.table_id ≡ gates.now.table.shared.table_id }
-    requires agrees { StateAgrees gates.now.config None (Some (remounting_at remount (LoadsFlags 0 no_mounts))) accesses.now seat.old.me.0.items }
-    ensures slots { seat.new.me.1 ≡ seat.old.me.1 }
-    ensures led { KnownSteps gates.now.config None accesses.now (Go (remounting_at remount (LoadsFlags 0 no_mounts))) seat.old.table_id seat.old.me.0
-        (held_or remount result rest.new) seat.new.table_id seat.new.me.0 }
+    requires { Stands gates.now None (Go (remounting_at remount (LoadsFlags 0 no_mounts))) accesses.now seat.old }
+    ensures { Led gates.now None (Go (remounting_at remount (LoadsFlags 0 no_mounts))) accesses.now seat.old (held_or remount result rest.new)
+        accesses.now seat.new }
 {
     let mut mount = 0u8;
     let mut held = MountSet::empty();
@@ -148,11 +141,9 @@ fn let_mounts_go(
     remount: Remount,
     mut held: MountSet,
 )
-    requires table { seat.old.table_id ≡ gates.now.table.shared.table_id }
-    requires agrees { StateAgrees gates.now.config None (Some (remounting_at remount (let_go held))) accesses.now seat.old.me.0.items }
-    ensures slots { seat.new.me.1 ≡ seat.old.me.1 }
-    ensures led { KnownSteps gates.now.config None accesses.now (Go (remounting_at remount (let_go held))) seat.old.table_id seat.old.me.0
-        (Go (remounting_at remount (ClearsMark 1))) seat.new.table_id seat.new.me.0 }
+    requires { Stands gates.now None (Go (remounting_at remount (let_go held))) accesses.now seat.old }
+    ensures { Led gates.now None (Go (remounting_at remount (let_go held))) accesses.now seat.old (Go (remounting_at remount (ClearsMark 1)))
+        accesses.now seat.new }
 {
     while held.bits != 0 {
         let step = RemountStep::ClearsHold { held };
@@ -167,11 +158,9 @@ fn let_mounts_go(
 /// Clears the dirty mark of one node after the other; the root has none.
 #[inline(always)]
 fn clean(gates: &GateWords, seat: &mut GhostSeat, accesses: &Accesses, remount: Remount)
-    requires table { seat.old.table_id ≡ gates.now.table.shared.table_id }
-    requires agrees { StateAgrees gates.now.config None (Some (remounting_at remount (ClearsMark 1))) accesses.now seat.old.me.0.items }
-    ensures slots { seat.new.me.1 ≡ seat.old.me.1 }
-    ensures led { KnownSteps gates.now.config None accesses.now (Go (remounting_at remount (ClearsMark 1))) seat.old.table_id seat.old.me.0
-        (Go (remounting_at remount SetsReadOnly)) seat.new.table_id seat.new.me.0 }
+    requires { Stands gates.now None (Go (remounting_at remount (ClearsMark 1))) accesses.now seat.old }
+    ensures { Led gates.now None (Go (remounting_at remount (ClearsMark 1))) accesses.now seat.old (Go (remounting_at remount SetsReadOnly))
+        accesses.now seat.new }
 {
     let mut node = 1u8;
     loop {
@@ -194,11 +183,8 @@ fn release(
     accesses: &Accesses,
     remount: Remount,
 ) -> Next<Remount>
-    requires table { seat.old.table_id ≡ gates.now.table.shared.table_id }
-    requires agrees { StateAgrees gates.now.config None (Some (remounting_at remount done_remount)) accesses.now seat.old.me.0.items }
-    ensures slots { seat.new.me.1 ≡ seat.old.me.1 }
-    ensures led { KnownSteps gates.now.config None accesses.now (Go (remounting_at remount done_remount)) seat.old.table_id seat.old.me.0
-        (of_remount result) seat.new.table_id seat.new.me.0 }
+    requires { Stands gates.now None (Go (remounting_at remount done_remount)) accesses.now seat.old }
+    ensures { Led gates.now None (Go (remounting_at remount done_remount)) accesses.now seat.old (of_remount result) accesses.now seat.new }
 {
     let step = RemountStep::Releases(Ok(Reply::Unit));
     let here = Remount { step, ..remount };
@@ -216,11 +202,9 @@ fn end_read_only<H: TimedHooks>(
     remount: Remount,
     hooks: &mut H,
 ) -> Next<Remount>
-    requires table { seat.old.table_id ≡ gates.now.table.shared.table_id }
-    requires agrees { StateAgrees gates.now.config None (Some (remounting_at remount SetsReadOnly)) accesses.now seat.old.me.0.items }
-    ensures slots { seat.new.me.1 ≡ seat.old.me.1 }
-    ensures led { KnownStepsAsking H.answers gates.now.config None accesses.now (Go (remounting_at remount SetsReadOnly)) seat.old.table_id seat.old.me.0
-        hooks.old (of_remount result) seat.new.table_id seat.new.me.0 hooks.new }
+    requires { Stands gates.now None (Go (remounting_at remount SetsReadOnly)) accesses.now seat.old }
+    ensures { LedAsking H.answers gates.now None (Go (remounting_at remount SetsReadOnly)) accesses.now seat.old hooks.old (of_remount result)
+        accesses.now seat.new hooks.new }
 {
     let read_only = remount.read_only;
     let step = RemountStep::SetsReadOnly;
@@ -248,11 +232,9 @@ fn bar_writers<H: TimedHooks>(
     held: MountSet,
     hooks: &mut H,
 ) -> Next<Remount>
-    requires table { seat.old.table_id ≡ gates.now.table.shared.table_id }
-    requires agrees { StateAgrees gates.now.config None (Some (remounting_at remount (LoadsRemovedAgain held))) accesses.now seat.old.me.0.items }
-    ensures slots { seat.new.me.1 ≡ seat.old.me.1 }
-    ensures led { KnownStepsAsking H.answers gates.now.config None accesses.now (Go (remounting_at remount (LoadsRemovedAgain held))) seat.old.table_id seat.old.me.0
-        hooks.old (of_remount result) seat.new.table_id seat.new.me.0 hooks.new }
+    requires { Stands gates.now None (Go (remounting_at remount (LoadsRemovedAgain held))) accesses.now seat.old }
+    ensures { LedAsking H.answers gates.now None (Go (remounting_at remount (LoadsRemovedAgain held))) accesses.now seat.old hooks.old
+        (of_remount result) accesses.now seat.new hooks.new }
 {
     let step = RemountStep::LoadsRemovedAgain { held };
     let here = Remount { step, ..remount };
@@ -278,11 +260,9 @@ fn make_read_only<H: TimedHooks>(
     remount: Remount,
     hooks: &mut H,
 ) -> Next<Remount>
-    requires table { seat.old.table_id ≡ gates.now.table.shared.table_id }
-    requires agrees { StateAgrees gates.now.config None (Some (remounting_at remount LoadsRemoved)) accesses.now seat.old.me.0.items }
-    ensures slots { seat.new.me.1 ≡ seat.old.me.1 }
-    ensures led { KnownStepsAsking H.answers gates.now.config None accesses.now (Go (remounting_at remount LoadsRemoved)) seat.old.table_id seat.old.me.0
-        hooks.old (of_remount result) seat.new.table_id seat.new.me.0 hooks.new }
+    requires { Stands gates.now None (Go (remounting_at remount LoadsRemoved)) accesses.now seat.old }
+    ensures { LedAsking H.answers gates.now None (Go (remounting_at remount LoadsRemoved)) accesses.now seat.old hooks.old (of_remount result)
+        accesses.now seat.new hooks.new }
 {
     let step = RemountStep::LoadsRemoved;
     let here = Remount { step, ..remount };
@@ -306,11 +286,9 @@ fn make_writable<H: TimedHooks>(
     remount: Remount,
     hooks: &mut H,
 ) -> Next<Remount>
-    requires table { seat.old.table_id ≡ gates.now.table.shared.table_id }
-    requires agrees { StateAgrees gates.now.config None (Some (remounting_at remount SetsWritable)) accesses.now seat.old.me.0.items }
-    ensures slots { seat.new.me.1 ≡ seat.old.me.1 }
-    ensures led { KnownStepsAsking H.answers gates.now.config None accesses.now (Go (remounting_at remount SetsWritable)) seat.old.table_id seat.old.me.0
-        hooks.old (of_remount result) seat.new.table_id seat.new.me.0 hooks.new }
+    requires { Stands gates.now None (Go (remounting_at remount SetsWritable)) accesses.now seat.old }
+    ensures { LedAsking H.answers gates.now None (Go (remounting_at remount SetsWritable)) accesses.now seat.old hooks.old (of_remount result)
+        accesses.now seat.new hooks.new }
 {
     let read_only = remount.read_only;
     let step = RemountStep::SetsWritable;
@@ -332,11 +310,9 @@ pub fn remount_locked<H: TimedHooks>(
     remount: Remount,
     hooks: &mut H,
 ) -> Next<Remount>
-    requires table { seat.old.table_id ≡ gates.now.table.shared.table_id }
-    requires agrees { StateAgrees gates.now.config None (Some (remounting_at remount LoadsStage)) accesses.now seat.old.me.0.items }
-    ensures slots { seat.new.me.1 ≡ seat.old.me.1 }
-    ensures led { KnownStepsAsking H.answers gates.now.config None accesses.now (Go (remounting_at remount LoadsStage)) seat.old.table_id seat.old.me.0
-        hooks.old (of_remount result) seat.new.table_id seat.new.me.0 hooks.new }
+    requires { Stands gates.now None (Go (remounting_at remount LoadsStage)) accesses.now seat.old }
+    ensures { LedAsking H.answers gates.now None (Go (remounting_at remount LoadsStage)) accesses.now seat.old hooks.old (of_remount result)
+        accesses.now seat.new hooks.new }
 {
     let step = RemountStep::LoadsStage;
     let here = Remount { step, ..remount };
@@ -369,11 +345,9 @@ pub fn remount_first<H: TimedHooks>(
     remount: Remount,
     hooks: &mut H,
 ) -> Next<Remount>
-    requires table { seat.old.table_id ≡ gates.now.table.shared.table_id }
-    requires agrees { StateAgrees gates.now.config (Some op) (Some (remounting_at remount Locks)) accesses.now seat.old.me.0.items }
-    ensures slots { seat.new.me.1 ≡ seat.old.me.1 }
-    ensures led { KnownStepsAsking H.answers gates.now.config (Some op) accesses.now (Go (remounting_at remount Locks)) seat.old.table_id seat.old.me.0
-        hooks.old (of_remount result) seat.new.table_id seat.new.me.0 hooks.new }
+    requires { Stands gates.now (Some op) (Go (remounting_at remount Locks)) accesses.now seat.old }
+    ensures { LedAsking H.answers gates.now (Some op) (Go (remounting_at remount Locks)) accesses.now seat.old hooks.old (of_remount result)
+        accesses.now seat.new hooks.new }
 {
     let step = RemountStep::Locks;
     let locks = Remount { step, ..remount };

@@ -7,8 +7,7 @@ ghost use Rattle.freeze_levels.specs.declared.thaws.ThawStep.TheVariants.{Leaves
 ghost use Rattle.percpu_rwsem.specs.declared.writers.UpWriteStep.TheVariants.{ClearsBlock, Exits};
 ghost use Rattle.percpu_rwsem.specs.declared.transitions.Transition.TheVariants.{Loads};
 ghost use Rattle.call_lines.specs.Reopenings.{opening_at, of_thaw, reopened, thaw_at};
-ghost use Rattle.gate_steps.specs.call_events.KnownSteps.{KnownSteps, KnownStepsAsking};
-ghost use Rattle.gate_steps.specs.call_events.Turns.{StateAgrees};
+ghost use Rattle.gate_steps.specs.call_events.Led.{Led, LedAsking, Stands};
 
 use access_model::{GateError, Next, Reply};
 use cpu_words::{Touch, WordName};
@@ -44,11 +43,9 @@ fn exit_again(thaw: Thaw, level: u8) -> Next<Thaw>
 /// Leaves the level's `rcu_sync`, in two events. False where the word was none, or another task changed it in between.
 #[inline(always)]
 fn exit(gates: &GateWords, seat: &mut GhostSeat, accesses: &Accesses, thaw: Thaw, level: u8) -> bool
-    requires table { seat.old.table_id ≡ gates.now.table.shared.table_id }
-    requires agrees { StateAgrees gates.now.config None (Some (opening_at thaw level (Exits Loads))) accesses.now seat.old.me.0.items }
-    ensures slots { seat.new.me.1 ≡ seat.old.me.1 }
-    ensures led { KnownSteps gates.now.config None accesses.now (Go (opening_at thaw level (Exits Loads))) seat.old.table_id seat.old.me.0
-        (Go (reopened thaw level result)) seat.new.table_id seat.new.me.0 }
+    requires { Stands gates.now None (Go (opening_at thaw level (Exits Loads))) accesses.now seat.old }
+    ensures { Led gates.now None (Go (opening_at thaw level (Exits Loads))) accesses.now seat.old (Go (reopened thaw level result)) accesses.now
+        seat.new }
 {
     let sync = WordName::Sync(level);
     let step = UpWriteStep::Exits(Transition::Loads);
@@ -89,11 +86,9 @@ fn reopen(
     thaw: Thaw,
     level: u8,
 ) -> bool
-    requires table { seat.old.table_id ≡ gates.now.table.shared.table_id }
-    requires agrees { StateAgrees gates.now.config None (Some (opening_at thaw level ClearsBlock)) accesses.now seat.old.me.0.items }
-    ensures slots { seat.new.me.1 ≡ seat.old.me.1 }
-    ensures led { KnownSteps gates.now.config None accesses.now (Go (opening_at thaw level ClearsBlock)) seat.old.table_id seat.old.me.0
-        (Go (reopened thaw level result)) seat.new.table_id seat.new.me.0 }
+    requires { Stands gates.now None (Go (opening_at thaw level ClearsBlock)) accesses.now seat.old }
+    ensures { Led gates.now None (Go (opening_at thaw level ClearsBlock)) accesses.now seat.old (Go (reopened thaw level result)) accesses.now
+        seat.new }
 {
     let step = UpWriteStep::ClearsBlock;
     let here = Thaw {
@@ -119,11 +114,8 @@ pub fn reopen_all(
     accesses: &Accesses,
     thaw: Thaw,
 ) -> Next<Thaw>
-    requires table { seat.old.table_id ≡ gates.now.table.shared.table_id }
-    requires agrees { StateAgrees gates.now.config None (Some (thaw_at thaw SetsUnfrozen)) accesses.now seat.old.me.0.items }
-    ensures slots { seat.new.me.1 ≡ seat.old.me.1 }
-    ensures led { KnownSteps gates.now.config None accesses.now (Go (thaw_at thaw SetsUnfrozen)) seat.old.table_id seat.old.me.0
-        (of_thaw result) seat.new.table_id seat.new.me.0 }
+    requires { Stands gates.now None (Go (thaw_at thaw SetsUnfrozen)) accesses.now seat.old }
+    ensures { Led gates.now None (Go (thaw_at thaw SetsUnfrozen)) accesses.now seat.old (of_thaw result) accesses.now seat.new }
 {
     let clear = Touch::Store(0);
     let step = ThawStep::SetsUnfrozen;
@@ -154,11 +146,9 @@ pub fn thaw_first<H: TimedHooks>(
     thaw: Thaw,
     hooks: &mut H,
 ) -> Next<Thaw>
-    requires table { seat.old.table_id ≡ gates.now.table.shared.table_id }
-    requires agrees { StateAgrees gates.now.config (Some op) (Some (thaw_at thaw Locks)) accesses.now seat.old.me.0.items }
-    ensures slots { seat.new.me.1 ≡ seat.old.me.1 }
-    ensures led { KnownStepsAsking H.answers gates.now.config (Some op) accesses.now (Go (thaw_at thaw Locks)) seat.old.table_id seat.old.me.0
-        hooks.old (of_thaw result) seat.new.table_id seat.new.me.0 hooks.new }
+    requires { Stands gates.now (Some op) (Go (thaw_at thaw Locks)) accesses.now seat.old }
+    ensures { LedAsking H.answers gates.now (Some op) (Go (thaw_at thaw Locks)) accesses.now seat.old hooks.old (of_thaw result) accesses.now
+        seat.new hooks.new }
 {
     let locks = Thaw {
         step: ThawStep::Locks,
@@ -189,11 +179,9 @@ pub fn thaw_locked<H: TimedHooks>(
     thaw: Thaw,
     hooks: &mut H,
 ) -> Next<Thaw>
-    requires table { seat.old.table_id ≡ gates.now.table.shared.table_id }
-    requires agrees { StateAgrees gates.now.config None (Some (thaw_at thaw LoadsStage)) accesses.now seat.old.me.0.items }
-    ensures slots { seat.new.me.1 ≡ seat.old.me.1 }
-    ensures led { KnownStepsAsking H.answers gates.now.config None accesses.now (Go (thaw_at thaw LoadsStage)) seat.old.table_id seat.old.me.0
-        hooks.old (of_thaw result) seat.new.table_id seat.new.me.0 hooks.new }
+    requires { Stands gates.now None (Go (thaw_at thaw LoadsStage)) accesses.now seat.old }
+    ensures { LedAsking H.answers gates.now None (Go (thaw_at thaw LoadsStage)) accesses.now seat.old hooks.old (of_thaw result) accesses.now
+        seat.new hooks.new }
 {
     let step = ThawStep::LoadsStage;
     let here = Thaw { step, ..thaw };
@@ -231,11 +219,9 @@ fn thaw_last<H: TimedHooks>(
     thaw: Thaw,
     hooks: &mut H,
 ) -> Next<Thaw>
-    requires table { seat.old.table_id ≡ gates.now.table.shared.table_id }
-    requires agrees { StateAgrees gates.now.config None (Some (thaw_at thaw LeavesLast)) accesses.now seat.old.me.0.items }
-    ensures slots { seat.new.me.1 ≡ seat.old.me.1 }
-    ensures led { KnownStepsAsking H.answers gates.now.config None accesses.now (Go (thaw_at thaw LeavesLast)) seat.old.table_id seat.old.me.0
-        hooks.old (of_thaw result) seat.new.table_id seat.new.me.0 hooks.new }
+    requires { Stands gates.now None (Go (thaw_at thaw LeavesLast)) accesses.now seat.old }
+    ensures { LedAsking H.answers gates.now None (Go (thaw_at thaw LeavesLast)) accesses.now seat.old hooks.old (of_thaw result) accesses.now
+        seat.new hooks.new }
 {
     let here = Thaw {
         step: ThawStep::LeavesLast,

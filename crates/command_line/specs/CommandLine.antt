@@ -67,11 +67,15 @@ outcomes_shape = command_of (codes "outcomes") (
     ∷ flag_rule (codes "json") ∷ flag_rule (codes "html") ∷ flag_rule (codes "raw") ∷ choice_rule (codes "names")
     ∷ choice_rule (codes "save") ∷ number_rule (codes "limit") 1 4294967295 ∷ flag_rule (codes "no-reduction") ∷ [])
 
+-- `validate`
+abbrev pub validate_shape : Shape
+validate_shape = command_of (codes "validate") (file_rule ∷ number_rule (codes "limit") 1 4294967295 ∷ [])
+
 -- `run`
 abbrev pub run_shape : Shape
 run_shape = command_of (codes "run") (
     needed_rule (codes "tasks") 3 64 ∷ needed_rule (codes "cpus") 1 64 ∷ needed_rule (codes "rounds") 1 10000
-    ∷ needed_rule (codes "freezes") 0 1000 ∷ flag_rule (codes "details") ∷ [])
+    ∷ needed_rule (codes "freezes") 0 1000 ∷ number_rule (codes "patience") 0 4294967295 ∷ flag_rule (codes "details") ∷ [])
 
 -- a command of the program
 abbrev pub subcommand_shape : Subcommand → Shape
@@ -81,7 +85,7 @@ subcommand_shape s = command_of s.name.now (map argument_rule s.arguments.now)
 abbrev pub mntgate_app : App
 mntgate_app = record {
   top = record (new_shape (codes "mntgate")) { is_leaf = false; has_version = true; subcommand_required = true };
-  subs = replay_shape ∷ check_shape ∷ explain_shape ∷ outcomes_shape ∷ run_shape ∷ [];
+  subs = replay_shape ∷ check_shape ∷ explain_shape ∷ outcomes_shape ∷ validate_shape ∷ run_shape ∷ [];
 }
 
 -- a command with no commands of its own

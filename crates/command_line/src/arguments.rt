@@ -8,8 +8,9 @@ use clap::builder::ValueParser;
 use clap::{Arg, ArgAction, Command};
 use std::alloc::{AllocError, Global};
 
-/// The version of the program.
-const VERSION: &str = "1.2.0";
+/// The version of the program, and a second line, over which `bin/release` writes a release's commit and kit, byte for byte.
+const VERSION: &str =
+    "1.2.0\nno release, which would name its commit and its kit here; bin/mntgate tells which kit built this";
 
 /// The argument that names a schedule's file.
 pub(crate) const FILE: &str = "FILE";
@@ -41,6 +42,9 @@ pub(crate) const BLESS: &str = "bless";
 pub(crate) const CALL: &str = "CALL";
 
 pub(crate) const REFUSAL: &str = "REFUSAL";
+
+/// The option of a run for how often a freeze looks again before it gives up.
+pub(crate) const PATIENCE: &str = "patience";
 
 /// The flag of a run that tells what its tasks met.
 pub(crate) const DETAILS: &str = "details";
@@ -89,7 +93,7 @@ enum ArgumentKind {
     Choice(&'static str),
 }
 
-const SUBCOMMANDS: [Subcommand; 5] = [
+const SUBCOMMANDS: [Subcommand; 6] = [
     Subcommand {
         name: "replay",
         about: "Replays a schedule, and prints what its lines ask for",
@@ -240,6 +244,22 @@ const SUBCOMMANDS: [Subcommand; 5] = [
         ],
     },
     Subcommand {
+        name: "validate",
+        about: "Says whether some execution has a history: what was recorded of calls; else its first line that none has",
+        arguments: &[
+            Argument {
+                name: FILE,
+                kind: ArgumentKind::Word,
+                help: "Its file; standard input, where none is named, or '-'",
+            },
+            Argument {
+                name: LIMIT,
+                kind: ArgumentKind::Number("STATES", 1, 4_294_967_295, false),
+                help: "How many states to search at most: 10000000, if not given",
+            },
+        ],
+    },
+    Subcommand {
         name: "run",
         about: "Runs writers, a remounter and a backup in threads, and prints what they did",
         arguments: &[
@@ -262,6 +282,11 @@ const SUBCOMMANDS: [Subcommand; 5] = [
                 name: "freezes",
                 kind: ArgumentKind::Number("N", 0, 1_000, true),
                 help: "Freezes, each with a snapshot: 0 to 1000",
+            },
+            Argument {
+                name: PATIENCE,
+                kind: ArgumentKind::Number("N", 0, 4_294_967_295, false),
+                help: "How often a freeze that finds somebody inside looks again before it gives up: as long as it takes, if not given",
             },
             Argument {
                 name: DETAILS,

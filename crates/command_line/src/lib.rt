@@ -6,5 +6,5 @@ pub mod words;
 
 pub use words::{
     Explain, Numbers, OutcomeForm, Outcomes, ProgramRequest, Replay, ReplayForm, RunReport,
-    ScheduleForm, Style, read_words,
+    ScheduleForm, Style, Validation, read_words,
 };

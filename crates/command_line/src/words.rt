@@ -8,7 +8,7 @@ ghost use Rattle.command_line.specs.declared.words.ReplayForm.TheVariants.{Plain
 
 use crate::arguments::{
     BLESS, CALL, COLUMNS, DETAILS, ENDS, EVENTS, EXPLAIN, FILE, HTML, JSON, LIMIT, MODEL, NAMES,
-    NO_REDUCTION, OVER_GATES, RAW, REFUSAL, SAVE, SCHEDULES, command,
+    NO_REDUCTION, OVER_GATES, PATIENCE, RAW, REFUSAL, SAVE, SCHEDULES, command,
 };
 use clap::error::ErrorKind;
 use clap::{ArgMatches, Error};
@@ -28,7 +28,7 @@ const REPLAY_USAGE: &str = "replay [OPTIONS] [FILE]";
 
 const OUTCOMES_USAGE: &str = "outcomes [OPTIONS] [FILE]";
 
-/// How many states a race may have, where nothing else is asked for.
+/// How many states a race or a history may have, where nothing else is asked for.
 const STATES: u32 = 10_000_000;
 
 /// The numbers of a run.
@@ -38,14 +38,16 @@ pub struct Numbers {
     pub processors: u8,
     pub rounds: u32,
     pub freezes: u32,
+    /// How often a freeze looks again before it gives up; None if it waits as long as it takes.
+    pub patience: Option<u32>,
 }
 
 /// What is printed of a run.
 #[derive(Clone, Copy)]
 pub enum RunReport {
-    /// What its tasks did, in five lines.
+    /// What its tasks did, in a few lines.
     Totals,
-    /// What its tasks did, in five lines, and then what they met on their way.
+    /// What its tasks did, in a few lines, and then what they met on their way.
     Details,
 }
 
@@ -143,6 +145,15 @@ impl Outcomes<'_> {
     }
 }
 
+/// How a history is validated.
+#[derive(Clone, Copy)]
+pub struct Validation<'a> {
+    /// The file that has it; standard input, where none is named.
+    pub file: Option<&'a str>,
+    /// How many states are searched at most.
+    pub limit: u32,
+}
+
 /// What the words of a command line ask for.
 #[derive(Drop)]
 pub enum ProgramRequest<'a> {
@@ -157,6 +168,8 @@ pub enum ProgramRequest<'a> {
     Explain(Explain<'a>),
     /// All outcomes of a race.
     Outcomes(Outcomes<'a>),
+    /// Whether some execution has a history.
+    Validate(Validation<'a>),
     /// A run in threads.
     Run(Numbers, RunReport),
     /// The version, which is this text.
@@ -233,13 +246,19 @@ fn request_of<'a, E: Write>(
     if let Some(outcomes) = matches.subcommand_matches("outcomes") {
         return Ok(outcomes_asked(outcomes, errors));
     }
+    if let Some(validate) = matches.subcommand_matches("validate") {
+        return Ok(ProgramRequest::Validate(Validation {
+            file: validate.get_str(FILE),
+            limit: validate.get_one(LIMIT).unwrap_or(STATES),
+        }));
+    }
     if let Some(run) = matches.subcommand_matches("run") {
         return Ok(run_of(run));
     }
     Ok(ProgramRequest::Misused)
 }
 
-/// What `run` asks for, of which the parser has seen to it that each number is there.
+/// What `run` asks for, of which the parser has seen to it that each number that is needed is there.
 fn run_of<'a>(run: &ArgMatches<'_>) -> ProgramRequest<'a>
     ensures { ¬ IsPlainOfInput result }
 {
@@ -260,6 +279,7 @@ fn run_of<'a>(run: &ArgMatches<'_>) -> ProgramRequest<'a>
                 processors,
                 rounds,
                 freezes,
+                patience: run.get_one(PATIENCE),
             };
             ProgramRequest::Run(numbers, tells)
         }

@@ -1,7 +1,8 @@
 //! How the program ends, and what it tells of a fault.
 
 ghost use Rattle.std.specs.Prelude.{◌≡◌, ◌⊎◌};
-ghost use Rattle.exit_status.specs.declared.ends.ProgramEnding.TheVariants.{Done, DoneOfFile, DoneOverGates, Shown, Passed, Blessed, Listed, Ran, Told, Refused, Misused};
+ghost use Rattle.std.specs.Io.KnownBytes.{Appends};
+ghost use Rattle.exit_status.specs.declared.ends.ProgramEnding.TheVariants.{Done, DoneOfFile, DoneOverGates, Shown, Passed, Blessed, Listed, Possible, Ran, Told, Refused, Misused};
 
 use crate::reading::is_input;
 use access_model::GateError;
@@ -30,11 +31,14 @@ pub enum ProgramEnding {
     Blessed,
     /// All outcomes of a race are told.
     Listed,
+    /// Some execution has the whole history.
+    Possible,
     /// A run was done, and what it counted is written.
     Ran,
     /// A text of the program's own was asked for, its version or an explanation, and is written.
     Told,
-    /// A schedule, a race or a run was refused, or could not be read or written, or there was no memory; or a check failed.
+    /// A schedule, a race, a history or a run was refused, or could not be read or written, or there was no memory; or a check failed; or no execution
+    /// has a history.
     Refused,
     /// The command line has a fault, or wishes for help.
     Misused,
@@ -52,6 +56,7 @@ impl ProgramEnding {
         ensures passed { self ≡ Passed → result ≡ 0 }
         ensures blessed { self ≡ Blessed → result ≡ 0 }
         ensures listed { self ≡ Listed → result ≡ 0 }
+        ensures possible { self ≡ Possible → result ≡ 0 }
         ensures ran { self ≡ Ran → result ≡ 0 }
         ensures told { self ≡ Told → result ≡ 0 }
         ensures refused { self ≡ Refused → result ≡ 1 }
@@ -63,7 +68,7 @@ impl ProgramEnding {
             | ProgramEnding::DoneOverGates
             | ProgramEnding::Shown => 0,
             ProgramEnding::Passed | ProgramEnding::Blessed | ProgramEnding::Listed => 0,
-            ProgramEnding::Ran | ProgramEnding::Told => 0,
+            ProgramEnding::Possible | ProgramEnding::Ran | ProgramEnding::Told => 0,
             ProgramEnding::Refused => 1,
             ProgramEnding::Misused => 2,
         }
@@ -159,9 +164,10 @@ pub fn folder_told<E: Write>(file: &str, errors: &mut E) -> ProgramEnding
     why_told_of(IS_FOLDER, Some(file), errors)
 }
 
-/// Writes the text that was asked for of the program itself: its version.
+/// Writes the text that was asked for of the program itself, as its version, to the end if the ending is `Told`.
 pub fn text_told<W: Write, E: Write>(text: &str, writer: &mut W, errors: &mut E) -> ProgramEnding
-    ensures { (result ≡ Told) ⊎ (result ≡ Refused) }
+    ensures ending { (result ≡ Told) ⊎ (result ≡ Refused) }
+    ensures told { result ≡ Told → Appends (W.contents writer.old) (W.contents writer.new) text.now }
 {
     match write_out(writer, text.as_bytes()) {
         Ok(()) => ProgramEnding::Told,

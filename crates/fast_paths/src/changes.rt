@@ -1,13 +1,11 @@
 //! The events of a change of a mount, in a line: its beginning, the sum of the mount's counts, its end.
 
-ghost use Rattle.std.specs.Prelude.{◌≡◌, ℕ, Some, None};
-ghost use Rattle.gate_world.specs.Views.{phase_after};
-ghost use Rattle.gate_world.specs.declared.operations.Op.{Op as OpType};
+ghost use Rattle.std.specs.Prelude.{None};
+ghost use Rattle.access_model.specs.declared.replies.Next.TheVariants.{Go};
 ghost use Rattle.gate_world.specs.declared.work.Phase.TheVariants.{Mounts};
 ghost use Rattle.mount_counts.specs.declared.phases.MountPhase.TheVariants.{Change as Changes};
-ghost use Rattle.gate_steps.specs.call_events.SeatedTasks.{SeatedTask, task_state};
-ghost use Rattle.gate_steps.specs.call_events.Turns.{StateAgrees, AgreesAfter, of_change};
-ghost use Rattle.gate_steps.specs.call_events.Waited.{OpUnderWayWaiting, OpAfterStepWaiting};
+ghost use Rattle.gate_steps.specs.call_events.Led.{Led, Stands};
+ghost use Rattle.gate_steps.specs.call_events.Turns.{of_change};
 
 use crate::lines::{Checkpointed, FastPath, step_if_at};
 use access_model::Next;
@@ -56,17 +54,8 @@ fn begin_change(
     begins: Option<Op>,
     change: Change,
 ) -> Next<Change>
-    requires table { seat.old.table_id ≡ gates.now.table.shared.table_id }
-    requires agrees { StateAgrees gates.now.config begins (Some (Mounts (Changes change))) accesses.old seat.old.me.0.items }
-    ensures table { seat.new.table_id ≡ seat.old.table_id }
-    ensures slots { seat.new.me.1 ≡ seat.old.me.1 }
-    ensures agrees { AgreesAfter gates.now.config begins (Some (Mounts (Changes change))) accesses.old seat.old.me.0.items
-        (phase_after (of_change result)) accesses.new seat.new.me.0.items }
-    ensures still { StateAgrees gates.now.config None (phase_after (of_change result)) accesses.new seat.new.me.0.items }
-    ensures went { (waits : ℕ) (op : OpType) (start : SeatedTask) →
-        OpUnderWayWaiting waits op start (task_state seat.old.table_id gates.now.config begins (Some (Mounts (Changes change))) seat.old.me.0) →
-        OpAfterStepWaiting waits op start (of_change result)
-        (task_state seat.new.table_id gates.now.config None (phase_after (of_change result)) seat.new.me.0) }
+    requires { Stands gates.now begins (Go (Mounts (Changes change))) accesses.old seat.old }
+    ensures { Led gates.now begins (Go (Mounts (Changes change))) accesses.old seat.old (of_change result) accesses.new seat.new }
 {
     let next = step_once(gates, seat, accesses, begins, change, Ok(()));
     let next = step_if_at(gates, seat, accesses, next, ChangePlace::LoadsFlags);
@@ -83,18 +72,8 @@ fn add_counts(
     mut next: Next<Change>,
     processors: u8,
 ) -> Next<Change>
-    requires table { seat.old.table_id ≡ gates.now.table.shared.table_id }
-    requires agrees { StateAgrees gates.now.config None (phase_after (of_change next)) accesses.old seat.old.me.0.items }
-    ensures table { seat.new.table_id ≡ seat.old.table_id }
-    ensures slots { seat.new.me.1 ≡ seat.old.me.1 }
-    ensures agrees { AgreesAfter gates.now.config None (phase_after (of_change next)) accesses.old seat.old.me.0.items
-        (phase_after (of_change result)) accesses.new seat.new.me.0.items }
-    ensures still { StateAgrees gates.now.config None (phase_after (of_change result)) accesses.new seat.new.me.0.items }
-    ensures went { (waits : ℕ) (op : OpType) (start : SeatedTask) →
-        OpAfterStepWaiting waits op start (of_change next)
-        (task_state seat.old.table_id gates.now.config None (phase_after (of_change next)) seat.old.me.0) →
-        OpAfterStepWaiting waits op start (of_change result)
-        (task_state seat.new.table_id gates.now.config None (phase_after (of_change result)) seat.new.me.0) }
+    requires { Stands gates.now None (of_change next) accesses.old seat.old }
+    ensures { Led gates.now None (of_change next) accesses.old seat.old (of_change result) accesses.new seat.new }
 {
     for _cpu in 0..processors {
         next = step_if_at(gates, seat, accesses, next, ChangePlace::Sums);
@@ -111,17 +90,8 @@ fn end_change(
     accesses: &mut Accesses,
     next: Next<Change>,
 ) -> Next<Change>
-    requires table { seat.old.table_id ≡ gates.now.table.shared.table_id }
-    requires agrees { StateAgrees gates.now.config None (phase_after (of_change next)) accesses.old seat.old.me.0.items }
-    ensures table { seat.new.table_id ≡ seat.old.table_id }
-    ensures slots { seat.new.me.1 ≡ seat.old.me.1 }
-    ensures agrees { AgreesAfter gates.now.config None (phase_after (of_change next)) accesses.old seat.old.me.0.items
-        (phase_after (of_change result)) accesses.new seat.new.me.0.items }
-    ensures went { (waits : ℕ) (op : OpType) (start : SeatedTask) →
-        OpAfterStepWaiting waits op start (of_change next)
-        (task_state seat.old.table_id gates.now.config None (phase_after (of_change next)) seat.old.me.0) →
-        OpAfterStepWaiting waits op start (of_change result)
-        (task_state seat.new.table_id gates.now.config None (phase_after (of_change result)) seat.new.me.0) }
+    requires { Stands gates.now None (of_change next) accesses.old seat.old }
+    ensures { Led gates.now None (of_change next) accesses.old seat.old (of_change result) accesses.new seat.new }
 {
     let next = step_if_at(gates, seat, accesses, next, ChangePlace::SetsReadOnly);
     let next = step_if_at(gates, seat, accesses, next, ChangePlace::ClearsHold);

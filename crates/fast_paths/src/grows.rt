@@ -1,13 +1,10 @@
 //! The events of a grow of a file, in a line.
 
-ghost use Rattle.std.specs.Prelude.{◌≡◌, ℕ, Some, None};
-ghost use Rattle.gate_world.specs.Views.{phase_after};
-ghost use Rattle.gate_world.specs.declared.operations.Op.{Op as OpType};
+ghost use Rattle.access_model.specs.declared.replies.Next.TheVariants.{Go};
 ghost use Rattle.gate_world.specs.declared.work.Phase.TheVariants.{Trees};
 ghost use Rattle.gated_tree.specs.declared.phases.TreePhase.TheVariants.{Grow as Grows};
-ghost use Rattle.gate_steps.specs.call_events.SeatedTasks.{SeatedTask, task_state};
-ghost use Rattle.gate_steps.specs.call_events.Turns.{StateAgrees, AgreesAfter, of_grow};
-ghost use Rattle.gate_steps.specs.call_events.Waited.{OpUnderWayWaiting, OpAfterStepWaiting};
+ghost use Rattle.gate_steps.specs.call_events.Led.{Led, Stands};
+ghost use Rattle.gate_steps.specs.call_events.Turns.{of_grow};
 
 use crate::lines::{Checkpointed, FastPath, step_if_at};
 use access_model::Next;
@@ -46,16 +43,8 @@ fn grow_in_line(
     begins: Option<Op>,
     grow: Grow,
 ) -> Next<Grow>
-    requires table { seat.old.table_id ≡ gates.now.table.shared.table_id }
-    requires agrees { StateAgrees gates.now.config begins (Some (Trees (Grows grow))) accesses.old seat.old.me.0.items }
-    ensures table { seat.new.table_id ≡ seat.old.table_id }
-    ensures slots { seat.new.me.1 ≡ seat.old.me.1 }
-    ensures agrees { AgreesAfter gates.now.config begins (Some (Trees (Grows grow))) accesses.old seat.old.me.0.items
-        (phase_after (of_grow result)) accesses.new seat.new.me.0.items }
-    ensures went { (waits : ℕ) (op : OpType) (start : SeatedTask) →
-        OpUnderWayWaiting waits op start (task_state seat.old.table_id gates.now.config begins (Some (Trees (Grows grow))) seat.old.me.0) →
-        OpAfterStepWaiting waits op start (of_grow result)
-        (task_state seat.new.table_id gates.now.config None (phase_after (of_grow result)) seat.new.me.0) }
+    requires { Stands gates.now begins (Go (Trees (Grows grow))) accesses.old seat.old }
+    ensures { Led gates.now begins (Go (Trees (Grows grow))) accesses.old seat.old (of_grow result) accesses.new seat.new }
 {
     let next = step_once(gates, seat, accesses, begins, grow, Ok(()));
     let next = step_if_at(gates, seat, accesses, next, GrowPlace::LoadsUsed);

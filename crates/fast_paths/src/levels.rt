@@ -1,11 +1,7 @@
 //! A start at a level, and its end, in a line.
 
-ghost use Rattle.std.specs.Prelude.{◌≡◌, ℕ, None};
-ghost use Rattle.gate_world.specs.Views.{phase_after};
-ghost use Rattle.gate_world.specs.declared.operations.Op.{Op as OpType};
-ghost use Rattle.gate_steps.specs.call_events.SeatedTasks.{SeatedTask, task_state};
-ghost use Rattle.gate_steps.specs.call_events.Turns.{StateAgrees, AgreesAfter};
-ghost use Rattle.gate_steps.specs.call_events.Waited.{OpAfterStepWaiting};
+ghost use Rattle.std.specs.Prelude.{None};
+ghost use Rattle.gate_steps.specs.call_events.Led.{Led, Stands};
 ghost use Rattle.fast_paths.specs.Paths.{of_read};
 
 use crate::lines::{Checkpointed, FastPath, step_if_at};
@@ -31,17 +27,8 @@ fn count_in_line(
     accesses: &mut Accesses,
     next: Next<DownRead>,
 ) -> Next<DownRead>
-    requires table { seat.old.table_id ≡ gates.now.table.shared.table_id }
-    requires agrees { StateAgrees gates.now.config None (phase_after (of_read next)) accesses.old seat.old.me.0.items }
-    ensures table { seat.new.table_id ≡ seat.old.table_id }
-    ensures slots { seat.new.me.1 ≡ seat.old.me.1 }
-    ensures agrees { AgreesAfter gates.now.config None (phase_after (of_read next)) accesses.old seat.old.me.0.items
-        (phase_after (of_read result)) accesses.new seat.new.me.0.items }
-    ensures went { (waits : ℕ) (op : OpType) (start : SeatedTask) →
-        OpAfterStepWaiting waits op start (of_read next)
-        (task_state seat.old.table_id gates.now.config None (phase_after (of_read next)) seat.old.me.0) →
-        OpAfterStepWaiting waits op start (of_read result)
-        (task_state seat.new.table_id gates.now.config None (phase_after (of_read result)) seat.new.me.0) }
+    requires { Stands gates.now None (of_read next) accesses.old seat.old }
+    ensures { Led gates.now None (of_read next) accesses.old seat.old (of_read result) accesses.new seat.new }
 {
     let next = step_if_at(gates, seat, accesses, next, DownReadStep::LoadsSync);
     let next = step_if_at(gates, seat, accesses, next, DownReadStep::CountsUpFast);

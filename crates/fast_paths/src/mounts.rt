@@ -1,11 +1,7 @@
 //! A want of an access at a mount, and its return, in a line.
 
-ghost use Rattle.std.specs.Prelude.{◌≡◌, ℕ, None};
-ghost use Rattle.gate_world.specs.Views.{phase_after};
-ghost use Rattle.gate_world.specs.declared.operations.Op.{Op as OpType};
-ghost use Rattle.gate_steps.specs.call_events.SeatedTasks.{SeatedTask, task_state};
-ghost use Rattle.gate_steps.specs.call_events.Turns.{StateAgrees, AgreesAfter};
-ghost use Rattle.gate_steps.specs.call_events.Waited.{OpAfterStepWaiting};
+ghost use Rattle.std.specs.Prelude.{None};
+ghost use Rattle.gate_steps.specs.call_events.Led.{Led, Stands};
 ghost use Rattle.fast_paths.specs.Paths.{of_want};
 
 use crate::lines::{Checkpointed, FastPath, step_if_at};
@@ -32,17 +28,8 @@ fn ask_in_line(
     accesses: &mut Accesses,
     next: Next<Want>,
 ) -> Next<Want>
-    requires table { seat.old.table_id ≡ gates.now.table.shared.table_id }
-    requires agrees { StateAgrees gates.now.config None (phase_after (of_want next)) accesses.old seat.old.me.0.items }
-    ensures table { seat.new.table_id ≡ seat.old.table_id }
-    ensures slots { seat.new.me.1 ≡ seat.old.me.1 }
-    ensures agrees { AgreesAfter gates.now.config None (phase_after (of_want next)) accesses.old seat.old.me.0.items
-        (phase_after (of_want result)) accesses.new seat.new.me.0.items }
-    ensures went { (waits : ℕ) (op : OpType) (start : SeatedTask) →
-        OpAfterStepWaiting waits op start (of_want next)
-        (task_state seat.old.table_id gates.now.config None (phase_after (of_want next)) seat.old.me.0) →
-        OpAfterStepWaiting waits op start (of_want result)
-        (task_state seat.new.table_id gates.now.config None (phase_after (of_want result)) seat.new.me.0) }
+    requires { Stands gates.now None (of_want next) accesses.old seat.old }
+    ensures { Led gates.now None (of_want next) accesses.old seat.old (of_want result) accesses.new seat.new }
 {
     let next = step_if_at(gates, seat, accesses, next, WantStep::LoadsRemount);
     let next = step_if_at(gates, seat, accesses, next, WantStep::LoadsReadOnly);

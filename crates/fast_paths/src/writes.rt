@@ -1,18 +1,15 @@
 //! A taking of write access, and its return, in a line.
 
-ghost use Rattle.std.specs.Prelude.{◌≡◌, ℕ, IfSome, IsTrue, Some, None, Ok};
-ghost use Rattle.access_model.specs.declared.replies.Next.TheVariants.{Done};
+ghost use Rattle.std.specs.Prelude.{◌≡◌, IfSome, IsTrue, Some, None, Ok};
+ghost use Rattle.access_model.specs.declared.replies.Next.TheVariants.{Done, Go};
 ghost use Rattle.access_model.specs.declared.replies.Reply.TheVariants.{Unit as UnitReply};
-ghost use Rattle.gate_world.specs.Views.{phase_after};
-ghost use Rattle.gate_world.specs.declared.operations.Op.{Op as OpType};
 ghost use Rattle.gate_world.specs.declared.operations.Op.TheVariants.{WantWrite};
 ghost use Rattle.gate_world.specs.declared.work.Phase.TheVariants.{Writes};
-ghost use Rattle.gate_steps.specs.call_events.SeatedTasks.{SeatedTask, task_state};
-ghost use Rattle.gate_steps.specs.call_events.Turns.{StateAgrees, AgreesAfter, of_write};
+ghost use Rattle.gate_steps.specs.call_events.Led.{Led, Stands};
+ghost use Rattle.gate_steps.specs.call_events.Turns.{of_write};
 ghost use Rattle.composite_ops.specs.declared.write_access.phases.WritePhase.TheVariants.{Drops, Takes};
 ghost use Rattle.composite_ops.specs.write_access.Phases.{after};
 ghost use Rattle.percpu_rwsem.specs.declared.readers.DownReadStep.TheVariants.{EntersSection, LoadsSync};
-ghost use Rattle.gate_steps.specs.call_events.Waited.{OpUnderWayWaiting, OpAfterStepWaiting};
 ghost use Rattle.fast_paths.specs.Paths.{done_or, taking_at};
 
 use crate::lines::{Checkpointed, FastPath, step_if_at};
@@ -58,17 +55,8 @@ fn want_then(
     accesses: &mut Accesses,
     next: Next<WritePhase>,
 ) -> Next<WritePhase>
-    requires table { seat.old.table_id ≡ gates.now.table.shared.table_id }
-    requires agrees { StateAgrees gates.now.config None (phase_after (of_write next)) accesses.old seat.old.me.0.items }
-    ensures table { seat.new.table_id ≡ seat.old.table_id }
-    ensures slots { seat.new.me.1 ≡ seat.old.me.1 }
-    ensures agrees { AgreesAfter gates.now.config None (phase_after (of_write next)) accesses.old seat.old.me.0.items
-        (phase_after (of_write result)) accesses.new seat.new.me.0.items }
-    ensures went { (waits : ℕ) (op : OpType) (start : SeatedTask) →
-        OpAfterStepWaiting waits op start (of_write next)
-        (task_state seat.old.table_id gates.now.config None (phase_after (of_write next)) seat.old.me.0) →
-        OpAfterStepWaiting waits op start (of_write result)
-        (task_state seat.new.table_id gates.now.config None (phase_after (of_write result)) seat.new.me.0) }
+    requires { Stands gates.now None (of_write next) accesses.old seat.old }
+    ensures { Led gates.now None (of_write next) accesses.old seat.old (of_write result) accesses.new seat.new }
 {
     let place = WritePlace::Wants(WantStep::CountsUp);
     let next = step_if_at(gates, seat, accesses, next, place);
@@ -183,19 +171,9 @@ fn take_write(
     task: u8,
     rest: &mut Next<WritePhase>,
 ) -> bool
-    requires table { seat.old.table_id ≡ gates.now.table.shared.table_id }
-    requires agrees { StateAgrees gates.now.config (Some (WantWrite mount cpu)) (Some (Writes (taking_at mount cpu task EntersSection)))
-        accesses.old seat.old.me.0.items }
-    ensures table { seat.new.table_id ≡ seat.old.table_id }
-    ensures slots { seat.new.me.1 ≡ seat.old.me.1 }
-    ensures agrees { AgreesAfter gates.now.config (Some (WantWrite mount cpu)) (Some (Writes (taking_at mount cpu task EntersSection)))
-        accesses.old seat.old.me.0.items (phase_after (of_write (done_or result rest.new))) accesses.new seat.new.me.0.items }
-    ensures went { (waits : ℕ) (op : OpType) (start : SeatedTask) →
-        OpUnderWayWaiting waits op start
-        (task_state seat.old.table_id gates.now.config (Some (WantWrite mount cpu)) (Some (Writes (taking_at mount cpu task EntersSection)))
-        seat.old.me.0) →
-        OpAfterStepWaiting waits op start (of_write (done_or result rest.new))
-        (task_state seat.new.table_id gates.now.config None (phase_after (of_write (done_or result rest.new))) seat.new.me.0) }
+    requires { Stands gates.now (Some (WantWrite mount cpu)) (Go (Writes (taking_at mount cpu task EntersSection))) accesses.old seat.old }
+    ensures { Led gates.now (Some (WantWrite mount cpu)) (Go (Writes (taking_at mount cpu task EntersSection))) accesses.old seat.old
+        (of_write (done_or result rest.new)) accesses.new seat.new }
 {
     let op = Op::WantWrite { mount, cpu };
     let phase = taking_at(mount, cpu, task, DownReadStep::EntersSection);
@@ -229,16 +207,8 @@ fn give_in_line(
     mount: u8,
     cpu: u8,
 ) -> Next<WritePhase>
-    requires table { seat.old.table_id ≡ gates.now.table.shared.table_id }
-    requires agrees { StateAgrees gates.now.config begins (Some (Writes (Drops mount cpu))) accesses.old seat.old.me.0.items }
-    ensures table { seat.new.table_id ≡ seat.old.table_id }
-    ensures slots { seat.new.me.1 ≡ seat.old.me.1 }
-    ensures agrees { AgreesAfter gates.now.config begins (Some (Writes (Drops mount cpu))) accesses.old seat.old.me.0.items
-        (phase_after (of_write result)) accesses.new seat.new.me.0.items }
-    ensures went { (waits : ℕ) (op : OpType) (start : SeatedTask) →
-        OpUnderWayWaiting waits op start (task_state seat.old.table_id gates.now.config begins (Some (Writes (Drops mount cpu))) seat.old.me.0) →
-        OpAfterStepWaiting waits op start (of_write result)
-        (task_state seat.new.table_id gates.now.config None (phase_after (of_write result)) seat.new.me.0) }
+    requires { Stands gates.now begins (Go (Writes (Drops mount cpu))) accesses.old seat.old }
+    ensures { Led gates.now begins (Go (Writes (Drops mount cpu))) accesses.old seat.old (of_write result) accesses.new seat.new }
 {
     let phase = WritePhase::Drops { mount, cpu };
     let next = step_once(gates, seat, accesses, begins, phase, Ok(()));
@@ -256,16 +226,8 @@ fn step_out_of_line(
     begins: Option<Op>,
     phase: WritePhase,
 ) -> Next<WritePhase>
-    requires table { seat.old.table_id ≡ gates.now.table.shared.table_id }
-    requires agrees { StateAgrees gates.now.config begins (Some (Writes phase)) accesses.old seat.old.me.0.items }
-    ensures table { seat.new.table_id ≡ seat.old.table_id }
-    ensures slots { seat.new.me.1 ≡ seat.old.me.1 }
-    ensures agrees { AgreesAfter gates.now.config begins (Some (Writes phase)) accesses.old seat.old.me.0.items
-        (phase_after (of_write result)) accesses.new seat.new.me.0.items }
-    ensures went { (waits : ℕ) (op : OpType) (start : SeatedTask) →
-        OpUnderWayWaiting waits op start (task_state seat.old.table_id gates.now.config begins (Some (Writes phase)) seat.old.me.0) →
-        OpAfterStepWaiting waits op start (of_write result)
-        (task_state seat.new.table_id gates.now.config None (phase_after (of_write result)) seat.new.me.0) }
+    requires { Stands gates.now begins (Go (Writes phase)) accesses.old seat.old }
+    ensures { Led gates.now begins (Go (Writes phase)) accesses.old seat.old (of_write result) accesses.new seat.new }
 {
     step_once(gates, seat, accesses, begins, phase, Ok(()))
 }

@@ -4,16 +4,16 @@ use Rattle.std.specs.Prelude.{◌⊎◌, if◌then◌else◌, Bool, false, None,
 use Rattle.access_model.specs.{Holders.{held_by, nobody}, Histories.{mounts_of, levels_of}, declared.actions.Action.{Action, TheVariants.{Grant, Hold, Leave, Reopen, Stage}}}
 use Rattle.access_model.specs.declared.actions.{Gate.TheVariants.{Mount, Level}, Holder.TheVariants.{User}, Kind.TheVariants.{File}}
 use Rattle.access_model.specs.declared.errors.GateError.{GateError}
-use Rattle.access_model.specs.declared.errors.GateError.TheVariants.{Again, Busy, Hook, Invalid, IsDir, NoEntry, NoSpace, Order, ReadOnly, TooMany}
+use Rattle.access_model.specs.declared.errors.GateError.TheVariants.{Again, Hook, Invalid, IsDir, NoEntry, NoSpace, Order, ReadOnly, TooMany}
 use Rattle.access_model.specs.declared.replies.Reply.{Reply}
 use Rattle.gate_world.specs.{Holdings.{Holdings, holdings_of, held_after}, Operations.{some_mount}, traces.{Found.{found_complete, found_sealed, found_shared}, Traces.{IsHonestAnswer}}}
 use Rattle.gate_world.specs.declared.{config.Config.{Config}, operations.Op.{Op}}
 use Rattle.gate_world.specs.declared.operations.Op.TheVariants.{WantWrite, DropWrite, Callback, Freeze, Thaw, Create, Grow, Snapshot}
 use Rattle.gate_world.specs.declared.views.Traced.{Traced}
 use Rattle.cpu_words.specs.Hooks.{HookAnswer}
-use Rattle.freeze_levels.specs.declared.hooks.HookCall.{HookCall, TheVariants.{Sync, FreezeFs, UnfreezeFs}}
-use Rattle.gate_steps.specs.call_events.{Asked.{AskedByRefused, AskedByRefusedFreeze, agreed, failed}, Asking.{Ask, PerformsAsking, WereAsked, asks_of}}
-use Rattle.gate_steps.proofs.call_events.{FreezeAsks.{refused_freeze}, ThawAsks.{refused_thaw}}
+use Rattle.freeze_levels.specs.declared.hooks.HookCall.{HookCall, TheVariants.{UnfreezeFs}}
+use Rattle.gate_steps.specs.call_events.{Asked.{AskedByRefused, failed}, Asking.{Ask, PerformsAsking, WereAsked, asks_of}}
+use Rattle.gate_steps.proofs.call_events.ThawAsks.{refused_thaw}
 use Rattle.gate_runs.specs.Refusals.{CreateRefused, EndsCreate, EndsGrow, HasWriteAccess, WriterRefused}
 use Rattle.gate_runs.specs.Rounds.{CallsBack, Does, IsRefused, Repeats}
 use Rattle.vfs_gates.specs.{Frozen.{MayFreeze, NeverFreezes, holders_of, stage_of}, Grown.{StaySeen}, Held.{Rests, own_actions, takes_nothing}}
@@ -172,36 +172,7 @@ module _ {H : Type 0} (answers : HookCall → DealtNumbers → H → HookAnswer 
   none_failed call code at earlier before after asked =
       let no : ◌≡◌ {A = HookAnswer} (Err code) (Ok tt) = agree call at asked.0 after (Err code) asked.2 in let f : ⊥ = cc in f
 
-  last_failed : (code : ℕ) (call : HookCall) (at : DealtNumbers) (earlier asks : List Ask) (before after : H) →
-      asks ≡ failed call code at ∷ earlier → WereAsked answers asks before after → ⊥
-  last_failed code call at earlier asks before after is asked =
-      none_failed call code at earlier before after (subst (λ l. WereAsked answers l before after) is asked)
-
-  -- so a freeze is refused as busy alone
-  freeze_ends : (c : Config) (trace : List Traced) (added : List Action) (asks : List Ask) (before after : H) (refusal : GateError) →
-      IsHonestAnswer c (Freeze User) (Err refusal) trace → AskedByRefusedFreeze refusal added asks → WereAsked answers asks before after →
-      refusal ≡ Busy
-  freeze_ends c trace added asks before after Busy honest told asked = refl
-  freeze_ends c trace added asks before after (Hook code) honest told asked = elim told [
-    | inl since ↦ absurd (last_failed code since.1.0 since.1.1 since.1.2 asks before after since.1.3 asked)
-    | inr before_sync ↦ absurd (last_failed code before_sync.1.0 before_sync.1.1 before_sync.1.2 asks before after before_sync.1.3 asked)
-  ]
-  freeze_ends c trace added asks before after refusal honest told asked = absurd honest
-
-  freeze_told : (first last : SeatedTask) (before after : H) (refusal : GateError) (answer : Result Reply GateError) →
-      ◌≡◌ {A = Result (Unit {0}) GateError} (Err refusal) (told_as unit_of answer) → (called : Called (Freeze User) first last answer) →
-      WereAsked answers (asks_of first.config (Freeze User) first.items called.trace) before after → Called (Freeze User) first last (Err Busy)
-  freeze_told first last before after refusal (Ok reply) told called asked = absurd (let f : ⊥ = cc in f)
-  freeze_told first last before after refusal (Err cause) told called asked =
-      subst (λ e. Called (Freeze User) first last (Err e))
-      (freeze_ends first.config called.trace _ _ before after cause called.honest (refused_freeze User first last cause called) asked) called
-
-  pub freeze_refused : (first last : SeatedTask) (before after : H) (refusal : GateError) → refusal_at (Freeze User) first ≡ None →
-      PerformsAsking answers (Freeze User) first last (Err refusal) before after → Called (Freeze User) first last (Err Busy)
-  freeze_refused first last before after refusal began did =
-      let done = did.replies.done began in freeze_told first last before after refusal done.0 done.1 done.2 (did.asked began)
-
-  -- and a thaw as invalid alone
+  -- so a thaw is refused as invalid alone
   thaw_ends : (c : Config) (trace : List Traced) (asks : List Ask) (before after : H) (refusal : GateError) →
       IsHonestAnswer c (Thaw User) (Err refusal) trace → AskedByRefused UnfreezeFs refusal asks → WereAsked answers asks before after →
       refusal ≡ Invalid

@@ -10,8 +10,9 @@ use Rattle.vfs_gates.specs.{Frozen.{NeverFreezes}, Held.{own_actions}, Runs.{Cal
 use Rattle.vfs_gates.specs.{Splitting.{HaveDoneNothing}, TaskStates.{SeatedTask, own_number, own_view, refusal_at, spare_of}}
 use Rattle.vfs_gates.proofs.Holding.{adds}
 use Rattle.run_plans.specs.declared.counts.{Copies.{Copies}, Remounts.{Remounts}, Writes.{Writes}}
-use Rattle.gate_runs.specs.{Counts.{with_waits}, Keeping.{HaveNotFrozen, KeepsNumbers, FreezesNothing}}
-use Rattle.gate_runs.specs.Rounds.{Repeats, CallsBack, CreatesFile, CreatesFiles, IsRefused, Retries, Takes, Waits, RemountRound, WriterRound, BackupRound}
+use Rattle.run_plans.specs.declared.counts.Tried.{Tried, TheVariants.{Copied, GaveUp as GivenUp}}
+use Rattle.gate_runs.specs.{Keeping.{HaveNotFrozen, KeepsNumbers, FreezesNothing}}
+use Rattle.gate_runs.specs.Rounds.{Repeats, CallsBack, CreatesFile, CreatesFiles, IsRefused, Retries, Takes, Waits, RemountRound, Tries, WriterRound, BackupRound}
 
 pub stays_so : (s : SeatedTask) → KeepsNumbers s s
 stays_so s = record { config = refl; own = refl; spare = refl; idle = λ i. i; there = λ h. h }
@@ -159,13 +160,21 @@ creates_stay writers first last did =
     (rounds_stay (λ (x : SeatedTask). x) (λ k. CreatesFile) (λ k x y was. stays _ _ x y _ was.1) writers did.held did.made did.creates)
     (stays _ _ did.made last _ did.gave))
 
-pub backs_stay : {N : Type 0} (link : SeatedTask → ℕ → N → N → Type 0) (freezes : ℕ) (first last : SeatedTask × N × Copies) →
-    Repeats (BackupRound link) freezes first last → KeepsNumbers first.0 last.0
-backs_stay link freezes first last did = rounds_stay (λ x. x.0) (BackupRound link) (λ k x y was. stays_on
-    (stays _ _ x.0 was.frozen _ was.freezes) (stays_on (stays _ _ was.frozen was.copied _ was.copies) (stays_on
-    (stays _ _ was.copied was.thawed _ was.thaws)
-    (rounds_stay (λ (x : SeatedTask × ℕ × ℕ). x.0) (λ k. CallsBack (k + 1)) (λ k x y ran. stays _ _ x.0 y.0 _ ran.1) 3
-    (was.thawed, 0, with_waits (with_waits (with_waits x.2.waits was.frozen) was.copied) was.thawed) (y.0, was.ran, was.waits) was.calls_back)))) freezes first last did
+module _ {N : Type 0} (link : SeatedTask → ℕ → N → N → Type 0) (patience : Option ℕ) where
+  tries_stay : (round : ℕ) (tried : Tried) (first last : SeatedTask × N × ℕ) → Tries link patience round tried first last →
+      KeepsNumbers first.0 last.0
+  tries_stay round (Copied (Some blocks)) first last was =
+      stays_on (stays _ _ first.0 was.frozen _ was.freezes.1.replies) (stays_on (stays _ _ was.frozen was.copied _ was.copies)
+      (stays _ _ was.copied last.0 _ was.thaws))
+  tries_stay round (Copied None) first last was = absurd was
+  tries_stay round GivenUp first last was = stays _ _ first.0 last.0 _ was.0.0.replies
+
+  pub backs_stay : (freezes : ℕ) (first last : SeatedTask × N × Copies) → Repeats (BackupRound link patience) freezes first last →
+      KeepsNumbers first.0 last.0
+  backs_stay freezes first last did = rounds_stay (λ (x : SeatedTask × N × Copies). x.0) (BackupRound link patience) (λ k x y was. stays_on
+      (tries_stay k was.tried (x.0, x.1, x.2.waits) (was.mid, y.1, was.before) was.tries)
+      (rounds_stay (λ (x : SeatedTask × ℕ × ℕ). x.0) (λ k. CallsBack (k + 1)) (λ k x y ran. stays _ _ x.0 y.0 _ ran.1) 3
+      (was.mid, 0, was.before) (y.0, was.ran, was.waits) was.calls_back)) freezes first last did
 
 pub creates_freeze_none : (writers : ℕ) (first last : SeatedTask) → CreatesFiles writers first last → FreezesNothing first last
 creates_freeze_none writers first last did =

@@ -1,6 +1,7 @@
 mod Repeating
 pub mod Answering
 pub mod Keeping
+pub mod GivingUp
 mod FirstCalls
 mod Homes
 mod Staying

@@ -1,5 +1,6 @@
 -- What a task is among others in the end.
 use Rattle.std.proofs.Common.{◌≡◌, ℕ, suc, ◌+◌, ◌-◌, ◌≤◌, List, [], ◌∷◌, ◌++◌, length, refl, ap, sym, subst, ◌∙◌, arith, inl, inr}
+use Rattle.std.specs.Prelude.{Option}
 use Rattle.gate_world.specs.declared.views.View.{View}
 use Rattle.vfs_gates.specs.{Seating.{DealtNumbers, HaveViews, numbered, times}, TaskStates.{SeatedTask, own_number, own_view}}
 use Rattle.vfs_gates.specs.Splitting.{Gives, HasBegun, HaveDoneNothing}
@@ -63,9 +64,9 @@ module _ (Ends Other : SeatedTask → Type 0) (on : (s : SeatedTask) → Ends s 
       sum = w.sum;
     }
 
-  pub all_did_on : (held : ℕ → ℕ → Type 0) (seen : ℕ → Type 0) (tasks processors rounds freezes : ℕ) (details : Details) →
-      AllDid Ends held seen tasks processors rounds freezes details → AllDid Other held seen tasks processors rounds freezes details
-  all_did_on held seen tasks processors rounds freezes details did = record {
+  pub all_did_on : (held : ℕ → ℕ → Type 0) (seen : ℕ → Type 0) (tasks processors rounds freezes : ℕ) (patience : Option ℕ) (details : Details) →
+      AllDid Ends held seen tasks processors rounds freezes patience details → AllDid Other held seen tasks processors rounds freezes patience details
+  all_did_on held seen tasks processors rounds freezes patience details did = record {
     backup = record {
       begins = did.backup.begins;
       made = did.backup.made;

@@ -2,7 +2,8 @@
 use Rattle.std.specs.Prelude.{ℕ, ◌+◌, Option, Some, None}
 use Rattle.gate_world.specs.declared.views.Snapshot.{Snapshot}
 use Rattle.vfs_gates.specs.TaskStates.{SeatedTask, own_view}
-pub use Rattle.run_plans.specs.Counts.{no_writes, with_round, both, all_writes, no_remounts, remounts_of, all_waits, with_ran, sizes_with, no_copies, with_copy}
+pub use Rattle.run_plans.specs.Counts.{no_writes, with_round, both, all_writes, no_remounts, remounts_of, all_waits, with_ran, sizes_with, no_copies, with_try}
+pub use Rattle.run_plans.specs.Counts.{CountsRounds, gave_up_told}
 pub use Rattle.vfs_gates.specs.Waits.{counted, waited_at}
 
 -- a call more of a task that stands so then

@@ -1,5 +1,6 @@
 pub mod Observers
 pub mod Counts
+pub mod Patience
 pub mod Rounds
 pub mod Keeping
 pub mod Refusals

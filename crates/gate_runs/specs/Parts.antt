@@ -1,5 +1,5 @@
 -- What each task of a run has done, from where it began, and how it stands at the end.
-use Rattle.std.specs.Prelude.{◌≡◌, ℕ, suc, ◌+◌, ◌-◌, ◌⊎◌, List, [], ◌∷◌, length}
+use Rattle.std.specs.Prelude.{◌≡◌, ℕ, suc, ◌+◌, ◌-◌, ◌⊎◌, Option, List, [], ◌∷◌, length}
 use Rattle.gate_world.specs.declared.views.View.{View}
 use Rattle.vfs_gates.specs.{Seating.{DealtNumbers, numbered}, TaskStates.{SeatedTask, own_number, own_view}, Splitting.{HasBegun}}
 use Rattle.run_plans.specs.declared.counts.{Copies.{Copies}, Details.{Details}, Remounts.{Remounts}, Writes.{Writes}}
@@ -48,9 +48,9 @@ module _ (Ends : SeatedTask → Type 0) where
       pub parts : EachFrom (λ writer. Wrote processors rounds writer before after) from each
       pub sum : writes ≡ all_writes each
 
-    -- The backup: it has created a file for each writer, then given all other numbers away, which adds nothing to its list, and then frozen
-    -- so often, which met this, and nothing else.
-    pub record BackedUp (writers freezes : ℕ) (before after : N) (copies : Copies) : Type 0 where
+    -- The backup: it has created a file for each writer, then given all other numbers away, which adds nothing to its list, and then done so
+    -- many rounds with this patience, which met this, and nothing else.
+    pub record BackedUp (writers freezes : ℕ) (patience : Option ℕ) (before after : N) (copies : Copies) : Type 0 where
       pub begins : SeatedTask
       pub made : SeatedTask
       pub first : SeatedTask
@@ -58,13 +58,13 @@ module _ (Ends : SeatedTask → Type 0) where
       pub begun : HasBegun 0 begins
       pub creates : CreatesFiles writers begins made
       pub same : own_view first.items ≡ own_view made.items
-      pub did : Repeats (BackupRound link) freezes (first, before, no_copies) (last, after, copies)
+      pub did : Repeats (BackupRound link patience) freezes (first, before, no_copies) (last, after, copies)
       pub own : own_number last.items ≡ 0
       pub ends : Ends last
 
 -- what all tasks of a run have done and met
 pub record AllDid (Ends : SeatedTask → Type 0) (held : ℕ → ℕ → Type 0) (seen : ℕ → Type 0) (tasks processors rounds freezes : ℕ)
-    (details : Details) : Type 0 where
-  pub backup : BackedUp Ends (was_frozen seen) (tasks - 2) freezes tt tt details.copies
+    (patience : Option ℕ) (details : Details) : Type 0 where
+  pub backup : BackedUp Ends (was_frozen seen) (tasks - 2) freezes patience tt tt details.copies
   pub remounter : Remounted Ends rounds (remounts_of details)
   pub writers : AllWrote Ends (was_held held) processors rounds 0 (tasks - 2) tt tt details.writes

@@ -1,12 +1,13 @@
 -- What each task of a run does, call by call, and when who looks on is called.
-use Rattle.std.specs.Prelude.{◌≡◌, ℕ, zero, suc, ◌+◌, ◌⊎◌, Bool, true, false, Ok, Err}
+use Rattle.std.specs.Prelude.{◌≡◌, ℕ, zero, suc, ◌+◌, ◌⊎◌, Bool, true, false, Option, None, Some, Ok, Err}
 use Rattle.access_model.specs.declared.{actions.{Holder.TheVariants.{User}, Kind.TheVariants.{File}}, errors.GateError.{GateError}}
 use Rattle.access_model.specs.declared.errors.GateError.TheVariants.{Again, Busy, ReadOnly}
 use Rattle.gate_world.specs.declared.operations.Op.{Op}
-use Rattle.gate_world.specs.declared.operations.Op.TheVariants.{ChangeMount, WantWrite, DropWrite, Callback, Freeze, Thaw, Create, Grow, Snapshot}
+use Rattle.gate_world.specs.declared.operations.Op.TheVariants.{ChangeMount, WantWrite, DropWrite, Callback, Thaw, Create, Grow, Snapshot}
 use Rattle.vfs_gates.specs.{TaskStates.{SeatedTask}, Runs.{Performs, Replies, node_of, ran_of}}
 use Rattle.run_plans.specs.{declared.counts.{Copies.{Copies}, Writes.{Writes}, Remounts.{Remounts}}, Plans.{processor_of}}
-use Rattle.gate_runs.specs.Counts.{blocks_of, with_copy, with_ran, with_round, with_waits}
+use Rattle.run_plans.specs.declared.counts.Tried.{Tried, TheVariants.{Copied, GaveUp as GivenUp}}
+use Rattle.gate_runs.specs.{Counts.{blocks_of, with_ran, with_round, with_try, with_waits}, Patience.{Froze, GaveUp}}
 
 -- so many rounds from one state to another, by their numbers from 0, each going on where the one before it ended
 abbrev pub Repeats : {S : Type 0} → (ℕ → S → S → Type 0) → ℕ → S → S → Type 0
@@ -81,18 +82,32 @@ module _ {N : Type 0} (link : SeatedTask → ℕ → N → N → Type 0) where
     pub gave : Does (DropWrite 0 (processor_of processors writer (round + 1))) grown last.0
     pub counts : last.2 ≡ with_round took.0 grew.0 waits first.2
 
-  -- A round of the backup: a freeze, a snapshot, one call of the watch, a thaw, and the callbacks of the three levels. The snapshot's
-  -- blocks, the callbacks that ran and the waits of all these calls are counted.
-  pub record BackupRound (round : ℕ) (first last : SeatedTask × N × Copies) : Type 0 where
+  -- A copy: a freeze that was granted with this patience, a snapshot of so many blocks, one call of the watch, and a thaw. The waits of all these
+  -- calls are counted.
+  pub record CopiesOnce (patience : Option ℕ) (round blocks : ℕ) (first last : SeatedTask × N × ℕ) : Type 0 where
     pub frozen : SeatedTask
     pub copied : SeatedTask
-    pub thawed : SeatedTask
-    pub freezes : Does (Freeze User) first.0 frozen
+    pub freezes : Froze patience first.0 frozen
     pub copies : Does (Snapshot true) frozen copied
+    pub size : blocks ≡ blocks_of copied
     pub met : link copied round first.1 last.1
-    pub thaws : Does (Thaw User) copied thawed
+    pub thaws : Does (Thaw User) copied last.0
+    pub counts : last.2 ≡ with_waits (with_waits (with_waits first.2 frozen) copied) last.0
+
+  -- How a round of the backup begins: with a copy, or with a freeze that gave up, at which the watch isn't called.
+  abbrev pub Tries : Option ℕ → ℕ → Tried → SeatedTask × N × ℕ → SeatedTask × N × ℕ → Type 0
+  Tries patience round (Copied (Some blocks)) first last = CopiesOnce patience round blocks first last
+  Tries patience round (Copied None) first last = ⊥
+  Tries patience round GivenUp first last = Waits (GaveUp patience) (first.0, first.2) (last.0, last.2) × (last.1 ≡ first.1)
+
+  -- A round of the backup: it begins so, and then come the callbacks of the three levels, also after a freeze that gave up. The snapshot's blocks or that it
+  -- gave up, the callbacks that ran, and the waits of all these calls are counted.
+  pub record BackupRound (patience : Option ℕ) (round : ℕ) (first last : SeatedTask × N × Copies) : Type 0 where
+    pub tried : Tried
+    pub mid : SeatedTask
+    pub before : ℕ
+    pub tries : Tries patience round tried (first.0, first.1, first.2.waits) (mid, last.1, before)
     pub ran : ℕ
     pub waits : ℕ
-    pub calls_back : Repeats (λ k. CallsBack (k + 1)) 3
-        (thawed, 0, with_waits (with_waits (with_waits first.2.waits frozen) copied) thawed) (last.0, ran, waits)
-    pub counts : last.2 ≡ with_copy ran waits (blocks_of copied) first.2
+    pub calls_back : Repeats (λ k. CallsBack (k + 1)) 3 (mid, 0, before) (last.0, ran, waits)
+    pub counts : last.2 ≡ with_try tried ran waits first.2

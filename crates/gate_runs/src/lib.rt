@@ -3,11 +3,12 @@
 #![tactic(auto)]
 
 mod observers;
+mod patience;
 mod runs;
 mod threads;
 mod told;
 mod workers;
 
-pub use run_plans::{Copies, Details, Meeting, Plan, RunObserver, Sizes, Totals, Writes};
+pub use run_plans::{Copies, Details, Meeting, Plan, RunObserver, Sizes, Totals, Tried, Writes};
 pub use runs::{run_plan, run_with};
 pub use told::run_told;

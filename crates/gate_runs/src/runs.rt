@@ -1,11 +1,12 @@
 //! A run: writers, a remounter and a backup, each in a thread of its own.
 
-ghost use Rattle.std.specs.Prelude.{◌≡◌, ◌≢◌, IfErr, IfOk, OnOk};
+ghost use Rattle.std.specs.Prelude.{◌≡◌, ◌≢◌, IfErr, IfOk, None, OnOk};
 ghost use Rattle.access_model.specs.declared.errors.GateError.TheVariants.{Invalid, Order, TooMany};
 ghost use Rattle.vfs_gates.specs.Ended.{EndedWith, HasAll};
 ghost use Rattle.vfs_gates.specs.TaskStates.{IsFrom};
 ghost use Rattle.run_plans.specs.declared.counts.Details.{Details as DetailsType};
 ghost use Rattle.run_plans.specs.Meetings.{unseen};
+ghost use Rattle.gate_runs.specs.Counts.{gave_up_told};
 ghost use Rattle.gate_runs.specs.Told.{TellsRun};
 ghost use Rattle.run_plans.specs.Plans.{MayRun};
 ghost use Rattle.gate_runs.specs.Refusals.{RunRefused};
@@ -47,9 +48,20 @@ fn close(gates: Gates, task: Task) -> Closed
     closed
 }
 
+/// How often freezes gave up, as it is told: None if the plan has no patience.
+fn gave_up_told(plan: Plan, gave_up: u32) -> Option<u64>
+    ensures { result ≡ gave_up_told plan.patience gave_up }
+{
+    match plan.patience() {
+        Some(_) => Some(u64::from(gave_up)),
+        None => None,
+    }
+}
+
 /// Runs a plan: makes the gates and their files, does the plan in threads, and closes the gates. Its backup calls the watch too
 /// (`RunObserver::seen` has what these calls show). Tells beside the totals what the tasks met on their way: each refusal that was
-/// tried again, and each callback that ran, is counted.
+/// tried again, and each callback that ran, is counted. If the plan has a patience (`Plan::with_patience`), a freeze that has looked so often again gives
+/// up, and its round goes on with the callbacks: it is counted (`Totals::gave_up`), and is no refusal of the run.
 ///
 /// # Errors
 ///
@@ -60,7 +72,8 @@ pub fn run_plan<R: Threads + Wait + Sync, W: RunObserver + Sync>(
     plan: Plan,
     watch: &W,
 ) -> Result<(Totals, Details, Closed), GateError>
-    ensures tells { IfOk result (λ r. TellsRun (W.held watch.now) (W.seen watch.now) plan.tasks plan.processors plan.rounds plan.freezes r.0 r.1 r.2) }
+    ensures tells { IfOk result (λ r. TellsRun (W.held watch.now) (W.seen watch.now) plan.tasks plan.processors plan.rounds plan.freezes plan.patience
+        r.0 r.1 r.2) }
     ensures refused { IfErr result (RunRefused plan.tasks plan.processors plan.rounds) }
     ensures in_order { IfErr result (λ refusal. (refusal ≢ Order) × (refusal ≢ TooMany) × (refusal ≢ Invalid)) }
 {
@@ -71,6 +84,7 @@ pub fn run_plan<R: Threads + Wait + Sync, W: RunObserver + Sync>(
     let totals = Totals {
         grown: closed.word(WordName::Used).unwrap_or(0),
         frozen: u64::from(details.copies.frozen),
+        gave_up: gave_up_told(plan, details.copies.gave_up),
         snapshots: u64::from(details.copies.snapshots),
         remounts: u64::from(plan.rounds()),
         held: held_in(&closed),
@@ -95,7 +109,8 @@ pub fn run_plan<R: Threads + Wait + Sync, W: RunObserver + Sync>(
 ///
 /// No other call ends a run. The backup's first write access isn't ReadOnly, because no task has done anything yet; a writer asks again. No file is
 /// refused as NoEntry or NotDir when it is created, because the root is always a directory. Nothing is Busy or Invalid within the limits, because only
-/// the backup freezes and thaws, so what it has frozen stands. No hook fails, because a run's hooks answer Ok. No call is refused as Order or as
+/// the backup freezes and thaws, so what it has frozen stands. No hook fails, because a run's hooks answer Ok, unless a plan with a patience has its freezes give
+/// up, which is counted. No call is refused as Order or as
 /// TooMany, because each task makes it only when it may.
 ///
 /// All threads that were started have ended when it returns. Unless memory, a thread or a file was refused before the backup's first freeze, all
@@ -114,7 +129,7 @@ pub fn run_with<R: Threads + Wait + Sync, M: Meeting + Sync>(
     ensures refused { MayRun tasks processors rounds freezes → IfErr result (RunRefused tasks processors rounds) }
     ensures in_order { IfErr result (λ refusal. (refusal ≢ Order) × (refusal ≢ TooMany)) }
     ensures frozen { MayRun tasks processors rounds freezes → IfErr result (λ refusal. refusal ≢ Invalid) }
-    ensures tells { IfOk result (λ r. (details : DetailsType) × TellsRun (M.held meeting.now) unseen tasks processors rounds freezes r.0 details r.1) }
+    ensures tells { IfOk result (λ r. (details : DetailsType) × TellsRun (M.held meeting.now) unseen tasks processors rounds freezes None r.0 details r.1) }
 {
     let plan = Plan::new(tasks, processors, rounds, freezes)?;
     let (totals, _details, closed) = run_plan(rt, alloc, plan, meeting)?;

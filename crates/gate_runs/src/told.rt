@@ -30,7 +30,7 @@ pub fn run_told<R: Threads + Wait + Clock + Sync, P: RunObserver + Sync, W: Writ
 ) -> ProgramEnding
     requires { count ≤ ROWS }
     ensures ends { (result ≡ Ran) ⊎ (result ≡ Refused) }
-    ensures ran { result ≡ Ran → WasRun (P.held watch.now) (P.seen watch.now) plan.tasks plan.processors plan.rounds plan.freezes }
+    ensures ran { result ≡ Ran → WasRun (P.held watch.now) (P.seen watch.now) plan.tasks plan.processors plan.rounds plan.freezes plan.patience }
 {
     let start = Instant::now(rt).ok();
     let (totals, details) = match run_plan(rt, alloc, plan, watch) {

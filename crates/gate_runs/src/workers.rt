@@ -4,10 +4,11 @@ ghost use Rattle.std.specs.Prelude.{◌≡◌, ◌+◌, ◌-◌, ◌<◌, ◌≤
 ghost use Rattle.access_model.specs.declared.actions.Holder.TheVariants.{User};
 ghost use Rattle.access_model.specs.declared.errors.GateError.TheVariants.{Again, Invalid, ReadOnly};
 ghost use Rattle.gated_tree.specs.Trees.{LoadedClean, LoadedSound};
-ghost use Rattle.gate_runs.specs.Counts.{blocks_of, counted, no_copies, no_remounts, no_writes, with_waits};
+ghost use Rattle.gate_runs.specs.Counts.{CountsRounds, blocks_of, counted, no_copies, no_remounts, no_writes, with_waits};
 ghost use Rattle.gate_runs.specs.Keeping.{FreezesNothing, KeepsNumbers};
+ghost use Rattle.gate_runs.specs.Patience.{TriedToFreeze};
 ghost use Rattle.gate_runs.specs.Refusals.{CreateRefused, FoundOthers, GrowthRefused, HasWriteAccess, WriterRefused};
-ghost use Rattle.gate_runs.specs.Rounds.{BackupRound, CallsBack, Closes, CreatesFiles, Does, RemountRound, Repeats, Retries, Takes, WriterRound};
+ghost use Rattle.gate_runs.specs.Rounds.{BackupRound, CallsBack, Closes, CreatesFiles, Does, RemountRound, Repeats, Retries, Takes, Tries, WriterRound};
 ghost use Rattle.gate_world.specs.declared.operations.Op.TheVariants.{Grow, Snapshot as SnapshotOp};
 ghost use Rattle.gate_world.specs.declared.views.Snapshot.{Snapshot};
 ghost use Rattle.run_plans.specs.Plans.{run_config};
@@ -18,8 +19,9 @@ ghost use Rattle.vfs_gates.specs.Splitting.{Gives, HasBegun};
 ghost use Rattle.vfs_gates.specs.TaskStates.{IsFrom, own_view};
 
 use crate::observers::NotedObserver;
+use crate::patience::Patience;
 use access_model::{GateError, Holder, Kind};
-use run_plans::{Copies, MOUNT, Plan, Remounts, Writes};
+use run_plans::{Copies, MOUNT, Plan, Remounts, Tried, Writes};
 use std::sync::Wait;
 use vfs_gates::{Backoff, Gates, Task};
 
@@ -253,13 +255,79 @@ fn call_back<R: Wait>(
     Ok((ran, waits))
 }
 
-/// Does the backup's rounds: in each it freezes, takes a snapshot, calls the watch, thaws, and calls back what the levels have queued. Counts the
-/// freezes, the snapshots that were sound and clean, their blocks, the callbacks that ran, and the waits of all these calls.
+/// Freezes with so much patience, and tells whether it did; else it gave up.
 ///
 /// # Errors
 ///
-/// Busy if another task has frozen, and Invalid if another thawed what it has frozen (`FoundOthers`).
-/// If a snapshot is refused, the watch was called and the thaw was done before this returns.
+/// Busy if another task has frozen (`FoundOthers`).
+fn try_to_freeze<R: Wait>(
+    rt: &R,
+    gates: &Gates,
+    task: &mut Task,
+    patience: Option<u32>,
+) -> Result<bool, GateError>
+    requires from { IsFrom task.old gates.now }
+    requires rests { Rests task.old }
+    requires may { MayFreeze User (own_actions task.old) }
+    ensures from { IsFrom task.new gates.now }
+    ensures rests { Rests task.new }
+    ensures stays { KeepsNumbers task.old task.new }
+    ensures tried { IfOk result (λ froze. TriedToFreeze patience froze task.old task.new) }
+    ensures refused { IfErr result (λ refusal. FoundOthers task.new) }
+{
+    let mut hooks = Patience { left: patience };
+    match task.freeze(rt, gates, Holder::User, &mut hooks) {
+        Ok(()) => Ok(true),
+        Err(GateError::Hook(_)) => Ok(false),
+        Err(refusal) => Err(refusal),
+    }
+}
+
+/// Freezes, takes a snapshot, calls the watch and thaws, unless the freeze gives up. Tells which of both it was, and the waits so far with those of
+/// these calls.
+///
+/// # Errors
+///
+/// Busy if another task has frozen, and Invalid if another thawed what it has frozen (`FoundOthers`). If a snapshot is refused, the watch was
+/// called and the thaw was done before this returns.
+fn copy_once<R: Wait, W: NotedObserver>(
+    rt: &R,
+    gates: &Gates,
+    plan: Plan,
+    watch: &W,
+    task: &mut Task,
+    round: u32,
+    notes: &mut W::Notes,
+    so_far: u64,
+) -> Result<(Tried, u64), GateError>
+    requires from { IsFrom task.old gates.now }
+    requires rests { Rests task.old }
+    requires may { MayFreeze User (own_actions task.old) }
+    ensures from { IsFrom task.new gates.now }
+    ensures rests { Rests task.new }
+    ensures stays { KeepsNumbers task.old task.new }
+    ensures may { OnOk result (MayFreeze User (own_actions task.new)) }
+    ensures tries { IfOk result (λ met. Tries (W.sees watch.now) plan.patience round met.0 (task.old, notes.old, so_far) (task.new, notes.new, met.1)) }
+    ensures refused { IfErr result (λ refusal. FoundOthers task.new) }
+{
+    if !try_to_freeze(rt, gates, task, plan.patience())? {
+        return Ok((Tried::GaveUp, with_waits(so_far, task)));
+    }
+    let waits = with_waits(so_far, task);
+    let taken = take_snapshot(rt, gates, task);
+    let waits = with_waits(waits, task);
+    watch.frozen(task, round, notes);
+    task.thaw(rt, gates, Holder::User, &mut ())?;
+    Ok((Tried::Copied(taken?), with_waits(waits, task)))
+}
+
+/// Does the backup's rounds: in each it freezes, takes a snapshot, calls the watch and thaws, or its freeze gives up, and then it calls back what the
+/// levels have queued. Counts the freezes, those that gave up, the snapshots that were sound and clean, their blocks, the callbacks that ran, and
+/// the waits of all these calls.
+///
+/// # Errors
+///
+/// As `copy_once`.
 pub fn back_up<R: Wait, W: NotedObserver>(
     rt: &R,
     gates: &Gates,
@@ -274,23 +342,16 @@ pub fn back_up<R: Wait, W: NotedObserver>(
     ensures from { IsFrom task.new gates.now }
     ensures rests { Rests task.new }
     ensures stays { KeepsNumbers task.old task.new }
-    ensures all { IfOk result (λ copies. (copies.frozen ≡ plan.freezes) × (copies.snapshots ≡ plan.freezes)) }
-    ensures rounds { IfOk result (λ copies. Repeats (BackupRound (W.sees watch.now)) plan.freezes
+    ensures counts { IfOk result (CountsRounds plan.patience plan.freezes) }
+    ensures rounds { IfOk result (λ copies. Repeats (BackupRound (W.sees watch.now) plan.patience) plan.freezes
         (task.old, notes.old, no_copies) (task.new, notes.new, copies)) }
     ensures refused { IfErr result (λ refusal. FoundOthers task.new) }
 {
     let mut copies = Copies::none();
-    for freeze in 0..plan.freezes() {
-        task.freeze(rt, gates, Holder::User, &mut ())?;
-        let waits = with_waits(copies.waits, task);
-        let taken = take_snapshot(rt, gates, task);
-        let waits = with_waits(waits, task);
-        watch.frozen(task, freeze, notes);
-        task.thaw(rt, gates, Holder::User, &mut ())?;
-        let waits = with_waits(waits, task);
-        let blocks = taken?;
+    for round in 0..plan.freezes() {
+        let (tried, waits) = copy_once(rt, gates, plan, watch, task, round, notes, copies.waits)?;
         let (ran, waits) = call_back(rt, gates, task, waits)?;
-        copies = copies.with_copy(ran, waits, blocks);
+        copies = copies.with_try(tried, ran, waits);
     }
     Ok(copies)
 }

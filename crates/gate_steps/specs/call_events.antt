@@ -19,4 +19,4 @@ pub mod Asking
 pub mod Asked
 pub mod Caused
 pub mod Spans
-pub mod KnownSteps
+pub mod Led

@@ -1,10 +1,12 @@
 //! Tests of tasks, which are texts that `cases` plays, and of runs.
 
+mod alone;
 mod calls;
 mod cases;
 mod decisions;
 mod failures;
 mod fixtures;
+mod in_time;
 mod lines;
 mod lost;
 mod meetings;

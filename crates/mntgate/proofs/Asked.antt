@@ -4,13 +4,14 @@ use Rattle.std.specs.Borrow.{Bor}
 use mathlib.Core.Bool.{true≢false}
 use Rattle.command_line.specs.{CommandLine.{IsPlainOfInput}, declared.words.{ProgramRequest.{ProgramRequest}, ReplayForm.{ReplayForm}}}
 use Rattle.command_line.specs.declared.words.{ReplayForm.TheVariants.{Plain, Events, Columns, Json, Html}, OutcomeForm.TheVariants.{Text}}
-use Rattle.command_line.specs.declared.words.{Numbers.{Numbers}, Outcomes.{Outcomes}, Replay.{Replay}}
+use Rattle.command_line.specs.declared.words.{Numbers.{Numbers}, Outcomes.{Outcomes}, Replay.{Replay}, Validation.{Validation}}
 use Rattle.command_line.specs.declared.words.ProgramRequest.TheVariants as ask
 use Rattle.exit_status.specs.{Endings.{of_file}, declared.ends.ProgramEnding.{ProgramEnding}}
-use Rattle.exit_status.specs.declared.ends.ProgramEnding.TheVariants.{Done, DoneOfFile, DoneOverGates, Shown, Passed, Blessed, Listed, Ran, Told, Refused, Misused}
+use Rattle.exit_status.specs.declared.ends.ProgramEnding.TheVariants.{Done, DoneOfFile, DoneOverGates, Shown, Passed, Blessed, Listed, Possible, Ran, Told, Refused, Misused}
 use Rattle.program_checks.specs.Checks.{TellsPassed, count_checked}
 use Rattle.program_replay.specs.Replays.{EndsReplayed, done_in, done_of, ending_of}
-use Rattle.mntgate.specs.Outcomes.{EndsTold}
+use Rattle.mntgate.specs.{Outcomes.{EndsTold}, Validated.{EndsValidated}}
+use Rattle.mntgate.specs.Validated.EndsValidated.{HasNoVerdict, IsCutOff, IsImpossible, IsPossible, IsUnread}
 use Rattle.mntgate.specs.Asking.{EndsAsked, EndsOutcomes, EndsReplay, EndsRun, TellsSomePassed}
 use Rattle.schedule_lines.specs.declared.bytes.replay_faults.ReplayFault.{ReplayFault}
 use Rattle.line_players.specs.Replayed.{Replayed}
@@ -24,6 +25,7 @@ never_of_file Shown e = cc
 never_of_file Passed e = cc
 never_of_file Blessed e = cc
 never_of_file Listed e = cc
+never_of_file Possible e = cc
 never_of_file Ran e = cc
 never_of_file Told e = cc
 never_of_file Refused e = cc
@@ -76,6 +78,26 @@ outcomes_end : (ending : ProgramEnding) → (ending ≡ Listed) ⊎ (ending ≡ 
 outcomes_end ending (inl e) = ap is_of_outcomes e
 outcomes_end ending (inr e) = ap is_of_outcomes e
 
+-- what it ends with that was asked about a history
+abbrev is_of_histories : ProgramEnding → Bool
+is_of_histories Possible = true
+is_of_histories Refused = true
+is_of_histories ending = false
+
+histories_end : (asked : Validation) (input held holds : Option (List ℕ)) (ending : ProgramEnding) → EndsValidated asked input held holds ending →
+    is_of_histories ending ≡ true
+histories_end asked input held holds ending (IsPossible bytes text read possible written e) = ap is_of_histories e
+histories_end asked input held holds ending (IsImpossible bytes number text read impossible written e) = ap is_of_histories e
+histories_end asked input held holds ending (HasNoVerdict bytes why read unjudged kept e) = ap is_of_histories e
+histories_end asked input held holds ending (IsCutOff text part e) = ap is_of_histories e
+histories_end asked input held holds ending (IsUnread kept e) = ap is_of_histories e
+
+-- how it ends where one was asked about
+pub history_ended : (asked : ProgramRequest) (history : Validation) (input left held holds : Option (List ℕ)) (ending : ProgramEnding) →
+    asked ≡ ask.Validate history → EndsValidated history input held holds ending → EndsAsked asked input left held holds ending
+history_ended asked history input left held holds ending is ended =
+    subst (λ (a : ProgramRequest). EndsAsked a input left held holds ending) (sym is) ended
+
 -- how it ends where outcomes were asked for, unless memory was refused
 pub outcomes_ended : {E : Type 0} (asked : ProgramRequest) (race : Outcomes) (input left held holds : Option (List ℕ)) (r : Result ProgramEnding E) →
     asked ≡ ask.Outcomes race → IfOk r (λ ending. (ending ≡ Listed) ⊎ (ending ≡ Refused)) →
@@ -121,6 +143,7 @@ module _ (input left held holds : Option (List ℕ)) where
   done_plainly (ask.Explain refusals) ending (inr (inr e)) done = cc
   done_plainly (ask.Outcomes race) ending ends done =
       absurd (otherwise is_of_outcomes ending Done (outcomes_end ending ends.ends) refl done)
+  done_plainly (ask.Validate history) ending ends done = absurd (otherwise is_of_histories ending Done (histories_end history input held holds ending ends) refl done)
   done_plainly (ask.Run numbers tells) ending ends done = elim ends.ends [ inl e ↦ cc | inr e ↦ cc ]
   done_plainly (ask.Told text) ending (inl e) done = cc
   done_plainly (ask.Told text) ending (inr e) done = cc
@@ -140,6 +163,7 @@ module _ (input left held holds : Option (List ℕ)) where
   passes (ask.Explain refusals) ending (inr (inr e)) passed = cc
   passes (ask.Outcomes race) ending ends passed =
       absurd (otherwise is_of_outcomes ending Passed (outcomes_end ending ends.ends) refl passed)
+  passes (ask.Validate history) ending ends passed = absurd (otherwise is_of_histories ending Passed (histories_end history input held holds ending ends) refl passed)
   passes (ask.Run numbers tells) ending ends passed = elim ends.ends [ inl e ↦ cc | inr e ↦ cc ]
   passes (ask.Told text) ending (inl e) passed = cc
   passes (ask.Told text) ending (inr e) passed = cc
@@ -160,6 +184,7 @@ module _ (input left held holds : Option (List ℕ)) where
   ran (ask.Explain refusals) ending by (inr (inr e)) is = cc
   ran (ask.Outcomes race) ending by ends is =
       absurd (otherwise is_of_outcomes ending Ran (outcomes_end ending ends.ends) refl is)
+  ran (ask.Validate history) ending by ends is = absurd (otherwise is_of_histories ending Ran (histories_end history input held holds ending ends) refl is)
   ran (ask.Run numbers tells) ending by ends is = by numbers ends
   ran (ask.Told text) ending by (inl e) is = cc
   ran (ask.Told text) ending by (inr e) is = cc

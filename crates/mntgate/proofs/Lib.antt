@@ -1,2 +1,3 @@
 pub mod Asked
 mod Listed
+mod Validated

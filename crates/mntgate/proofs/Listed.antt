@@ -1,5 +1,5 @@
 -- How the program ends that was asked for the outcomes of a race.
-use Rattle.std.proofs.Common.{◌≡◌, ◌↔◌, ◌<◌, ◌≤◌, ◌∙◌, ◌⊎◌, inl, inr, arith, refl, subst, false, true, Bool, IsTrue, ℕ, List, [], Option, Some, None, Result, Ok, Err, IfOk, IfErr}
+use Rattle.std.proofs.Common.{◌≡◌, ◌↔◌, ◌<◌, ◌≤◌, ◌∙◌, ◌⊎◌, inl, inr, arith, ap, refl, subst, sym, false, true, Bool, IsTrue, ℕ, List, [], ◌++◌, Option, Some, None, Result, Ok, Err, IfOk, IfErr}
 use Rattle.std.proofs.lemmas.Bool.{cases_lt}
 use Rattle.std.specs.{Io.KnownBytes.{Appends, Keeps}, Result.{OnErr, OnOk}}
 use Rattle.command_line.specs.declared.words.Outcomes.{Outcomes}
@@ -8,10 +8,10 @@ use Rattle.gate_core.specs.Memory.{Memory}
 use Rattle.mntgate.specs.declared.unlisted.Unlisted.{Unlisted, TheVariants.{Unwritten}}
 use Rattle.mntgate.specs.Outcomes.{IsListed, IsUnlisted, IsUnlisted.{IsCutOff}, TellsAs, TellsRace, details_of, list_ending, method_of, outcomes_told}
 use Rattle.outcome_texts.specs.Outcomes.{HaveOwnTexts, IsIdle}
-use Rattle.program_checks.specs.declared.claims.Judged.{Judged}
+use Rattle.program_checks.specs.{Claims.{PrintsClaims, TellsClaims}, declared.claims.Judged.{Judged}}
 use Rattle.race_files.specs.{Left.{Left}, Races.{IsRaceIn}}
 use Rattle.race_programs.specs.declared.calls.Call.{Call}
-use Rattle.schedule_lines.specs.{bytes.Writing.{AppendsPart}, declared.faults.Fault.TheVariants.{WriteFailed}}
+use Rattle.schedule_lines.specs.{bytes.Writing.{AppendsPart}, declared.{faults.Fault.TheVariants.{WriteFailed}, output.Output.{Output}}}
 use Rattle.shown_outcomes.specs.Told.{TellsAll, TellsSome}
 
 -- all outcomes are told, or those so far
@@ -40,6 +40,24 @@ pub own_lines : (whole : Bool) (all : Left) (core : Memory) (calls : List (List 
     (tells : TellsAs whole core calls asked before after) → IsRaceIn all core calls → HaveOwnTexts core.config.tasks calls (outcomes_told whole core calls asked before after tells)
 own_lines true all core calls asked before after tells race = tells.are.so_far.apart (core_idle all core calls race)
 own_lines false all core calls asked before after tells race = tells.are.apart (core_idle all core calls race)
+
+-- the verdicts are all that was printed of the claims
+pub verdicts_told : (core : Memory) (calls : List (List (Option Call))) (mark margin : List ℕ) (limit : ℕ) (lines : List (List ℕ)) (judged : Judged)
+    (before after : Output) → before.bytes.items ≡ [] → after.is_whole ≡ true → PrintsClaims core calls mark margin limit lines judged before after →
+    TellsClaims core calls mark margin limit lines judged after.bytes.items
+verdicts_told core calls mark margin limit lines judged before after none whole prints =
+    subst (λ (text : List ℕ). TellsClaims core calls mark margin limit lines judged text)
+    (sym (prints.2.printed whole ∙ ap (λ (held : List ℕ). held ++ prints.0) none)) prints.1
+
+-- the form and the limit are those that are asked for
+pub claims_as : {E : Type 0} (core : Memory) (calls : List (List (Option Call))) (mark mark' margin margin' : List ℕ) (limit limit' : ℕ) (lines : List (List ℕ))
+    (before after : Output) (r : Result Judged E) → mark ≡ mark' → margin ≡ margin' → limit ≡ limit' →
+    IfOk r (λ judged. PrintsClaims core calls mark margin limit lines judged before after) →
+    IfOk r (λ judged. PrintsClaims core calls mark' margin' limit' lines judged before after)
+claims_as core calls mark mark' margin margin' limit limit' lines before after r same_mark same_margin same_limit told =
+    subst (λ (m : List ℕ). IfOk r (λ judged. PrintsClaims core calls m margin' limit' lines judged before after)) same_mark
+    (subst (λ (m : List ℕ). IfOk r (λ judged. PrintsClaims core calls mark m limit' lines judged before after)) same_margin
+    (subst (λ (n : ℕ). IfOk r (λ judged. PrintsClaims core calls mark margin n lines judged before after)) same_limit told))
 
 -- a writer that nobody wrote to
 pub kept : (held : Option (List ℕ)) → Keeps held held

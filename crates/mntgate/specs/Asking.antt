@@ -2,7 +2,7 @@
 use Rattle.std.specs.{Prelude.{◌≡◌, ◌⊎◌, ℕ, suc, false, true, List, Option, Some, None, codes, vec_len}, Borrow.{Bor}}
 use Rattle.program_replay.specs.Replays.{EndsReplayed, EndsReplayedFile, EndsReplayedNamed, EndsReplayedOverGates, IsRefusedUnread, done_in, done_of}
 use Rattle.program_checks.specs.Checks.{TellsPassed, count_checked}
-use Rattle.mntgate.specs.Outcomes.{EndsTold}
+use Rattle.mntgate.specs.{Outcomes.{EndsTold}, Validated.{EndsValidated}}
 use Rattle.command_line.specs.{CommandLine.{IsPlain}, declared.words.{OutcomeForm.TheVariants.{Text}, Numbers.{Numbers}}}
 use Rattle.command_line.specs.declared.words.ReplayForm.TheVariants.{Plain}
 use Rattle.command_line.specs.declared.words.{Outcomes.{Outcomes}, Replay.{Replay}, ProgramRequest.{ProgramRequest}}
@@ -37,7 +37,7 @@ unheld task round = Unit {0}
 -- A run of these numbers, which are within their limits, was done whole: each task has done its part, and nothing else.
 pub record WasWhole (numbers : Numbers) : Type 0 where
   pub within : MayRun numbers.tasks numbers.processors numbers.rounds numbers.freezes
-  pub was : WasRun unheld unseen numbers.tasks numbers.processors numbers.rounds numbers.freezes
+  pub was : WasRun unheld unseen numbers.tasks numbers.processors numbers.rounds numbers.freezes numbers.patience
 
 -- How a run of these numbers ends: with `Ran` only where it was done whole.
 pub record EndsRun (numbers : Numbers) (ending : ProgramEnding) : Type 0 where
@@ -51,6 +51,7 @@ EndsAsked (ask.Check files) input left held holds ending = EndsChecks (vec_len f
 EndsAsked (ask.Bless files) input left held holds ending = (ending ≡ Blessed) ⊎ (ending ≡ Refused)
 EndsAsked (ask.Explain refusals) input left held holds ending = (ending ≡ Told) ⊎ (ending ≡ Refused) ⊎ (ending ≡ Misused)
 EndsAsked (ask.Outcomes race) input left held holds ending = EndsOutcomes race input held holds ending
+EndsAsked (ask.Validate asked) input left held holds ending = EndsValidated asked input held holds ending
 EndsAsked (ask.Run numbers tells) input left held holds ending = EndsRun numbers ending
 EndsAsked (ask.Told text) input left held holds ending = (ending ≡ Told) ⊎ (ending ≡ Refused)
 EndsAsked ask.Misused input left held holds ending = ending ≡ Misused

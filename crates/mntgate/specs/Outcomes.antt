@@ -9,11 +9,11 @@ use Rattle.gate_core.specs.Memory.{Memory}
 use Rattle.mntgate.specs.declared.unlisted.Unlisted.{Unlisted, TheVariants.{BadClaim, Faulty, Stopped, Unsaved, Unwritten}}
 use Rattle.outcome_texts.specs.declared.listing.Method.{Method, TheVariants.{Full, Reduced}}
 use Rattle.outcome_texts.specs.Outcomes.{HaveOwnTexts}
-use Rattle.program_checks.specs.declared.claims.Judged.{Judged, TheVariants.{Hold}}
+use Rattle.program_checks.specs.{Claims.{HasBadClaim, TellsClaims, race_lines}, declared.claims.Judged.{Judged, TheVariants.{Hold}}}
 use Rattle.race_programs.specs.declared.{calls.Call.{Call}, courses.CallAnswers.{CallAnswers}}
 use Rattle.schedule_lines.specs.{bytes.Writing.{AppendsPart}, declared.faults.Fault.TheVariants.{WriteFailed}}
 use Rattle.shown_outcomes.specs.declared.details.{Details.{Details}, Schedules.{Schedules, TheVariants.{Untold, Lines, Columns}}}
-use Rattle.shown_outcomes.specs.Told.{TellsAll, TellsSome}
+use Rattle.shown_outcomes.specs.Told.{TellsAll, TellsSome, margin_of, mark_of}
 use Rattle.race_files.specs.{Calls.{is_claim}, FirstFaults.{IsFaultTold}, Left.lines_in, Races.IsRaceIn}
 use Rattle.shown_events.specs.Styles.{style_of}
 
@@ -59,6 +59,8 @@ pub record TellsRace (asked : Outcomes) (whole : Bool) (judged : Judged) (bytes 
   -- No outcome's line stands twice, and no two outcomes have the same line.
   pub apart : HaveOwnTexts core.config.tasks calls (outcomes_told whole core calls asked before outcomes tells)
   pub verdicts : List ℕ
+  pub judging : TellsClaims core calls (mark_of (schedules_as asked.schedules)) (margin_of (schedules_as asked.schedules)) asked.limit
+      (race_lines bytes) judged verdicts
   pub claims : All (λ line. is_claim line ≡ false) (lines_in 1048576 bytes).lines → (verdicts ≡ []) × (judged ≡ Hold)
   pub written : after ≡ outcomes ++ verdicts
 
@@ -76,11 +78,18 @@ pub record IsListed (asked : Outcomes) (bytes : List ℕ) (held holds : Option (
   pub written : Appends held holds text
   pub ends : ending ≡ list_ending whole judged
 
+-- A line of the race in these bytes claims something by what is no condition.
+pub record HasBadCondition (bytes : List ℕ) : Type 0 where
+  pub core : Memory
+  pub calls : List (List (Option Call))
+  pub race : IsRaceIn (lines_in 1048576 bytes) core calls
+  pub bad : HasBadClaim core calls (race_lines bytes)
+
 -- Why the outcomes of the race in these bytes aren't told: the text has this first fault, at this line; a line claims something by what is no
 -- condition; memory was refused; or a schedule wasn't saved that was to be. That a write failed is no such reason.
 abbrev pub IsWhyUnlisted : Outcomes → List ℕ → Unlisted → Type 0
 IsWhyUnlisted asked bytes (Faulty fault) = IsFaultTold (lines_in 1048576 bytes) fault
-IsWhyUnlisted asked bytes (BadClaim text) = Unit {0}
+IsWhyUnlisted asked bytes (BadClaim text) = HasBadCondition bytes
 IsWhyUnlisted asked bytes (Stopped stop) = stop ≡ NoMemory
 IsWhyUnlisted asked bytes Unsaved = is_some asked.save ≡ true
 IsWhyUnlisted asked bytes (Unwritten fault) = ⊥

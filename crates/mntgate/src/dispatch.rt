@@ -8,6 +8,7 @@ ghost use Rattle.mntgate.specs.Asking.{EndsAsked, EndsRun, TellsSomePassed, WasS
 ghost use Rattle.line_players.specs.Replayed.{Replayed};
 
 use crate::outcomes::run_outcomes;
+use crate::validation::run_validation;
 use command_line::{Numbers, ProgramRequest, RunReport, read_words};
 use exit_status::{ProgramEnding, refused, text_told};
 use gate_runs::{Plan, run_told};
@@ -15,7 +16,7 @@ use program_checks::{run_blessings, run_checks};
 use program_replay::{Terminal, run_replay};
 use refusals::run_explanation;
 use run_plans::Progress;
-use run_plans::rows::ROWS;
+use run_plans::rows::{ROWS, TOTAL_ROWS};
 use std::alloc::{AllocError, Global};
 use std::io::{Read, Stderr, Write};
 use std::rt::{Clock, Files};
@@ -89,6 +90,10 @@ fn do_asked<
             let watched = person.watches;
             run_outcomes(rt, alloc, *asked, reader, writer, errors, watched)
         }
+        ProgramRequest::Validate(asked) => {
+            let watched = person.watches;
+            Ok(run_validation(rt, alloc, *asked, reader, writer, errors, watched))
+        }
         ProgramRequest::Run(numbers, tells) => {
             let watched = person.watches;
             Ok(run_threads(rt, alloc, *numbers, *tells, writer, errors, watched))
@@ -103,7 +108,7 @@ fn count_of(tells: RunReport) -> usize
     ensures { result ≤ ROWS }
 {
     match tells {
-        RunReport::Totals => 5,
+        RunReport::Totals => TOTAL_ROWS,
         RunReport::Details => ROWS,
     }
 }
@@ -125,9 +130,10 @@ fn run_threads<R: Threads + Wait + Clock + Sync, W: Write, E: Write>(
         processors,
         rounds,
         freezes,
+        patience,
     } = numbers;
     let plan = match Plan::new(tasks, processors, rounds, freezes) {
-        Ok(plan) => plan,
+        Ok(plan) => plan.with_patience(patience),
         Err(refusal) => return refused(refusal, errors),
     };
     let progress = watched.and_then(|stderr| Progress::new(

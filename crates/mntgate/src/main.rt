@@ -5,6 +5,7 @@ pub mod dispatch;
 pub mod outcomes;
 mod progress;
 pub mod unlisted;
+pub mod validation;
 
 use crate::dispatch::run;
 use access_model::GateError;

@@ -6,10 +6,11 @@ ghost use Rattle.exit_status.specs.declared.ends.ProgramEnding.TheVariants.{List
 ghost use Rattle.exploration.specs.Tables.{IsTable};
 ghost use Rattle.exploration.specs.declared.stops.Stop.TheVariants.{TooMany};
 ghost use Rattle.outcome_texts.specs.Methods.{next_by};
+ghost use Rattle.program_checks.specs.Claims.{ClaimConditions, IsPlain, PrintsClaims, race_lines};
 ghost use Rattle.program_checks.specs.declared.claims.Judged.TheVariants.{Hold};
 ghost use Rattle.mntgate.specs.Outcomes.{EndsTold, IsListed, IsUnlisted, IsWhyUnlisted, TellsRace, details_of, list_ending, method_of, schedules_as};
 ghost use Rattle.mntgate.specs.declared.unlisted.Unlisted.TheVariants.{Unsaved, Unwritten};
-ghost use Rattle.shown_outcomes.specs.Told.{TellsAll, TellsSome};
+ghost use Rattle.shown_outcomes.specs.Told.{TellsAll, TellsSome, margin_of, mark_of};
 ghost use Rattle.command_line.specs.declared.words.OutcomeForm.TheVariants.{Text};
 ghost use Rattle.race_files.specs.Calls.{is_claim};
 ghost use Rattle.race_files.specs.Left.{lines_in};
@@ -29,7 +30,7 @@ use program_checks::{Judged, VerdictForm, bad_claim, tell_claims};
 use race_files::{RaceFile, RaceSource, read_race};
 use schedule_lines::bytes::write_out;
 use schedule_text::Output;
-use shown_events::{Form, Style, html};
+use shown_events::{Style, html};
 use shown_outcomes::{
     Details, Exhibit, Schedules, Shape, save_outcomes, show_outcomes, tell, tell_ends,
 };
@@ -193,7 +194,9 @@ fn answer_file<R: Files + Clock + Alloc<A = Global>, E: Write>(
 ///
 /// What is told of the first line that doesn't, or that memory was refused.
 fn expect_claims(source: RaceSource<'_>, core: &Core, asked: Outcomes<'_>) -> Result<(), Unlisted>
-    ensures { IfErr result (IsWhyUnlisted asked.entry source.entry.bytes.now) }
+    requires { IsRaceIn (lines_in 1048576 source.bytes.now) core.now source.calls.now.race.calls.items }
+    ensures claims { OnOk result (ClaimConditions core.now source.entry.calls.now.race.calls.items (race_lines source.entry.bytes.now)) }
+    ensures why { IfErr result (IsWhyUnlisted asked.entry source.entry.bytes.now) }
 {
     match bad_claim(source, core, asked.file) {
         Ok(None) => Ok(()),
@@ -212,6 +215,7 @@ fn list_judged<W: Observer>(
 ) -> Result<Answered, Stop>
     requires tasks { source.calls.now.race.tasks ≡ core.config.tasks }
     requires race { IsRaceIn (lines_in 1048576 source.bytes.now) core source.calls.now.race.calls.items }
+    requires claims { ClaimConditions core source.calls.now.race.calls.items (race_lines source.bytes.now) }
     ensures table { IfOk result (λ answered. IsTable (next_by answered.listing.method source.entry.calls.now.race.calls.items source.entry.calls.now.race.tasks)
         source.entry.calls.now.race.tasks answered.listing.all.found.states answered.listing.all.found.origins.items answered.listing.all.found.edges.items) }
     ensures rows { IfOk result (λ answered. length answered.listing.all.found.edges.items ≡ answered.listing.all.found.expanded * source.entry.calls.now.race.tasks) }
@@ -244,9 +248,14 @@ fn judge_claims<W: Observer>(
     watch: &mut W,
     verdicts: &mut Output,
 ) -> Result<Judged, Stop>
-    requires { source.calls.now.race.tasks ≡ core.now.config.tasks }
+    requires tasks { source.calls.now.race.tasks ≡ core.now.config.tasks }
+    requires claims { ClaimConditions core.now source.calls.now.race.calls.items (race_lines source.bytes.now) }
     ensures nothing { All (λ line. is_claim line ≡ false) (lines_in 1048576 source.entry.bytes.now).lines → verdicts.new ≡ verdicts.old }
     ensures holds { All (λ line. is_claim line ≡ false) (lines_in 1048576 source.entry.bytes.now).lines → IfOk result (λ judged. judged ≡ Hold) }
+    ensures told { asked.entry.form ≡ Text →
+        IfOk result (λ judged. PrintsClaims core.now source.entry.calls.now.race.calls.items
+        (mark_of (schedules_as asked.entry.schedules)) (margin_of (schedules_as asked.entry.schedules)) asked.entry.limit
+        (race_lines source.entry.bytes.now) judged verdicts.old verdicts.new) }
     ensures not_recent { IfErr result (λ stop. stop ≡ TooMany → ¬ IsRecent core.now) }
 {
     tell_claims(
@@ -260,7 +269,11 @@ fn judge_claims<W: Observer>(
 }
 
 /// In which form verdicts are told.
-fn form_of(asked: Outcomes<'_>) -> VerdictForm {
+fn form_of(asked: Outcomes<'_>) -> VerdictForm
+    ensures plain { asked.entry.form ≡ Text → IsPlain result }
+    ensures mark { result.mark.now ≡ mark_of (schedules_as asked.entry.schedules) }
+    ensures margin { result.margin.now ≡ margin_of (schedules_as asked.entry.schedules) }
+{
     let Details {
         schedules,
         style,
@@ -269,10 +282,8 @@ fn form_of(asked: Outcomes<'_>) -> VerdictForm {
     VerdictForm {
         broken_alone: false,
         has_schedules: schedules.are_told(),
-        steps: match asked.form {
-            OutcomeForm::Json => Some(Form::Json),
-            OutcomeForm::Text | OutcomeForm::Html => schedules.form(),
-        },
+        has_records: matches!(asked.form, OutcomeForm::Json),
+        steps: schedules.form(),
         mark: schedules.mark(),
         margin: schedules.margin(),
         style,

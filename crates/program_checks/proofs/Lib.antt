@@ -1,5 +1,6 @@
 mod Marks
 mod Put
 mod SaidSoFar
+mod ToldLines
 mod Verdicts
 mod Written

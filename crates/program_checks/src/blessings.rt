@@ -6,14 +6,13 @@ ghost use Rattle.exit_status.specs.declared.ends.ProgramEnding.TheVariants.{Bles
 use crate::blessed::blessed;
 use crate::playing::{STATES, Source, Stopped};
 use access_model::GateError;
-use diagnostics::tell_faulty;
 use exit_status::{
-    ProgramEnding, expect_file, read_bytes, refused, refused_of, replace_file, unopened, why_told,
-    why_told_of,
+    ProgramEnding, expect_file, fault_told, read_bytes, refused, refused_of, replace_file,
+    unopened, why_told, why_told_of,
 };
 use schedule_lines::bytes::write_out;
 use schedule_text::Output;
-use std::alloc::Global;
+use std::alloc::{AllocError, Global};
 use std::fs;
 use std::io::{Read, Write};
 use std::rt::Files;
@@ -111,12 +110,16 @@ fn tell_stopped<E: Write>(
     errors: &mut E,
 ) -> ProgramEnding {
     match stopped {
-        Stopped::Fault(fault) => tell_faulty(alloc, source.faulty(fault), errors),
+        Stopped::Fault(fault) => match source.fault_text(alloc, fault) {
+            Ok(text) => why_told(text.as_str(), errors),
+            Err(AllocError) => fault_told(fault, source.file, errors),
+        },
         Stopped::TooMany => why_told_of(
             format_args!("more than {STATES} states"),
             source.file,
             errors,
         ),
+        Stopped::NoMemory => refused_of(GateError::NoMemory, source.file, errors),
     }
 }
 

@@ -7,7 +7,7 @@ ghost use Rattle.program_checks.specs.Said.{said_by};
 use crate::claims::{Judged, VerdictForm, bad_claim, claims_some, tell_claims};
 use crate::playing::{STATES, Source, Stopped};
 use crate::said::{Said, read_said, said_in};
-use diagnostics::{Text, diagnosis};
+use diagnostics::Text;
 use exit_status::SourceName;
 use exploration::{Stop, Unobserved};
 use race_files::setting_up::SetUpObserver;
@@ -226,7 +226,7 @@ impl Comparison<'_> {
         self.passed = false;
         match stopped {
             Stopped::Fault(fault) => {
-                let text = diagnosis(alloc, source.faulty(fault))?;
+                let text = source.fault_text(alloc, fault)?;
                 self.told.put(text.as_str());
                 self.told.put("\n");
             }
@@ -234,6 +234,7 @@ impl Comparison<'_> {
                 self.told.put(SourceName(self.file));
                 self.told.put(format_args!(": more than {STATES} states\n"));
             }
+            Stopped::NoMemory => return Err(AllocError),
         }
         Ok(())
     }
@@ -269,6 +270,7 @@ fn judge_claims(
     let form = VerdictForm {
         broken_alone: true,
         has_schedules: false,
+        has_records: false,
         steps: None,
         mark: b"",
         margin: b"  ",

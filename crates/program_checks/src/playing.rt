@@ -1,17 +1,21 @@
 //! The lines of a file, done one by one.
 
+ghost use Rattle.std.specs.Prelude.{OnOk};
+ghost use Rattle.program_histories.specs.Verdicts.{TellsVerdict};
+
 use crate::claims::claims_some;
 use crate::said::{Said, said_in};
 use access_model::GateError;
-use diagnostics::{Context, Faulty};
+use diagnostics::{Context, Faulty, diagnosis};
 use exploration::Stop;
 use gate_core::Core;
 use outcome_texts::print_briefly;
+use program_histories::{Unjudged, Unvalidated, fault_text, print_verdict};
 use race_files::setting_up::{SetUpObserver, do_setting};
 use race_files::{Lines, RaceFault, RaceFile};
 use schedule_lines::bytes::ReplayFault;
 use schedule_text::{Fault, LINES, Output};
-use std::alloc::Global;
+use std::alloc::{AllocError, Global};
 use transcripts::Session;
 
 /// How many states a race may have here.
@@ -19,6 +23,9 @@ pub const STATES: usize = 100_000;
 
 /// What a file's name ends with that is to have a race.
 const RACE: &str = ".race";
+
+/// What a file's name ends with that has a history.
+const HISTORY: &str = ".history";
 
 /// What a file says first of what its race prints, where it says the outcomes alone.
 const OUTCOMES: &[u8] = b"outcomes:";
@@ -28,8 +35,10 @@ const OUTCOMES: &[u8] = b"outcomes:";
 pub enum Stopped {
     /// The fault of a line.
     Fault(ReplayFault),
-    /// Its race has more states than it may have here.
+    /// Its race or its history has more states than it may have here.
     TooMany,
+    /// There was no memory.
+    NoMemory,
 }
 
 /// A file, by its name if it has one, and all its bytes.
@@ -51,12 +60,32 @@ impl<'a> Source<'a> {
         }
     }
 
+    /// Returns the text of a fault, with its line and how to mend it.
+    ///
+    /// # Errors
+    ///
+    /// `AllocError` if there was no memory for it.
+    pub fn fault_text(self, alloc: Global, fault: ReplayFault) -> Result<String, AllocError> {
+        if self.is_named_history() {
+            fault_text(alloc, self.file, self.bytes, fault)
+        } else {
+            diagnosis(alloc, self.faulty(fault))
+        }
+    }
+
     /// Does the lines of a schedule, or of a race, whose outcomes are what its line `race` prints, for one who looks at what each line prints. A file
     /// that is named as a race has to be one. Where the first line that says what the race prints is `#> outcomes:`, the race prints that line
     /// in the place of the one that counts states and outcomes. A race of which something is claimed prints nothing where no line says what.
+    /// Of a file that is named as a history only the verdict is printed, behind its last line.
     pub fn play<W: SetUpObserver>(self, alloc: Global, watch: &mut W) -> Result<(), Stopped> {
         let mut lines = Lines::new(self.bytes);
         let mut printed = Output::new(alloc);
+        if self.is_named_history() {
+            print_history(alloc, self.bytes, &mut printed)?;
+            pass_all(&mut lines);
+            watch.take(&lines, &mut printed);
+            return Ok(());
+        }
         let set_up = do_setting(alloc, &mut lines, &mut printed, watch);
         watch.take(&lines, &mut printed);
         match set_up {
@@ -70,9 +99,39 @@ impl<'a> Source<'a> {
         }
     }
 
+    /// Whether the file is named as a history, all of whose lines `#> TEXT` say its verdict, wherever they stand.
+    pub fn is_named_history(self) -> bool {
+        self.file.is_some_and(|file| file.ends_with(HISTORY))
+    }
+
     /// Whether the file is named as a race.
     fn is_named_race(self) -> bool {
         self.file.is_some_and(|file| file.ends_with(RACE))
+    }
+}
+
+/// Takes all lines.
+fn pass_all(lines: &mut Lines<'_>) {
+    for _ in 0..LINES {
+        if lines.next().is_none() {
+            break;
+        }
+    }
+}
+
+/// Prints the verdict on a history.
+///
+/// # Errors
+///
+/// The fault of its text, or why it has no verdict.
+fn print_history(alloc: Global, bytes: &[u8], printed: &mut Output) -> Result<(), Stopped>
+    ensures { OnOk result (TellsVerdict bytes.now printed.old printed.new) }
+{
+    match print_verdict(alloc, bytes, STATES, printed) {
+        Ok(()) => Ok(()),
+        Err(Unvalidated::Faulty(fault)) => Err(Stopped::Fault(fault)),
+        Err(Unvalidated::Unjudged(Unjudged::TooMany)) => Err(Stopped::TooMany),
+        Err(Unvalidated::Unjudged(Unjudged::NoMemory)) => Err(Stopped::NoMemory),
     }
 }
 

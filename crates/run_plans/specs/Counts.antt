@@ -1,5 +1,6 @@
 -- What the tasks of a run meet on their way, counted.
-use Rattle.std.specs.Prelude.{ℕ, ◌+◌, min, max, Bool, cond, Option, Some, None, List, [], ◌∷◌}
+use Rattle.std.specs.Prelude.{◌≡◌, ℕ, ◌+◌, min, max, Bool, cond, Option, Some, None, List, [], ◌∷◌}
+use Rattle.run_plans.specs.declared.counts.Tried.{Tried, TheVariants.{Copied, GaveUp}}
 use Rattle.run_plans.specs.declared.counts.{Copies.{Copies}, Details.{Details}, Remounts.{Remounts}, Sizes.{Sizes}, Writes.{Writes}}
 pub use Rattle.gate_world.specs.Counted.{counted}
 
@@ -52,16 +53,39 @@ abbrev pub sizes_with : ℕ → Option Sizes → Option Sizes
 sizes_with blocks None = Some (record { least = blocks; most = blocks })
 sizes_with blocks (Some s) = Some (record { least = min s.least blocks; most = max s.most blocks })
 
--- before a backup's first freeze
+-- before a backup's first round
 abbrev pub no_copies : Copies
-no_copies = record { frozen = 0; snapshots = 0; callbacks = 0; waits = 0; sizes = None }
+no_copies = record { frozen = 0; gave_up = 0; snapshots = 0; callbacks = 0; waits = 0; sizes = None }
 
--- a freeze more, with a snapshot of so many blocks, after which so many callbacks ran and so many waits are counted
-abbrev pub with_copy : ℕ → ℕ → ℕ → Copies → Copies
-with_copy ran waits blocks so_far = record {
+-- A round of a backup more, which began so, in which so many callbacks ran, and after which so many waits are counted. It counts a freeze with its
+-- snapshot, if that is sound and clean, or a freeze that gave up.
+abbrev pub with_try : Tried → ℕ → ℕ → Copies → Copies
+with_try (Copied (Some blocks)) ran waits so_far = record {
   frozen = so_far.frozen + 1;
+  gave_up = so_far.gave_up;
   snapshots = so_far.snapshots + 1;
   callbacks = so_far.callbacks + ran;
   waits = waits;
   sizes = sizes_with blocks so_far.sizes;
 }
+with_try (Copied None) ran waits so_far = record so_far {
+  frozen = so_far.frozen + 1;
+  callbacks = so_far.callbacks + ran;
+  waits = waits;
+}
+with_try GaveUp ran waits so_far = record so_far {
+  gave_up = so_far.gave_up + 1;
+  callbacks = so_far.callbacks + ran;
+  waits = waits;
+}
+
+-- What a backup has counted in so many rounds: in each it froze and took a snapshot, or its freeze gave up; none did that has no limit to its patience.
+pub record CountsRounds (patience : Option ℕ) (rounds : ℕ) (copies : Copies) : Type 0 where
+  pub each : copies.frozen + copies.gave_up ≡ rounds
+  pub snapshots : copies.snapshots ≡ copies.frozen
+  pub endless : patience ≡ None → copies.gave_up ≡ 0
+
+-- how often freezes gave up, as a run tells it: not where its patience has no limit
+abbrev pub gave_up_told : Option ℕ → ℕ → Option ℕ
+gave_up_told None gave_up = None
+gave_up_told (Some turns) gave_up = Some gave_up

@@ -1,7 +1,7 @@
 //! What the tasks of a run met on their way, counted. Each task counts for itself, and its counts are added up once it has ended.
 
-ghost use Rattle.std.specs.Prelude.{◌≡◌, ◌*◌, ◌≤◌, ◌<◌, ℕ, Some};
-ghost use Rattle.run_plans.specs.Counts.{all_waits, both, counted, no_copies, no_remounts, no_writes, sizes_with, with_copy, with_round};
+ghost use Rattle.std.specs.Prelude.{◌≡◌, ◌*◌, ◌≤◌, ◌<◌, ℕ};
+ghost use Rattle.run_plans.specs.Counts.{all_waits, both, counted, no_copies, no_remounts, no_writes, sizes_with, with_round, with_try};
 
 /// What a run has done.
 #[derive(Clone, Copy, PartialEq, Eq, Debug)]
@@ -10,6 +10,8 @@ pub struct Totals {
     pub grown: u64,
     /// How often the file system was frozen and thawed.
     pub frozen: u64,
+    /// How often a freeze gave up; None in a run whose freezes wait as long as it takes.
+    pub gave_up: Option<u64>,
     /// How many snapshots were sound and clean.
     pub snapshots: u64,
     /// How often the mount was made read-only, or was busy, and then writable.
@@ -109,11 +111,22 @@ fn sizes_and(sizes: Option<Sizes>, blocks: u64) -> Option<Sizes>
     })
 }
 
+/// How a round of a backup begins.
+#[derive(Clone, Copy)]
+pub enum Tried {
+    /// The file system was frozen, copied and thawed. The blocks of its snapshot, if that was sound and clean.
+    Copied(Option<u64>),
+    /// The freeze gave up.
+    GaveUp,
+}
+
 /// What a backup has done and met.
 #[derive(Clone, Copy)]
 pub struct Copies {
     /// How often the file system was frozen and thawed.
     pub frozen: u32,
+    /// How often a freeze gave up.
+    pub gave_up: u32,
     /// How many snapshots were sound and clean.
     pub snapshots: u32,
     /// How many callbacks ran.
@@ -130,6 +143,7 @@ impl Copies {
     {
         Copies {
             frozen: 0,
+            gave_up: 0,
             snapshots: 0,
             callbacks: 0,
             waits: 0,
@@ -137,30 +151,34 @@ impl Copies {
         }
     }
 
-    /// A freeze more, with its callbacks that ran, after which so many waits are counted, and its snapshot's blocks, where that was sound and
-    /// clean.
-    pub fn with_copy(self, ran: u32, waits: u64, blocks: Option<u64>) -> Copies
+    /// Returns these with a round more, which began so, in which so many callbacks ran, and after which so many waits are counted.
+    pub fn with_try(self, tried: Tried, ran: u32, waits: u64) -> Copies
         requires frozen { self.frozen < 1000 }
+        requires gave_up { self.gave_up < 1000 }
         requires snapshots { self.snapshots < 1000 }
         requires callbacks { self.callbacks ≤ 3000 }
         requires ran { ran ≤ 3 }
-        ensures { (size : ℕ) → blocks ≡ Some size → result ≡ with_copy ran waits size self }
+        ensures { result ≡ with_try tried ran waits self }
     {
-        let frozen = self.frozen + 1;
-        let callbacks = self.callbacks + ran;
-        match blocks {
-            Some(blocks) => Copies {
-                frozen,
+        let so_far = Copies {
+            callbacks: self.callbacks + ran,
+            waits,
+            ..self
+        };
+        match tried {
+            Tried::Copied(Some(blocks)) => Copies {
+                frozen: self.frozen + 1,
                 snapshots: self.snapshots + 1,
-                callbacks,
-                waits,
                 sizes: sizes_and(self.sizes, blocks),
+                ..so_far
             },
-            None => Copies {
-                frozen,
-                callbacks,
-                waits,
-                ..self
+            Tried::Copied(None) => Copies {
+                frozen: self.frozen + 1,
+                ..so_far
+            },
+            Tried::GaveUp => Copies {
+                gave_up: self.gave_up + 1,
+                ..so_far
             },
         }
     }

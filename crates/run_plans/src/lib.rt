@@ -8,7 +8,7 @@ pub mod plans;
 pub mod progress;
 pub mod rows;
 
-pub use counts::{Copies, Details, Remounts, Sizes, Totals, Writes};
+pub use counts::{Copies, Details, Remounts, Sizes, Totals, Tried, Writes};
 pub use meetings::{Meeting, RunObserver};
 pub use plans::{FIRST_WRITER, MOUNT, Plan};
 pub use progress::Progress;

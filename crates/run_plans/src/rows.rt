@@ -17,9 +17,13 @@ fn each_second(count: u64, took: Duration) -> u64 {
 type Figure = (&'static str, Option<u64>);
 
 /// How many rows there are.
-pub const ROWS: usize = 15;
+pub const ROWS: usize = 16;
 
-/// What can be told of a run. The sizes of snapshots are told where there was one, and the time where the clock could be read.
+/// How many of them, the first ones, tell what all tasks did.
+pub const TOTAL_ROWS: usize = 6;
+
+/// What can be told of a run. How often a freeze gave up is told if it may, the sizes of snapshots if there was one, and the time if the clock could be
+/// read.
 fn rows_of(totals: Totals, details: Details, took: Option<Duration>) -> [Figure; ROWS] {
     let (writes, copies) = (details.writes, details.copies);
     let (least, most) = match copies.sizes {
@@ -36,6 +40,7 @@ fn rows_of(totals: Totals, details: Details, took: Option<Duration>) -> [Figure;
     [
         ("grown", Some(totals.grown)),
         ("frozen", Some(totals.frozen)),
+        ("gave_up", totals.gave_up),
         ("snapshots", Some(totals.snapshots)),
         ("remounts", Some(totals.remounts)),
         ("held", Some(totals.held)),

@@ -2,26 +2,28 @@
 use Rattle.std.proofs.Common.{◌≡◌, refl, sym, ap, subst, []}
 use Rattle.std.specs.Prelude.{Option, Some, None, Result, Ok, Err}
 use Rattle.access_model.specs.declared.{errors.GateError.{GateError}, replies.{Next.{Next, TheVariants.{Go}}, Reply.{Reply}}}
-use Rattle.atomic_table.specs.Seated.{TableId}
 use Rattle.cpu_words.specs.Hooks.{HookAnswer}
 use Rattle.freeze_levels.specs.declared.hooks.HookCall.{HookCall}
-use Rattle.gate_world.specs.{Views.{phase_after}, declared.{accesses.Accesses.{Accesses}, config.Config.{Config}, operations.Op.{Op}}}
+use Rattle.gate_world.specs.declared.{accesses.Accesses.{Accesses}, operations.Op.{Op}}
 use Rattle.gate_world.specs.declared.work.Phase.{Phase}
-use Rattle.gate_steps.specs.{Seating.{DealtNumbers}, declared.seating.Knowledge.{Knowledge}, call_events.Answers.{unless_refused}}
-use Rattle.gate_steps.specs.call_events.{Asking.{OpUnderWayWith}, KnownSteps.{KnownStepsAsking}, Progress.{Progress}}
+use Rattle.gate_steps.specs.{Seating.{DealtNumbers}, declared.call_events.words.GateWords.{GateWords}, call_events.Answers.{unless_refused}}
+use Rattle.gate_steps.specs.call_events.{Asking.{OpUnderWayWith}, Led.{Led, LedAsking, TaskSeat, seated_at}, Progress.{Progress}}
 use Rattle.gate_steps.specs.call_events.{Progress.TheVariants.{Idle, Going, Waiting, Done}, Runs.{OpUnderWay, ProgressMatches}}
 use Rattle.gate_steps.specs.call_events.Waited.{OpAfterStepWaiting}
 use Rattle.gate_steps.proofs.call_events.{Running.{admitted_some, refused_as, refused_none}, Turning.{unasked}}
-use Rattle.vfs_gates.specs.{AtOnce.{BeginsAtOnce}, TaskStates.{SeatedTask, task_state, refusal_at}}
+use Rattle.vfs_gates.specs.{AtOnce.{BeginsAtOnce}, TaskStates.{SeatedTask, refusal_at}}
 
 -- an operation went where the steps of a line have led
-pub went_there : {H : Type 0} {answers : HookCall → DealtNumbers → H → HookAnswer → H → Type 0} {c : Config} {begins : Option Op}
-    {accesses : Accesses} {first : Phase} {next : Next Phase} {table table_left : TableId} {me left : Knowledge} {hooks hooks_left : H}
-    (op : Op) (start : SeatedTask) → KnownStepsAsking answers c begins accesses (Go first) table me hooks next table_left left hooks_left →
-    OpUnderWayWith [] 0 op start (task_state table c begins (Some first) me) →
-    OpAfterStepWaiting 0 op start next (task_state table_left c None (phase_after next) left)
-went_there {next = next} {hooks = hooks} op start led goes =
-    let went = led.went op start hooks 0 ([], goes, refl) in unasked op start next _ went.0 0 went.1
+module _ {gates : GateWords} {begins : Option Op} {accesses accesses_left : Accesses} {first : Phase} {next : Next Phase} {seat left : TaskSeat}
+    (op : Op) (start : SeatedTask) where
+  pub went_so : Led gates begins (Go first) accesses seat next accesses_left left →
+      OpUnderWayWith [] 0 op start (seated_at gates begins (Go first) seat) → OpAfterStepWaiting 0 op start next (seated_at gates None next left)
+  went_so led goes = unasked op start next _ [] 0 (led.went op start [] 0 goes)
+
+  pub went_there : {H : Type 0} {answers : HookCall → DealtNumbers → H → HookAnswer → H → Type 0} {hooks hooks_left : H} →
+      LedAsking answers gates begins (Go first) accesses seat hooks next accesses_left left hooks_left →
+      OpUnderWayWith [] 0 op start (seated_at gates begins (Go first) seat) → OpAfterStepWaiting 0 op start next (seated_at gates None next left)
+  went_there {hooks = hooks} led goes = let went = led.went op start hooks 0 ([], goes, refl) in unasked op start next _ went.0 0 went.1
 
 -- one whose beginning was refused
 pub refused_at_once : (op : Op) (old : SeatedTask) (e : GateError) → Err e ≡ unless_refused (refusal_at op old) →

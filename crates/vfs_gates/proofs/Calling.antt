@@ -2,7 +2,7 @@
 use Rattle.gate_steps.specs.declared.seating.Knowledge.{Knowledge}
 use Rattle.gate_steps.specs.call_events.{Answers.unless_refused, Asking.{OpUnderWayWith, CalledAsking}, Runs.{OpUnderWay, Called}, TaskState.TaskState}
 use Rattle.gate_steps.specs.declared.seating.Numbered.{Numbered}
-use Rattle.gate_steps.specs.call_events.{Seating.DealtNumbers, GhostAgrees.{PhaseOk, OwnNumberAgrees, GhostAgrees}, Turns.{state_at, StateAgrees, AgreesAfter}, Waited.{OpUnderWayWaiting, OpAfterStepWaiting}}
+use Rattle.gate_steps.specs.call_events.{Seating.DealtNumbers, GhostAgrees.{PhaseOk, OwnNumberAgrees, GhostAgrees}, Turns.{state_at, StateAgrees, AgreesAfter}, Waited.{OpAfterStepWaiting}}
 use Rattle.std.proofs.Common.{◌≡◌, ℕ, Bool, false, List, [], ◌∷◌, refl, sym, ap, ◌∙◌, subst}
 use Rattle.std.specs.Prelude.{Option, Some, None, Result, Ok, Err, is_some}
 use Rattle.access_model.specs.declared.{errors.GateError.GateError, replies.{Next.{Next, TheVariants.{Go, Wait, Done}}, Reply.Reply}}
@@ -213,9 +213,6 @@ module _ (call : Call) where
 
   pub has_begun : OpUnderWay op call.start (task_state call.task.seat.table_id call.gates (Some op) (Some call.first) call.task.seat.me.0)
   has_begun = has_asked_none.0
-
-  pub has_not_waited : OpUnderWayWaiting 0 op call.start (task_state call.task.seat.table_id call.gates (Some op) (Some call.first) call.task.seat.me.0)
-  has_not_waited = (has_asked_none.0, has_asked_none.2)
 
   -- after the last event, as it is written down
   module _ (left : Left call) where

@@ -24,3 +24,4 @@ pub mod several_tasks
 pub mod call_laws
 pub use Rattle.gate_steps.proofs.call_events.Grown
 pub mod OwnHooks
+pub mod FoundNobody

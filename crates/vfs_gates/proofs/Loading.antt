@@ -1,8 +1,7 @@
 -- A snapshot whose steps stand in a line: where they lead, and what its task notes of them.
 use Rattle.std.proofs.Common.{◌≡◌, ℕ, ◌-◌, ◌<◌, ◌≤◌, refl, sym, ap, ◌∙◌, subst, arith, Bool, true, false}
 use Rattle.std.proofs.lemmas.Bool.Decides.{nat_tests}
-use Rattle.std.specs.Prelude.{Option, Some, None, Result, Ok, List, is_some, if◌then◌else◌, length, [], not, slice_set as set}
-use Rattle.atomic_table.specs.Seated.{TableId}
+use Rattle.std.specs.Prelude.{Option, Some, None, Result, Ok, List, is_some, if◌then◌else◌, length, not, slice_set as set}
 use Rattle.access_model.specs.{declared.{replies.Next.{Next, TheVariants.{Go, Done}}, errors.GateError.{GateError}}, Replies.{map_next}}
 use Rattle.access_model.specs.declared.replies.Reply.{Reply, TheVariants.{Tree as TreeReply}}
 use Rattle.cpu_words.specs.{Touches.{event_of}, declared.events.Event.{Event}}
@@ -14,12 +13,12 @@ use Rattle.gated_tree.specs.declared.snapshots.SnapshotStep.TheVariants.{Locks, 
 use Rattle.gate_world.specs.{Accesses.{accesses_after}, Views.{phase_after}, Work.{after_of}, declared.accesses.Accesses.{Accesses}}
 use Rattle.gate_world.specs.{declared.{config.Config.{Config}, operations.Op.{Op}}, Beginnings.{first_phase}}
 use Rattle.gate_world.specs.declared.{operations.Op.TheVariants.{Snapshot as SnapshotOp}, work.Phase.{Phase, TheVariants.{Trees}}}
-use Rattle.gate_steps.specs.{Seating.{DealtNumbers, items_after}, declared.seating.Knowledge.{Knowledge}}
-use Rattle.gate_steps.specs.call_events.{KnownSteps.{KnownSteps}, Turns.{StateAgrees, state_at}}
-use Rattle.gate_steps.proofs.call_events.{Leading.{led_on, led_nowhere}, Turning.{unasked}}
+use Rattle.gate_steps.specs.{Seating.{DealtNumbers, items_after}}
+use Rattle.gate_steps.specs.{declared.call_events.words.GateWords.{GateWords}, call_events.{Led.{Led, Stands, TaskSeat}, Turns.{StateAgrees, state_at}}}
+use Rattle.gate_steps.proofs.call_events.Leading.{led_on, led_nowhere}
 use Rattle.vfs_gates.specs.Noted.{Noted, snapshot_at, with_kids, with_nodes}
 use Rattle.vfs_gates.specs.Buffers.{BufferWords, BuffersMatch, after_noting, completed, with_words}
-use Rattle.vfs_gates.proofs.{Calling.{Call, Left, has_asked_none, idle, items_of, not_begun, same}, Noting.{follows_taking}}
+use Rattle.vfs_gates.proofs.{Calling.{Call, idle, items_of, not_begun, same}, Noting.{follows_taking}}
 use Rattle.vfs_gates.proofs.Waiting.{has_number}
 
 -- no step of a snapshot adds an action
@@ -74,46 +73,46 @@ numbered {c} {begins} {phase} {accesses} {items} agrees =
     has_number agrees.number c begins (state_at (Some phase) accesses) agrees.flags items agrees.ghost_agrees
 
 -- what a line of a snapshot has noted
-module _ {c : Config} {begins : Option Op} {accesses : Accesses} {table : TableId} {me : Knowledge} {left : Knowledge} {table_left : TableId} where
+module _ {gates : GateWords} {begins : Option Op} {accesses : Accesses} {seat left : TaskSeat} where
   -- a step, which was noted
   noted_by : (s : Snapshot) (found : ℕ) →
       after_of (Trees (Snapshots s)) (event_of (snapshot_next s s.step).0 (snapshot_next s s.step).1 found).found (Ok tt) ≡
       after_of (Trees (Snapshots s)) found (Ok tt) →
-      KnownSteps c begins accesses (Go (Trees (Snapshots s))) table me (after_of (Trees (Snapshots s)) found (Ok tt)).0 table_left left →
-      left.items ≡ items_after begins (Trees (Snapshots s)) (Ok tt) found me.items →
-      StateAgrees c begins (Some (Trees (Snapshots s))) accesses me.items →
-      Noted c begins accesses (Go (Trees (Snapshots s))) table me (λ r. Unit {0}) (after_of (Trees (Snapshots s)) found (Ok tt)).0 table_left left
+      Led gates begins (Go (Trees (Snapshots s))) accesses seat (after_of (Trees (Snapshots s)) found (Ok tt)).0 accesses left →
+      left.me.0.items ≡ items_after begins (Trees (Snapshots s)) (Ok tt) found seat.me.0.items →
+      Stands gates begins (Go (Trees (Snapshots s))) accesses seat →
+      Noted gates begins (Go (Trees (Snapshots s))) accesses seat (λ r. Unit {0}) (after_of (Trees (Snapshots s)) found (Ok tt)).0 left
       (after_noting s (event_of (snapshot_next s s.step).0 (snapshot_next s s.step).1 found))
-  noted_by s found comes led items agrees = record {
+  noted_by s found comes led items stands = record {
     led = led;
     tells = λ r were h.
         let phase : Phase = Trees (Snapshots s) in
         let event : Event = event_of (snapshot_next s s.step).0 (snapshot_next s s.step).1 found in
-        let P : Next Phase × DealtNumbers → Type 0 = λ z. BuffersMatch c.nodes (after_noting s event r) None (phase_after z.0) z.1 in
+        let P : Next Phase × DealtNumbers → Type 0 = λ z. BuffersMatch gates.config.nodes (after_noting s event r) None (phase_after z.0) z.1 in
         subst P (λ i. ((comes i).0, sym items i))
-        (follows_taking r phase s refl event c.nodes begins (Ok tt) found me.items (numbered agrees) refl h);
+        (follows_taking r phase s refl event gates.config.nodes begins (Ok tt) found seat.me.0.items (numbered stands.agrees) refl h);
   }
 
   -- what was before, and what the steps have made of it, said otherwise
   pub noted_as : {a b : Next Phase} {Were Are : BufferWords → Type 0} {made gives : BufferWords → BufferWords} →
-      ((r : BufferWords) → Are r → Were r × (made r ≡ gives r)) → Noted c begins accesses a table me Were b table_left left made →
-      Noted c begins accesses a table me Are b table_left left gives
+      ((r : BufferWords) → Are r → Were r × (made r ≡ gives r)) → Noted gates begins a accesses seat Were b left made →
+      Noted gates begins a accesses seat Are b left gives
   noted_as {b = b} same noted = record {
     led = noted.led;
     tells = λ r were h.
-        subst (λ (z : BufferWords). BuffersMatch c.nodes z None (phase_after b) left.items) (same r were).1 (noted.tells r (same r were).0 h);
+        subst (λ (z : BufferWords). BuffersMatch gates.config.nodes z None (phase_after b) left.me.0.items) (same r were).1 (noted.tells r (same r were).0 h);
   }
 
   -- what comes next, said otherwise
   pub noted_to : {a b d : Next Phase} {Were : BufferWords → Type 0} {made : BufferWords → BufferWords} → b ≡ d →
-      Noted c begins accesses a table me Were b table_left left made → Noted c begins accesses a table me Were d table_left left made
+      Noted gates begins a accesses seat Were b left made → Noted gates begins a accesses seat Were d left made
   noted_to {a} {Were = Were} {made = made} is noted =
-      subst (λ (n : Next Phase). Noted c begins accesses a table me Were n table_left left made) is noted
+      subst (λ (n : Next Phase). Noted gates begins a accesses seat Were n left made) is noted
 
   -- one line after the other
-  pub noted_on : {a b d : Next Phase} {td : TableId} {ld : Knowledge} {Were Are : BufferWords → Type 0} {made gives : BufferWords → BufferWords} →
-      Noted c begins accesses a table me Were b table_left left made → ((r : BufferWords) → Were r → Are (made r)) →
-      Noted c None accesses b table_left left Are d td ld gives → Noted c begins accesses a table me Were d td ld (λ r. gives (made r))
+  pub noted_on : {a b d : Next Phase} {sd : TaskSeat} {Were Are : BufferWords → Type 0} {made gives : BufferWords → BufferWords} →
+      Noted gates begins a accesses seat Were b left made → ((r : BufferWords) → Were r → Are (made r)) →
+      Noted gates None b accesses left Are d sd gives → Noted gates begins a accesses seat Were d sd (λ r. gives (made r))
   noted_on {made = made} one on two = record {
     led = led_on one.led two.led;
     tells = λ r were h. two.tells (made r) (on r were) (one.tells r were h);
@@ -124,51 +123,49 @@ module _ {c : Config} {begins : Option Op} {accesses : Accesses} {table : TableI
       ((r : BufferWords) → after_noting s (event_of (snapshot_next s s.step).0 (snapshot_next s s.step).1 found) r ≡ r) →
       after_of (Trees (Snapshots s)) (event_of (snapshot_next s s.step).0 (snapshot_next s s.step).1 found).found (Ok tt) ≡
       after_of (Trees (Snapshots s)) found (Ok tt) →
-      KnownSteps c begins accesses (Go (Trees (Snapshots s))) table me (after_of (Trees (Snapshots s)) found (Ok tt)).0 table_left left →
-      left.items ≡ items_after begins (Trees (Snapshots s)) (Ok tt) found me.items →
-      StateAgrees c begins (Some (Trees (Snapshots s))) accesses me.items →
-      Noted c begins accesses (Go (Trees (Snapshots s))) table me Were (after_of (Trees (Snapshots s)) found (Ok tt)).0 table_left left (λ r. r)
-  unnoted s found stays comes led items agrees = noted_as (λ r were. (tt, stays r)) (noted_by s found comes led items agrees)
+      Led gates begins (Go (Trees (Snapshots s))) accesses seat (after_of (Trees (Snapshots s)) found (Ok tt)).0 accesses left →
+      left.me.0.items ≡ items_after begins (Trees (Snapshots s)) (Ok tt) found seat.me.0.items →
+      Stands gates begins (Go (Trees (Snapshots s))) accesses seat →
+      Noted gates begins (Go (Trees (Snapshots s))) accesses seat Were (after_of (Trees (Snapshots s)) found (Ok tt)).0 left (λ r. r)
+  unnoted s found stays comes led items stands = noted_as (λ r were. (tt, stays r)) (noted_by s found comes led items stands)
 
   -- the loads of the blocks charged, of a node, and of its children, which are the last ones or not
   pub used_noted : (s : Snapshot) (found : ℕ) (words : TreeWords) →
-      KnownSteps c begins accesses (Go (snapshot_at s LoadsUsed)) table me (after_of (snapshot_at s LoadsUsed) found (Ok tt)).0 table_left left →
-      left.items ≡ items_after begins (snapshot_at s LoadsUsed) (Ok tt) found me.items →
-      StateAgrees c begins (Some (snapshot_at s LoadsUsed)) accesses me.items →
-      Noted c begins accesses (Go (snapshot_at s LoadsUsed)) table me (λ r. r.next ≡ words) (after_of (snapshot_at s LoadsUsed) found (Ok tt)).0
-      table_left left (with_words (record words { used = found }))
-  used_noted s found words led items agrees =
-      noted_as (λ r were. (tt, λ i. with_words (record (were i) { used = found }) r)) (noted_by (at_snapshot s LoadsUsed) found refl led items agrees)
+      Led gates begins (Go (snapshot_at s LoadsUsed)) accesses seat (after_of (snapshot_at s LoadsUsed) found (Ok tt)).0 accesses left →
+      left.me.0.items ≡ items_after begins (snapshot_at s LoadsUsed) (Ok tt) found seat.me.0.items →
+      Stands gates begins (Go (snapshot_at s LoadsUsed)) accesses seat →
+      Noted gates begins (Go (snapshot_at s LoadsUsed)) accesses seat (λ r. r.next ≡ words) (after_of (snapshot_at s LoadsUsed) found (Ok tt)).0 left (with_words (record words { used = found }))
+  used_noted s found words led items stands =
+      noted_as (λ r were. (tt, λ i. with_words (record (were i) { used = found }) r)) (noted_by (at_snapshot s LoadsUsed) found refl led items stands)
 
   pub node_noted : (s : Snapshot) (node found : ℕ) (nodes : List ℕ) →
-      KnownSteps c begins accesses (Go (snapshot_at s (LoadsNode node))) table me (after_of (snapshot_at s (LoadsNode node)) found (Ok tt)).0 table_left left →
-      left.items ≡ items_after begins (snapshot_at s (LoadsNode node)) (Ok tt) found me.items →
-      StateAgrees c begins (Some (snapshot_at s (LoadsNode node))) accesses me.items →
-      Noted c begins accesses (Go (snapshot_at s (LoadsNode node))) table me (λ r. r.next.nodes ≡ nodes)
-      (after_of (snapshot_at s (LoadsNode node)) found (Ok tt)).0 table_left left (with_nodes (set nodes node found))
-  node_noted s node found nodes led items agrees =
-      noted_as (λ r were. (tt, λ i. with_nodes (set (were i) node found) r)) (noted_by (at_snapshot s (LoadsNode node)) found refl led items agrees)
+      Led gates begins (Go (snapshot_at s (LoadsNode node))) accesses seat (after_of (snapshot_at s (LoadsNode node)) found (Ok tt)).0 accesses left →
+      left.me.0.items ≡ items_after begins (snapshot_at s (LoadsNode node)) (Ok tt) found seat.me.0.items →
+      Stands gates begins (Go (snapshot_at s (LoadsNode node))) accesses seat →
+      Noted gates begins (Go (snapshot_at s (LoadsNode node))) accesses seat (λ r. r.next.nodes ≡ nodes) (after_of (snapshot_at s (LoadsNode node)) found (Ok tt)).0 left (with_nodes (set nodes node found))
+  node_noted s node found nodes led items stands =
+      noted_as (λ r were. (tt, λ i. with_nodes (set (were i) node found) r)) (noted_by (at_snapshot s (LoadsNode node)) found refl led items stands)
 
   pub kids_noted : (s : Snapshot) (node found : ℕ) (kids : List ℕ) (o : Option ℕ) → o ≡ node_after node s.nodes →
-      KnownSteps c begins accesses (Go (snapshot_at s (LoadsKids node))) table me (after_of (snapshot_at s (LoadsKids node)) found (Ok tt)).0 table_left left →
-      left.items ≡ items_after begins (snapshot_at s (LoadsKids node)) (Ok tt) found me.items →
-      StateAgrees c begins (Some (snapshot_at s (LoadsKids node))) accesses me.items →
-      Noted c begins accesses (Go (snapshot_at s (LoadsKids node))) table me (λ r. r.next.kids ≡ kids)
-      (after_of (snapshot_at s (LoadsKids node)) found (Ok tt)).0 table_left left
+      Led gates begins (Go (snapshot_at s (LoadsKids node))) accesses seat (after_of (snapshot_at s (LoadsKids node)) found (Ok tt)).0 accesses left →
+      left.me.0.items ≡ items_after begins (snapshot_at s (LoadsKids node)) (Ok tt) found seat.me.0.items →
+      Stands gates begins (Go (snapshot_at s (LoadsKids node))) accesses seat →
+      Noted gates begins (Go (snapshot_at s (LoadsKids node))) accesses seat (λ r. r.next.kids ≡ kids) (after_of (snapshot_at s (LoadsKids node)) found (Ok tt)).0 left
       (λ r. if not (is_some o) then completed (with_kids (set kids node found) r) else with_kids (set kids node found) r)
-  kids_noted s node found kids o is led items agrees =
+  kids_noted s node found kids o is led items stands =
       noted_as (λ r were. (
         tt,
         λ i. if not (is_some (sym is i)) then completed (with_kids (set (were i) node found) r) else
             with_kids (set (were i) node found) r,
-      )) (noted_by (at_snapshot s (LoadsKids node)) found refl led items agrees)
+      )) (noted_by (at_snapshot s (LoadsKids node)) found refl led items stands)
 
 -- no step
-pub noted_nowhere : {Were : BufferWords → Type 0} {made : BufferWords → BufferWords} (c : Config) (accesses : Accesses) (a : Next Phase)
-    (table : TableId) (me : Knowledge) → ((r : BufferWords) → Were r → r ≡ made r) → Noted c None accesses a table me Were a table me made
-noted_nowhere c accesses a table me same = record {
-  led = led_nowhere c accesses a table me;
-  tells = λ r were h. subst (λ (z : BufferWords). BuffersMatch c.nodes z None (phase_after a) me.items) (same r were) h;
+pub noted_nowhere : {Were : BufferWords → Type 0} {made : BufferWords → BufferWords} (gates : GateWords) (a : Next Phase) (accesses : Accesses)
+    (seat : TaskSeat) → ((r : BufferWords) → Were r → r ≡ made r) → Noted gates None a accesses seat Were a seat made
+noted_nowhere gates a accesses seat same = record {
+  led = led_nowhere gates a accesses seat;
+  tells = λ r were h.
+      subst (λ (z : BufferWords). BuffersMatch gates.config.nodes z None (phase_after a) seat.me.0.items) (same r were) h;
 }
 
 -- `umount` was free, and the stage is the last
@@ -190,30 +187,19 @@ pub nodes_as_begun : (s : Snapshot) (c : Config) (t : ℕ) (wait : Bool) → sna
 unfolding nodes_in
 nodes_as_begun s c t wait is = ap nodes_in is
 
--- a call that takes a snapshot in a line, and what its line has left
-module _ (call : Call) {table : TableId} {known : Knowledge} {begun gone : BufferWords} (next : Next Phase)
-    (noted : Noted call.gates (Some call.op) call.task.state.accesses (Go call.first) call.task.seat.table_id call.task.seat.me.0 (λ r. r ≡ begun) next
-    table known (λ r. gone)) where
-  abbrev pub left_by : Left call
-  left_by = record {
-    next = next;
-    accesses = call.task.state.accesses;
-    known = known;
-    table = table;
-    agrees = noted.led.agrees;
-    waits = 0;
-    went = unasked call.op call.start next _ [] 0 (noted.led.went call.op call.start [] 0 (has_asked_none call));
-  }
-
-  -- its buffers tell of what comes next
+-- a call that takes a snapshot in a line, whose buffers tell of what comes next where they told of its beginning
+module _ (call : Call) {left : DealtNumbers} {begun gone : BufferWords} (next : Next Phase)
+    (tells : BuffersMatch call.gates.nodes begun (Some call.op) (Some call.first) (items_of call) →
+    BuffersMatch call.gates.nodes gone None (phase_after next) left) where
+  -- so they tell of it as the task notes it
   pub loaded_buffers : BuffersMatch call.task.config.nodes begun (Some call.op) (Some call.first) (items_of call) → (o : Option Phase) →
-      phase_after next ≡ o → BuffersMatch call.task.config.nodes gone call.task.begins o known.items
+      phase_after next ≡ o → BuffersMatch call.task.config.nodes gone call.task.begins o left
   loaded_buffers h o is =
-      let P : Config × Option Op × Option Phase → Type 0 = λ z. BuffersMatch z.0.nodes gone z.1 z.2 known.items in
+      let P : Config × Option Op × Option Phase → Type 0 = λ z. BuffersMatch z.0.nodes gone z.1 z.2 left in
       subst P (λ i. (sym (same call) i, sym (not_begun call) i, is i))
-      (noted.tells begun refl (subst (λ (d : Config). BuffersMatch d.nodes begun (Some call.op) (Some call.first) (items_of call)) (same call) h))
+      (tells (subst (λ (d : Config). BuffersMatch d.nodes begun (Some call.op) (Some call.first) (items_of call)) (same call) h))
 
   -- or of none, where it was done
   pub loaded_done : BuffersMatch call.task.config.nodes begun (Some call.op) (Some call.first) (items_of call) → (answer : Result Reply GateError) →
-      next ≡ Done answer → BuffersMatch call.task.config.nodes gone call.task.begins call.task.state.phase known.items
+      next ≡ Done answer → BuffersMatch call.task.config.nodes gone call.task.begins call.task.state.phase left
   loaded_done h answer is = loaded_buffers h call.task.state.phase (ap (λ (n : Next Phase). phase_after n) is ∙ sym (idle call))

@@ -34,3 +34,4 @@ pub use Rattle.gate_steps.specs.call_events.Asking
 pub use Rattle.gate_steps.specs.call_events.Grown
 pub mod Patience
 pub mod Undone
+pub mod FoundNobody

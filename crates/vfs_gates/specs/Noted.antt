@@ -1,14 +1,13 @@
 -- Lines of steps of a snapshot, whose loads its task notes in its buffers, and where they have led.
 use Rattle.std.specs.Prelude.{ℕ, Bool, true, false, List, Option, Some, None, Ok}
-use Rattle.atomic_table.specs.Seated.{TableId}
 use Rattle.access_model.specs.{Replies.{map_next}, declared.replies.Next.{Next, TheVariants.{Done}}}
 use Rattle.access_model.specs.declared.replies.Reply.TheVariants.{Tree as TreeReply}
 use Rattle.gated_tree.specs.declared.{phases.TreePhase.{TreePhase, TheVariants.{Snapshot as Snapshots}}, snapshots.Snapshot.{Snapshot}}
 use Rattle.gated_tree.specs.declared.snapshots.SnapshotStep.{SnapshotStep, TheVariants.{LoadsNode, LoadsKids, Releases}}
 use Rattle.gated_tree.specs.declared.trees.TreeWords.{TreeWords}
-use Rattle.gate_world.specs.declared.{accesses.Accesses.{Accesses}, config.Config.{Config}, operations.Op.{Op}, work.Phase.{Phase}}
+use Rattle.gate_world.specs.declared.{accesses.Accesses.{Accesses}, operations.Op.{Op}, work.Phase.{Phase}}
 use Rattle.gate_world.specs.{declared.work.Phase.TheVariants.{Trees}, Views.{phase_after}}
-use Rattle.gate_steps.specs.{declared.seating.Knowledge.{Knowledge}, call_events.KnownSteps.{KnownSteps}}
+use Rattle.gate_steps.specs.{declared.call_events.words.GateWords.{GateWords}, call_events.Led.{Led, TaskSeat}}
 use Rattle.vfs_gates.specs.Buffers.{BufferWords, BuffersMatch, completed, with_words}
 
 -- what comes next of a call at the tree, as phases
@@ -48,8 +47,8 @@ with_loaded None words r = completed (with_words words r)
 
 -- Steps have led a snapshot from where it stood to where it stands, and what they have loaded was noted: what a task's buffers told of its
 -- numbers before, if they were like this, they tell of them after, as this makes them.
-pub record Noted (c : Config) (begins : Option Op) (accesses : Accesses) (next : Next Phase) (table : TableId) (me : Knowledge) (Were : BufferWords → Type 0)
-    (further : Next Phase) (table_left : TableId) (left : Knowledge) (made : BufferWords → BufferWords) : Type 0 where
-  pub led : KnownSteps c begins accesses next table me further table_left left
-  pub tells : (r : BufferWords) → Were r → BuffersMatch c.nodes r begins (phase_after next) me.items →
-      BuffersMatch c.nodes (made r) None (phase_after further) left.items
+pub record Noted (gates : GateWords) (begins : Option Op) (next : Next Phase) (accesses : Accesses) (seat : TaskSeat) (Were : BufferWords → Type 0)
+    (further : Next Phase) (left : TaskSeat) (made : BufferWords → BufferWords) : Type 0 where
+  pub led : Led gates begins next accesses seat further accesses left
+  pub tells : (r : BufferWords) → Were r → BuffersMatch gates.config.nodes r begins (phase_after next) seat.me.0.items →
+      BuffersMatch gates.config.nodes (made r) None (phase_after further) left.me.0.items

@@ -23,6 +23,7 @@ ghost use Rattle.gate_world.specs.declared.operations.Op.TheVariants.{ChangeMoun
 
 pub mod in_time;
 pub mod one_world;
+pub mod patience;
 pub mod progress;
 pub mod undone;
 

@@ -32,10 +32,7 @@ impl<H: TimedHooks> TimedHooks for NoPatience<'_, H> {
     fn ask(&mut self, call: HookCall, at: &GhostSeat) -> Result<(), u16> {
         let answer = self.hooks.ask(call, at);
         match call {
-            HookCall::KeepWaiting { .. } => {
-                answer?;
-                Err(FOUND_SOMEBODY)
-            }
+            HookCall::KeepWaiting { .. } => answer.and(Err(FOUND_SOMEBODY)),
             _ => answer,
         }
     }

@@ -7,7 +7,7 @@ ghost use Rattle.gate_world.specs.Work.{after_of};
 ghost use Rattle.gated_tree.specs.Trees.{words_of};
 ghost use Rattle.gated_tree.specs.declared.snapshots.SnapshotStep.TheVariants.{LoadsKids, LoadsNode, LoadsUsed, Locks, Releases};
 ghost use Rattle.node_words.specs.Nodes.{unpacked};
-ghost use Rattle.gate_steps.specs.call_events.Turns.{StateAgrees};
+ghost use Rattle.gate_steps.specs.call_events.Led.{Stands};
 ghost use Rattle.vfs_gates.specs.Buffers.{IsSized, completed, words_in};
 ghost use Rattle.vfs_gates.specs.Noted.{Noted, nodes_loaded, of_tree, taken_or, snapshot_at, with_kids, with_loaded, with_nodes, words_loaded};
 
@@ -64,11 +64,9 @@ fn load_nodes(
     snapshot: Snapshot,
 ) -> Option<u8>
     requires many { (length nodes.old ≡ snapshot.nodes) × (1 ≤ snapshot.nodes) }
-    requires table { seat.old.table_id ≡ gates.now.table.shared.table_id }
-    requires agrees { StateAgrees gates.now.config None (Some (snapshot_at snapshot (LoadsNode 0))) accesses.now seat.old.me.0.items }
-    ensures slots { seat.new.me.1 ≡ seat.old.me.1 }
-    ensures noted { Noted gates.now.config None accesses.now (Go (snapshot_at snapshot (LoadsNode 0))) seat.old.table_id seat.old.me.0
-        (λ r. r.next.nodes ≡ nodes.old) (Go (nodes_loaded snapshot result)) seat.new.table_id seat.new.me.0 (with_nodes nodes.new) }
+    requires stands { Stands gates.now None (Go (snapshot_at snapshot (LoadsNode 0))) accesses.now seat.old }
+    ensures { Noted gates.now None (Go (snapshot_at snapshot (LoadsNode 0))) accesses.now seat.old (λ r. r.next.nodes ≡ nodes.old)
+        (Go (nodes_loaded snapshot result)) seat.new (with_nodes nodes.new) }
 {
     let mut node = 0;
     loop {
@@ -95,12 +93,9 @@ fn load_kids(
     snapshot: Snapshot,
 )
     requires many { (length kids.old ≡ snapshot.nodes) × (1 ≤ snapshot.nodes) }
-    requires table { seat.old.table_id ≡ gates.now.table.shared.table_id }
-    requires agrees { StateAgrees gates.now.config None (Some (snapshot_at snapshot (LoadsKids 0))) accesses.now seat.old.me.0.items }
-    ensures slots { seat.new.me.1 ≡ seat.old.me.1 }
-    ensures noted { Noted gates.now.config None accesses.now (Go (snapshot_at snapshot (LoadsKids 0))) seat.old.table_id seat.old.me.0
-        (λ r. r.next.kids ≡ kids.old) (Go (snapshot_at snapshot (Releases (Ok TreeReply)))) seat.new.table_id seat.new.me.0
-        (λ r. completed (with_kids kids.new r)) }
+    requires stands { Stands gates.now None (Go (snapshot_at snapshot (LoadsKids 0))) accesses.now seat.old }
+    ensures { Noted gates.now None (Go (snapshot_at snapshot (LoadsKids 0))) accesses.now seat.old (λ r. r.next.kids ≡ kids.old)
+        (Go (snapshot_at snapshot (Releases (Ok TreeReply)))) seat.new (λ r. completed (with_kids kids.new r)) }
 {
     let mut node = 0;
     loop {
@@ -126,12 +121,9 @@ fn load_words(
     snapshot: Snapshot,
 ) -> Option<u8>
     requires many { IsSized snapshot.nodes (words_of tree.old) × (1 ≤ snapshot.nodes) }
-    requires table { seat.old.table_id ≡ gates.now.table.shared.table_id }
-    requires agrees { StateAgrees gates.now.config None (Some (snapshot_at snapshot LoadsUsed)) accesses.now seat.old.me.0.items }
-    ensures slots { seat.new.me.1 ≡ seat.old.me.1 }
-    ensures noted { Noted gates.now.config None accesses.now (Go (snapshot_at snapshot LoadsUsed)) seat.old.table_id seat.old.me.0
-        (λ r. r.next ≡ words_of tree.old) (Go (words_loaded snapshot result)) seat.new.table_id seat.new.me.0
-        (with_loaded result (words_of tree.new)) }
+    requires stands { Stands gates.now None (Go (snapshot_at snapshot LoadsUsed)) accesses.now seat.old }
+    ensures { Noted gates.now None (Go (snapshot_at snapshot LoadsUsed)) accesses.now seat.old (λ r. r.next ≡ words_of tree.old)
+        (Go (words_loaded snapshot result)) seat.new (with_loaded result (words_of tree.new)) }
 {
     let step = SnapshotStep::LoadsUsed;
     let here = TreePhase::Snapshot(Snapshot { step, ..snapshot });
@@ -155,11 +147,9 @@ fn load_tree(
     rest: &mut Next<TreePhase>,
 ) -> bool
     requires many { IsSized snapshot.nodes (words_in buffers.old).next × (1 ≤ snapshot.nodes) }
-    requires table { seat.old.table_id ≡ gates.now.table.shared.table_id }
-    requires agrees { StateAgrees gates.now.config None (Some (snapshot_at snapshot LoadsUsed)) accesses.now seat.old.me.0.items }
-    ensures slots { seat.new.me.1 ≡ seat.old.me.1 }
-    ensures noted { Noted gates.now.config None accesses.now (Go (snapshot_at snapshot LoadsUsed)) seat.old.table_id seat.old.me.0
-        (λ r. r ≡ words_in buffers.old) (taken_or result rest.new) seat.new.table_id seat.new.me.0 (λ r. words_in buffers.new) }
+    requires stands { Stands gates.now None (Go (snapshot_at snapshot LoadsUsed)) accesses.now seat.old }
+    ensures { Noted gates.now None (Go (snapshot_at snapshot LoadsUsed)) accesses.now seat.old (λ r. r ≡ words_in buffers.old)
+        (taken_or result rest.new) seat.new (λ r. words_in buffers.new) }
 {
     let tree = &mut buffers.next;
     if let Some(node) = load_words(gates, seat, accesses, tree, snapshot) {
@@ -191,12 +181,10 @@ fn take_snapshot(
     snapshot: Snapshot,
     rest: &mut Next<TreePhase>,
 ) -> bool
-    requires table { seat.old.table_id ≡ gates.now.table.shared.table_id }
     requires many { IsSized snapshot.nodes (words_in buffers.old).next × (1 ≤ snapshot.nodes) }
-    requires agrees { StateAgrees gates.now.config (Some op) (Some (snapshot_at snapshot Locks)) accesses.now seat.old.me.0.items }
-    ensures slots { seat.new.me.1 ≡ seat.old.me.1 }
-    ensures noted { Noted gates.now.config (Some op) accesses.now (Go (snapshot_at snapshot Locks)) seat.old.table_id seat.old.me.0
-        (λ r. r ≡ words_in buffers.old) (taken_or result rest.new) seat.new.table_id seat.new.me.0 (λ r. words_in buffers.new) }
+    requires stands { Stands gates.now (Some op) (Go (snapshot_at snapshot Locks)) accesses.now seat.old }
+    ensures { Noted gates.now (Some op) (Go (snapshot_at snapshot Locks)) accesses.now seat.old (λ r. r ≡ words_in buffers.old)
+        (taken_or result rest.new) seat.new (λ r. words_in buffers.new) }
 {
     let step = SnapshotStep::Locks;
     let locks = TreePhase::Snapshot(Snapshot { step, ..snapshot });
@@ -225,12 +213,10 @@ pub(crate) fn snapshot_first(
     op: Op,
     snapshot: Snapshot,
 ) -> Next<TreePhase>
-    requires table { seat.old.table_id ≡ gates.now.table.shared.table_id }
     requires many { IsSized snapshot.nodes (words_in buffers.old).next × (1 ≤ snapshot.nodes) }
-    requires agrees { StateAgrees gates.now.config (Some op) (Some (snapshot_at snapshot Locks)) accesses.now seat.old.me.0.items }
-    ensures slots { seat.new.me.1 ≡ seat.old.me.1 }
-    ensures noted { Noted gates.now.config (Some op) accesses.now (Go (snapshot_at snapshot Locks)) seat.old.table_id seat.old.me.0
-        (λ r. r ≡ words_in buffers.old) (of_tree result) seat.new.table_id seat.new.me.0 (λ r. words_in buffers.new) }
+    requires stands { Stands gates.now (Some op) (Go (snapshot_at snapshot Locks)) accesses.now seat.old }
+    ensures { Noted gates.now (Some op) (Go (snapshot_at snapshot Locks)) accesses.now seat.old (λ r. r ≡ words_in buffers.old)
+        (of_tree result) seat.new (λ r. words_in buffers.new) }
 {
     let mut rest = Next::Done(Ok(Reply::Tree));
     if take_snapshot(gates, seat, accesses, buffers, op, snapshot, &mut rest) {

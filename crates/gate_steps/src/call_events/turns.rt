@@ -7,13 +7,10 @@ ghost use Rattle.cpu_words.specs.Hooks.{HookAnswer};
 ghost use Rattle.gate_world.specs.Accesses.{accesses_after};
 ghost use Rattle.gate_world.specs.Work.{next_of, after_of};
 ghost use Rattle.gate_steps.specs.Seating.{items_after};
-ghost use Rattle.gate_steps.specs.call_events.KnownSteps.{KnownSteps, KnownStepsAsking};
-ghost use Rattle.gate_world.specs.Views.{phase_after};
+ghost use Rattle.gate_steps.specs.call_events.Led.{Led, LedAsking, Stands, StaysSeated, seated_at};
 ghost use Rattle.access_model.specs.Replies.{map_next};
-ghost use Rattle.gate_steps.specs.call_events.SeatedTasks.{task_state};
 ghost use Rattle.gate_steps.specs.call_events.Stepped.{Stepped};
-ghost use Rattle.gate_steps.specs.call_events.Turns.{StateAgrees, AgreesAfter, step_was};
-ghost use Rattle.gate_steps.specs.call_events.Waited.{OpUnderWayWaiting, OpAfterStepWaiting};
+ghost use Rattle.gate_steps.specs.call_events.Turns.{step_was};
 ghost use Rattle.gate_steps.specs.call_events.Asking.{Ask, asks_with, call_at, OpUnderWayWith, OpAfterStepWith};
 ghost use Rattle.gate_steps.specs.call_events.SeatedTasks.{SeatedTask};
 ghost use Rattle.gate_world.specs.declared.operations.Op.{Op as OpType};
@@ -46,16 +43,11 @@ pub fn do_event<P: PendingOp>(
     under_way: P,
     hook: Result<(), u16>,
 ) -> StepResult<P>
-    requires table { seat.old.table_id ≡ gates.now.table.shared.table_id }
-    requires agrees { StateAgrees gates.now.config begins (Some (P.as_phase under_way)) accesses.old seat.old.me.0.items }
-    ensures table { seat.new.table_id ≡ seat.old.table_id }
-    ensures slots { seat.new.me.1 ≡ seat.old.me.1 }
-    ensures agrees { AgreesAfter gates.now.config begins (Some (P.as_phase under_way)) accesses.old seat.old.me.0.items
-        (phase_after (map_next P.as_phase result.next)) accesses.new seat.new.me.0.items }
-    ensures stepped { Stepped (P.as_phase under_way) hook
-        (task_state seat.old.table_id gates.now.config begins (Some (P.as_phase under_way)) seat.old.me.0)
-        (step_was result.event result.action (map_next P.as_phase result.next))
-        (task_state seat.new.table_id gates.now.config None (phase_after (map_next P.as_phase result.next)) seat.new.me.0) }
+    requires { Stands gates.now begins (Go (P.as_phase under_way)) accesses.old seat.old }
+    ensures seated { StaysSeated gates.now begins (Go (P.as_phase under_way)) accesses.old seat.old (map_next P.as_phase result.next) accesses.new
+        seat.new }
+    ensures stepped { Stepped (P.as_phase under_way) hook (seated_at gates.now begins (Go (P.as_phase under_way)) seat.old)
+        (step_was result.event result.action (map_next P.as_phase result.next)) (seated_at gates.now None (map_next P.as_phase result.next) seat.new) }
 {
     let event = gates.event(seat, begins, under_way, hook);
     let (next, action) = under_way.after(event.found, hook);
@@ -77,21 +69,12 @@ pub fn step_once<P: PendingOp>(
     under_way: P,
     hook: Result<(), u16>,
 ) -> Next<P>
-    requires table { seat.old.table_id ≡ gates.now.table.shared.table_id }
-    requires agrees { StateAgrees gates.now.config begins (Some (P.as_phase under_way)) accesses.old seat.old.me.0.items }
-    ensures table { seat.new.table_id ≡ seat.old.table_id }
-    ensures slots { seat.new.me.1 ≡ seat.old.me.1 }
-    ensures agrees { AgreesAfter gates.now.config begins (Some (P.as_phase under_way)) accesses.old seat.old.me.0.items
-        (phase_after (map_next P.as_phase result)) accesses.new seat.new.me.0.items }
-    ensures still { StateAgrees gates.now.config None (phase_after (map_next P.as_phase result)) accesses.new seat.new.me.0.items }
-    ensures went { (waits : ℕ) (op : OpType) (start : SeatedTask) →
-        OpUnderWayWaiting waits op start (task_state seat.old.table_id gates.now.config begins (Some (P.as_phase under_way)) seat.old.me.0) →
-        OpAfterStepWaiting waits op start (map_next P.as_phase result)
-        (task_state seat.new.table_id gates.now.config None (phase_after (map_next P.as_phase result)) seat.new.me.0) }
+    requires { Stands gates.now begins (Go (P.as_phase under_way)) accesses.old seat.old }
+    ensures seated { StaysSeated gates.now begins (Go (P.as_phase under_way)) accesses.old seat.old (map_next P.as_phase result) accesses.new seat.new }
     ensures asks { (op : OpType) (start : SeatedTask) (asks : List Ask) (waits : ℕ) →
-        OpUnderWayWith asks waits op start (task_state seat.old.table_id gates.now.config begins (Some (P.as_phase under_way)) seat.old.me.0) →
+        OpUnderWayWith asks waits op start (seated_at gates.now begins (Go (P.as_phase under_way)) seat.old) →
         OpAfterStepWith (asks_with (call_at (P.as_phase under_way)) seat.old.me.0.items hook asks) waits op start (map_next P.as_phase result)
-        (task_state seat.new.table_id gates.now.config None (phase_after (map_next P.as_phase result)) seat.new.me.0) }
+        (seated_at gates.now None (map_next P.as_phase result) seat.new) }
 {
     let StepResult {
         event: _,
@@ -115,11 +98,9 @@ pub fn find<P: PendingOp>(
     requires known { (word, touch) ≡ next_of (P.as_phase under_way) (Ok tt) }
     requires unasked { call_at (P.as_phase under_way) ≡ None }
     requires leaves { (found : ℕ) → accesses.now ≡ accesses_after accesses.now (after_of (P.as_phase under_way) found (Ok tt)).1 }
-    requires table { seat.old.table_id ≡ gates.now.table.shared.table_id }
-    requires agrees { StateAgrees gates.now.config None (Some (P.as_phase under_way)) accesses.now seat.old.me.0.items }
-    ensures slots { seat.new.me.1 ≡ seat.old.me.1 }
-    ensures led { KnownSteps gates.now.config None accesses.now (Go (P.as_phase under_way)) seat.old.table_id seat.old.me.0
-        (after_of (P.as_phase under_way) result (Ok tt)).0 seat.new.table_id seat.new.me.0 }
+    requires stands { Stands gates.now None (Go (P.as_phase under_way)) accesses.now seat.old }
+    ensures led { Led gates.now None (Go (P.as_phase under_way)) accesses.now seat.old (after_of (P.as_phase under_way) result (Ok tt)).0
+        accesses.now seat.new }
     ensures items { seat.new.me.0.items ≡ items_after None (P.as_phase under_way) (Ok tt) result seat.old.me.0.items }
 {
     let _ = accesses;
@@ -140,11 +121,9 @@ pub fn find_first<P: PendingOp>(
     requires known { (word, touch) ≡ next_of (P.as_phase under_way) (Ok tt) }
     requires unasked { call_at (P.as_phase under_way) ≡ None }
     requires leaves { (found : ℕ) → accesses.now ≡ accesses_after accesses.now (after_of (P.as_phase under_way) found (Ok tt)).1 }
-    requires table { seat.old.table_id ≡ gates.now.table.shared.table_id }
-    requires agrees { StateAgrees gates.now.config (Some op) (Some (P.as_phase under_way)) accesses.now seat.old.me.0.items }
-    ensures slots { seat.new.me.1 ≡ seat.old.me.1 }
-    ensures led { KnownSteps gates.now.config (Some op) accesses.now (Go (P.as_phase under_way)) seat.old.table_id seat.old.me.0
-        (after_of (P.as_phase under_way) result (Ok tt)).0 seat.new.table_id seat.new.me.0 }
+    requires stands { Stands gates.now (Some op) (Go (P.as_phase under_way)) accesses.now seat.old }
+    ensures led { Led gates.now (Some op) (Go (P.as_phase under_way)) accesses.now seat.old (after_of (P.as_phase under_way) result (Ok tt)).0
+        accesses.now seat.new }
     ensures items { seat.new.me.0.items ≡ items_after (Some op) (P.as_phase under_way) (Ok tt) result seat.old.me.0.items }
 {
     let _ = accesses;
@@ -164,11 +143,9 @@ pub fn find_asking<P: PendingOp, H: TimedHooks>(
 ) -> Result<(), u16>
     requires wanted { call_at (P.as_phase under_way) ≡ Some call }
     requires leaves { (found : ℕ) (hook : HookAnswer) → accesses.now ≡ accesses_after accesses.now (after_of (P.as_phase under_way) found hook).1 }
-    requires table { seat.old.table_id ≡ gates.now.table.shared.table_id }
-    requires agrees { StateAgrees gates.now.config None (Some (P.as_phase under_way)) accesses.now seat.old.me.0.items }
-    ensures slots { seat.new.me.1 ≡ seat.old.me.1 }
-    ensures led { (found : ℕ) × KnownStepsAsking H.answers gates.now.config None accesses.now (Go (P.as_phase under_way)) seat.old.table_id
-        seat.old.me.0 hooks.old (after_of (P.as_phase under_way) found result).0 seat.new.table_id seat.new.me.0 hooks.new }
+    requires stands { Stands gates.now None (Go (P.as_phase under_way)) accesses.now seat.old }
+    ensures { (found : ℕ) × LedAsking H.answers gates.now None (Go (P.as_phase under_way)) accesses.now seat.old hooks.old
+        (after_of (P.as_phase under_way) found result).0 accesses.now seat.new hooks.new }
 {
     let _ = accesses;
     let answer = hooks.ask(call, seat);

@@ -67,6 +67,7 @@ fn wanted(writers: u32, rounds: u32, freezes: u32) -> Totals {
     Totals {
         grown: u64::from(writers.saturating_mul(rounds)),
         frozen: u64::from(freezes),
+        gave_up: None,
         snapshots: u64::from(freezes),
         remounts: u64::from(rounds),
         held: 0,
@@ -105,6 +106,58 @@ fn is_watched<R: Threads + Wait + Sync + Alloc<A = Global>>(rt: &R) -> bool {
     is_counted && held == 200 && frozen == 3
 }
 
+/// A writer that stays inside for a while, so that a freeze meets it there.
+#[derive(Drop)]
+struct Lingering {}
+
+impl Meeting for Lingering {
+    fn holding(&self, _task: u8, _round: u32) {
+        for _turn in 0..LINGERS {
+            thread::yield_now();
+        }
+    }
+}
+
+/// How often a lingering writer leaves the processor to others.
+const LINGERS: u32 = 1_000;
+
+/// How many runs are made at most until a freeze has met such a writer. Threads decide whether one does: nearly always in the first run.
+const RUNS: u32 = 10;
+
+/// How many freezes a run has: so many that its writer has begun long before the last.
+const FREEZES: u32 = 1_000;
+
+/// Whether each run counts all its freezes without patience, as granted or given up, until one gave up.
+fn gives_up<R: Threads + Wait + Sync + Alloc<A = Global>>(rt: &R) -> bool {
+    let Ok(plan) = Plan::new(3, 1, 4, FREEZES) else {
+        return false;
+    };
+    for _run in 0..RUNS {
+        let Ok((totals, details, _)) = run_plan(
+            rt,
+            rt.alloc(),
+            plan.with_patience(Some(0)),
+            &Lingering {},
+        ) else {
+            return false;
+        };
+        let gave_up = u64::from(details.copies.gave_up);
+        let counted = Totals {
+            frozen: totals.frozen,
+            gave_up: Some(u64::from(FREEZES).saturating_sub(totals.frozen)),
+            snapshots: totals.frozen,
+            ..wanted(1, 4, 0)
+        };
+        if totals != counted || totals.gave_up != Some(gave_up) {
+            return false;
+        }
+        if gave_up > 0 {
+            return true;
+        }
+    }
+    true
+}
+
 /// Whether a run may have 64 tasks.
 fn has_many<R: Threads + Wait + Sync + Alloc<A = Global>>(rt: &R) -> bool {
     match run_with(rt, rt.alloc(), 64, 64, 1, 1, &()) {
@@ -125,6 +178,15 @@ fn writers_hold_write_access_at_the_same_time(rt: HostRuntime) -> Result<(), Fai
 #[test]
 fn runs_count_what_they_do(rt: HostRuntime) -> Result<(), Fail> {
     if is_watched(&rt) && has_many(&rt) {
+        Ok(())
+    } else {
+        Err(Fail::new("counted otherwise"))
+    }
+}
+
+#[test]
+fn runs_count_freezes_that_gave_up(rt: HostRuntime) -> Result<(), Fail> {
+    if gives_up(&rt) {
         Ok(())
     } else {
         Err(Fail::new("counted otherwise"))

@@ -10,17 +10,29 @@ pub loop-answer-init : goal.loop-answer-init
 loop-answer-init g c = record {
   table = refl;
   slots = refl;
-  agrees = c.requires.agrees;
+  agrees = c.requires.stands.agrees;
   trying = c.requires.trying;
   stay = λ number flags ghost_agrees. ghost_agrees;
   goes = λ of start goes. goes;
 }
 
-pub returns-in-Done-clause-agrees : goal.returns-in-Done-clause-agrees
-returns-in-Done-clause-agrees g c number flags ghost_agrees =
-    agrees_so number c.args.gates.now.config c.do_event-next.new.accesses flags c.do_event-next.new.seat.me.0.items _ None
-    (ap (λ n. phase_after n) (done_at g.P.PendingOp.as_phase c.do_event-next.result.next c.in-Done.answer c.in-Done.is))
-    (c.do_event-next.ensures.agrees number flags (c.loop-answer.invariant.stay number flags ghost_agrees))
+pub do_event-next-requires : goal.do_event-next-requires
+do_event-next-requires g c =
+    let now = c.loop-answer.invariant in
+    record { table = now.table ∙ c.requires.stands.table; agrees = now.agrees }
+
+pub returns-in-Done-clause-seated : goal.returns-in-Done-clause-seated
+returns-in-Done-clause-seated g c =
+    let now = c.loop-answer.invariant in
+    let left = c.do_event-next.ensures.seated in
+    record {
+      same_table = left.same_table ∙ now.table;
+      same_slots = left.same_slots ∙ now.slots;
+      agrees = λ number flags ghost_agrees.
+          agrees_so number c.args.gates.now.config c.do_event-next.new.accesses flags c.do_event-next.new.seat.me.0.items _ None
+          (ap (λ n. phase_after n) (done_at g.P.PendingOp.as_phase c.do_event-next.result.next c.in-Done.answer c.in-Done.is))
+          (left.agrees number flags (now.stay number flags ghost_agrees));
+    }
 
 pub returns-in-Done-clause-called : goal.returns-in-Done-clause-called
 returns-in-Done-clause-called g c of start goes =
@@ -45,7 +57,8 @@ loop-answer-smaller g c =
 pub loop-answer-preserved-in-Go : goal.loop-answer-preserved-in-Go
 loop-answer-preserved-in-Go g c =
     let now = c.loop-answer.invariant in
-    let left = c.do_event-next.ensures in
+    let left = c.do_event-next.ensures.seated in
+    let stepped = c.do_event-next.ensures.stepped in
     let next = map_next g.P.PendingOp.as_phase c.do_event-next.result.next in
     let is = stands_at g.P.PendingOp.as_phase c.do_event-next.result.next c.in-Go.further c.in-Go.is in
     let config = c.args.gates.now.config in
@@ -55,18 +68,19 @@ loop-answer-preserved-in-Go g c =
     let accesses = c.do_event-next.new.accesses in
     let items = c.do_event-next.new.seat.me.0.items in
     record {
-      table = left.table ∙ now.table;
-      slots = left.slots ∙ now.slots;
+      table = left.same_table ∙ now.table;
+      slots = left.same_slots ∙ now.slots;
       agrees = record { number = now.agrees.number; flags = now.agrees.flags; ghost_agrees = agrees_so _ config accesses _ items _ _ is (left.agrees _ _ now.agrees.ghost_agrees) };
-      trying = tries_so config within event action next _ left.stepped _ is now.trying;
+      trying = tries_so config within event action next _ stepped _ is now.trying;
       stay = λ number flags ghost_agrees. agrees_so number config accesses flags items _ _ is (left.agrees number flags (now.stay number flags ghost_agrees));
-      goes = λ of start goes. goes_so config within event action next _ left.stepped _ is of start (now.goes of start goes);
+      goes = λ of start goes. goes_so config within event action next _ stepped _ is of start (now.goes of start goes);
     }
 
 pub loop-answer-preserved : goal.loop-answer-preserved
 loop-answer-preserved g c =
     let now = c.loop-answer.invariant in
-    let left = c.do_event-next.ensures in
+    let left = c.do_event-next.ensures.seated in
+    let stepped = c.do_event-next.ensures.stepped in
     let next = map_next g.P.PendingOp.as_phase c.do_event-next.result.next in
     let is = stands_at g.P.PendingOp.as_phase c.do_event-next.result.next c.in-Go.further c.in-Go.is in
     let config = c.args.gates.now.config in
@@ -76,10 +90,10 @@ loop-answer-preserved g c =
     let accesses = c.do_event-next.new.accesses in
     let items = c.do_event-next.new.seat.me.0.items in
     record {
-      table = left.table ∙ now.table;
-      slots = left.slots ∙ now.slots;
+      table = left.same_table ∙ now.table;
+      slots = left.same_slots ∙ now.slots;
       agrees = record { number = now.agrees.number; flags = now.agrees.flags; ghost_agrees = agrees_so _ config accesses _ items _ _ is (left.agrees _ _ now.agrees.ghost_agrees) };
-      trying = tries_so config within event action next _ left.stepped _ is now.trying;
+      trying = tries_so config within event action next _ stepped _ is now.trying;
       stay = λ number flags ghost_agrees. agrees_so number config accesses flags items _ _ is (left.agrees number flags (now.stay number flags ghost_agrees));
-      goes = λ of start goes. goes_so config within event action next _ left.stepped _ is of start (now.goes of start goes);
+      goes = λ of start goes. goes_so config within event action next _ stepped _ is of start (now.goes of start goes);
     }

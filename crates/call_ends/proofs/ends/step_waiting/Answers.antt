@@ -3,9 +3,9 @@ use Rattle.std.proofs.Common.{◌≡◌, ℕ, ◌+◌, refl, sym, ap, ◌∙◌,
 use Rattle.std.specs.Prelude.{Some, None}
 use Rattle.access_model.specs.{Replies.{map_next}, declared.replies.Next.TheVariants.{Go, Wait}}
 use Rattle.gate_world.specs.{Views.{phase_after}, declared.operations.Op.{Op}}
-use Rattle.gate_steps.specs.call_events.{Asking.{OpUnderWayAsking, OpAfterStepAsking}, SeatedTasks.{SeatedTask, task_state}}
-use Rattle.gate_steps.specs.call_events.{Turns.{AgreesAfter}, Waited.{counted}}
-use Rattle.gate_steps.proofs.call_events.Leading.{asking_agrees}
+use Rattle.gate_steps.specs.call_events.{Asking.{OpUnderWayAsking, OpAfterStepAsking}, SeatedTasks.{SeatedTask}}
+use Rattle.gate_steps.specs.call_events.{Led.{StaysSeated, seated_at}, Waited.{counted}}
+use Rattle.gate_steps.proofs.call_events.Leading.{seated_as, seated_nowhere, seated_on, seated_stands, stands_as}
 use Rattle.call_ends.proofs.{Waited.{one_more, going_on, replied, waiting_on}, ends.step_waiting.Goals.{in-Go, in-Wait}}
 use Rattle.call_ends.proofs.ends.step_waiting.Goals as goal
 
@@ -13,27 +13,42 @@ pub loop-init : goal.loop-init
 loop-init g c = record {
   next = tt;
   finite = tt;
-  table = refl;
-  slots = refl;
-  agrees = c.requires.agrees;
-  stay = λ number flags ghost_agrees. ghost_agrees;
+  seated = seated_nowhere c.args.gates.now (map_next g.P.PendingOp.as_phase c.args.begun) c.args.accesses.now c.args.seat.now;
   went = λ of start before went. (0, refl, went);
 }
+
+pub step_asking-after-requires : goal.step_asking-after-requires
+step_asking-after-requires g c =
+    let at : phase_after (map_next g.P.PendingOp.as_phase c.loop.next) ≡ Some (g.P.PendingOp.as_phase c.match-next-2.under_way) =
+    elim c.match-next-2.branch [
+      | in-Go w ↦ ap (λ n. phase_after (map_next g.P.PendingOp.as_phase n)) w.in-Go.is ∙ ap (λ u. Some (g.P.PendingOp.as_phase u)) (sym w.under_way-is)
+      | in-Wait w ↦ ap (λ n. phase_after (map_next g.P.PendingOp.as_phase n)) w.in-Wait.is ∙ ap (λ u. Some (g.P.PendingOp.as_phase u)) (sym w.under_way-is)
+    ] in
+    stands_as at (seated_stands c.loop.invariant.seated c.requires)
+
+pub go_on_in_line-next-requires : goal.go_on_in_line-next-requires
+go_on_in_line-next-requires g c =
+    let at : phase_after (map_next g.P.PendingOp.as_phase c.loop.next) ≡ Some (g.P.PendingOp.as_phase c.match-next-2.under_way) =
+    elim c.match-next-2.branch [
+      | in-Go w ↦ ap (λ n. phase_after (map_next g.P.PendingOp.as_phase n)) w.in-Go.is ∙ ap (λ u. Some (g.P.PendingOp.as_phase u)) (sym w.under_way-is)
+      | in-Wait w ↦ ap (λ n. phase_after (map_next g.P.PendingOp.as_phase n)) w.in-Wait.is ∙ ap (λ u. Some (g.P.PendingOp.as_phase u)) (sym w.under_way-is)
+    ] in
+    seated_stands c.step_asking-after.ensures.seated (stands_as at (seated_stands c.loop.invariant.seated c.requires))
 
 pub loop-preserved : goal.loop-preserved
 loop-preserved g c =
     let now = c.loop.invariant in
     let asked = c.step_asking-after.ensures in
     let left = c.go_on_in_line-next.ensures in
-    let stands : phase_after (map_next g.P.PendingOp.as_phase c.loop.next) ≡ Some (g.P.PendingOp.as_phase c.match-next-2.under_way) =
+    let at : phase_after (map_next g.P.PendingOp.as_phase c.loop.next) ≡ Some (g.P.PendingOp.as_phase c.match-next-2.under_way) =
     elim c.match-next-2.branch [
       | in-Go w ↦ ap (λ n. phase_after (map_next g.P.PendingOp.as_phase n)) w.in-Go.is ∙ ap (λ u. Some (g.P.PendingOp.as_phase u)) (sym w.under_way-is)
       | in-Wait w ↦ ap (λ n. phase_after (map_next g.P.PendingOp.as_phase n)) w.in-Wait.is ∙ ap (λ u. Some (g.P.PendingOp.as_phase u)) (sym w.under_way-is)
     ] in
     let goes : (of : Op) (start : SeatedTask) (before : _) → OpAfterStepAsking g.H.TimedHooks.answers 0 of start before (map_next g.P.PendingOp.as_phase c.args.begun)
-    (task_state c.args.seat.now.table_id c.args.gates.now.config None (phase_after (map_next g.P.PendingOp.as_phase c.args.begun)) c.args.seat.now.me.0)
+    (seated_at c.args.gates.now None (map_next g.P.PendingOp.as_phase c.args.begun) c.args.seat.now)
     c.args.hooks.now → (waits : ℕ) × (c.match-next-2.waited ≡ counted waits) × OpUnderWayAsking g.H.TimedHooks.answers waits of start before
-    (task_state c.loop.seat.table_id c.args.gates.now.config None (Some (g.P.PendingOp.as_phase c.match-next-2.under_way)) c.loop.seat.me.0) c.loop.hooks =
+    (seated_at c.args.gates.now None (Go (g.P.PendingOp.as_phase c.match-next-2.under_way)) c.loop.seat) c.loop.hooks =
     λ of start before began.
     let had = now.went of start before began in
     elim c.match-next-2.branch [
@@ -51,22 +66,16 @@ loop-preserved g c =
     record {
       next = tt;
       finite = tt;
-      table = left.led.same_table ∙ (asked.table ∙ now.table);
-      slots = left.slots ∙ (asked.slots ∙ now.slots);
-      agrees = asking_agrees left.led asked.still;
-      stay = λ number flags ghost_agrees. left.led.agrees number flags (asked.agrees number flags
-          (subst (λ p. AgreesAfter c.args.gates.now.config None (phase_after (map_next g.P.PendingOp.as_phase c.args.begun)) c.args.accesses.now
-          c.args.seat.now.me.0.items p c.loop.accesses c.loop.seat.me.0.items) stands now.stay number flags ghost_agrees));
+      seated = seated_on (seated_as {d = Go (g.P.PendingOp.as_phase c.match-next-2.under_way)} at now.seated) (seated_on asked.seated left.seated);
       went = λ of start before began.
           let had = goes of start before began in
-          (had.0, had.1, left.led.went of start before had.0 (asked.asked had.0 of start before had.2));
+          (had.0, had.1, left.went of start before had.0 (asked.went of start before had.0 had.2));
     }
 
-pub returns-in-Done-clause-agrees : goal.returns-in-Done-clause-agrees
-returns-in-Done-clause-agrees g c =
-    subst (λ n. AgreesAfter c.args.gates.now.config None (phase_after (map_next g.P.PendingOp.as_phase c.args.begun)) c.args.accesses.now
-    c.args.seat.now.me.0.items (phase_after (map_next g.P.PendingOp.as_phase n)) c.loop.accesses c.loop.seat.me.0.items) c.in-Done.is
-    c.loop.invariant.stay
+pub returns-in-Done-clause-seated : goal.returns-in-Done-clause-seated
+returns-in-Done-clause-seated g c =
+    subst (λ n. StaysSeated c.args.gates.now None (map_next g.P.PendingOp.as_phase c.args.begun) c.args.accesses.now c.args.seat.now
+    (map_next g.P.PendingOp.as_phase n) c.loop.accesses c.loop.seat) c.in-Done.is c.loop.invariant.seated
 
 pub returns-in-Done-clause-called : goal.returns-in-Done-clause-called
 returns-in-Done-clause-called g c of start before goes =

@@ -1,31 +1,28 @@
 -- the rest goes on from where the line has led
 use Rattle.std.proofs.Common.{refl, ap, subst}
 use Rattle.std.specs.Prelude.{Some}
-use Rattle.access_model.specs.Replies.{map_next}
-use Rattle.gate_world.specs.Views.{phase_after}
-use Rattle.gate_steps.specs.call_events.Turns.{AgreesAfter}
-use Rattle.gate_steps.proofs.call_events.Leading.{asking_agrees}
+use Rattle.access_model.specs.{Replies.{map_next}, declared.replies.Next.TheVariants.{Go}}
+use Rattle.gate_steps.specs.call_events.Led.{StaysSeated}
+use Rattle.gate_steps.proofs.call_events.Leading.{asking_stands, seated_on}
 use Rattle.call_ends.proofs.Waited.{replied}
 use Rattle.call_ends.proofs.ends.wait_for_reply.Goals as goal
 
-pub step_waiting-requires-clause-agrees : goal.step_waiting-requires-clause-agrees
-step_waiting-requires-clause-agrees g c = asking_agrees c.begin_in_line-next.ensures.led c.requires.agrees
+pub step_waiting-requires : goal.step_waiting-requires
+step_waiting-requires g c = asking_stands c.begin_in_line-next.ensures c.requires
 
-pub returns-in-Done-clause-agrees : goal.returns-in-Done-clause-agrees
-returns-in-Done-clause-agrees g c =
-    subst (λ n. AgreesAfter c.args.gates.now.config (Some c.args.op) (Some (g.P.PendingOp.as_phase c.args.first)) c.args.accesses.now
-    c.args.seat.now.me.0.items (phase_after (map_next g.P.PendingOp.as_phase n)) c.args.accesses.now c.begin_in_line-next.new.seat.me.0.items) c.in-Done.is
-    c.begin_in_line-next.ensures.led.agrees
+pub returns-in-Done-clause-seated : goal.returns-in-Done-clause-seated
+returns-in-Done-clause-seated g c =
+    subst (λ n. StaysSeated c.args.gates.now (Some c.args.op) (Go (g.P.PendingOp.as_phase c.args.first)) c.args.accesses.now c.args.seat.now
+    (map_next g.P.PendingOp.as_phase n) c.args.accesses.now c.begin_in_line-next.new.seat) c.in-Done.is c.begin_in_line-next.ensures.seated
 
 pub returns-in-Done-clause-called : goal.returns-in-Done-clause-called
 returns-in-Done-clause-called g c of start before goes =
     replied g.H.TimedHooks.answers 0 0 refl (ap (λ n. map_next g.P.PendingOp.as_phase n) c.in-Done.is)
-    (c.begin_in_line-next.ensures.led.went of start before 0 goes)
+    (c.begin_in_line-next.ensures.went of start before 0 goes)
 
-pub returns-clause-agrees : goal.returns-clause-agrees
-returns-clause-agrees g c number flags ghost_agrees =
-    c.step_waiting.ensures.agrees number flags (c.begin_in_line-next.ensures.led.agrees number flags ghost_agrees)
+pub returns-clause-seated : goal.returns-clause-seated
+returns-clause-seated g c = seated_on c.begin_in_line-next.ensures.seated c.step_waiting.ensures.seated
 
 pub returns-clause-called : goal.returns-clause-called
 returns-clause-called g c of start before goes =
-    c.step_waiting.ensures.called of start before (c.begin_in_line-next.ensures.led.went of start before 0 goes)
+    c.step_waiting.ensures.called of start before (c.begin_in_line-next.ensures.went of start before 0 goes)

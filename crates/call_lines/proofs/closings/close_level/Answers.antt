@@ -2,24 +2,24 @@
 use Rattle.std.proofs.Common.{ap, sym}
 use Rattle.access_model.specs.declared.replies.Next.TheVariants.{Go}
 use Rattle.call_lines.specs.Closings.{closing_at}
-use Rattle.gate_steps.proofs.call_events.Leading.{led_on, led_to, still_agrees}
+use Rattle.gate_steps.proofs.call_events.Leading.{led_on, led_to, still_stands}
 use Rattle.call_lines.proofs.closings.close_level.Goals as goal
 
-pub block-requires-clause-agrees : goal.block-requires-clause-agrees
-block-requires-clause-agrees c =
-    still_agrees (led_to (ap (λ s. Go (closing_at c.args.freeze.now c.args.level s)) c.in-SetsBlock.is) c.enter.ensures.led) c.requires.agrees
+pub block-requires : goal.block-requires
+block-requires c =
+    still_stands (led_to (ap (λ s. Go (closing_at c.args.freeze.now c.args.level s)) c.in-SetsBlock.is) c.enter.ensures) c.requires
 
-pub returns-in-SetsBlock-clause-led : goal.returns-in-SetsBlock-clause-led
-returns-in-SetsBlock-clause-led c =
-    led_on (led_to (ap (λ s. Go (closing_at c.args.freeze.now c.args.level s)) c.in-SetsBlock.is) c.enter.ensures.led) c.block.ensures.led
+pub returns-in-SetsBlock : goal.returns-in-SetsBlock
+returns-in-SetsBlock c =
+    led_on (led_to (ap (λ s. Go (closing_at c.args.freeze.now c.args.level s)) c.in-SetsBlock.is) c.enter.ensures) c.block.ensures
 
-pub pass-requires-clause-agrees : goal.pass-requires-clause-agrees
-pass-requires-clause-agrees c =
-    still_agrees (led_to (ap (λ s. Go (closing_at c.args.freeze.now c.args.level s)) c.in-AwaitsSections.is) c.enter.ensures.led) c.requires.agrees
+pub pass-requires : goal.pass-requires
+pass-requires c =
+    still_stands (led_to (ap (λ s. Go (closing_at c.args.freeze.now c.args.level s)) c.in-AwaitsSections.is) c.enter.ensures) c.requires
 
-pub returns-in-AwaitsSections-clause-led : goal.returns-in-AwaitsSections-clause-led
-returns-in-AwaitsSections-clause-led c =
-    led_on (led_to (ap (λ s. Go (closing_at c.args.freeze.now c.args.level s)) c.in-AwaitsSections.is) c.enter.ensures.led) c.pass.ensures.led
+pub returns-in-AwaitsSections : goal.returns-in-AwaitsSections
+returns-in-AwaitsSections c =
+    led_on (led_to (ap (λ s. Go (closing_at c.args.freeze.now c.args.level s)) c.in-AwaitsSections.is) c.enter.ensures) c.pass.ensures
 
-pub returns-in_default-clause-led : goal.returns-in_default-clause-led
-returns-in_default-clause-led c = led_to (sym c.leave_to.ensures) c.enter.ensures.led
+pub returns-in_default : goal.returns-in_default
+returns-in_default c = led_to (sym c.leave_to.ensures) c.enter.ensures

@@ -4,10 +4,10 @@ use Rattle.gate_steps.proofs.call_events.Leading.{led_to}
 use Rattle.call_lines.proofs.Closing.{all_summed, some_summed}
 use Rattle.call_lines.proofs.closings.sum.Goals as goal
 
-pub returns-then-sum_counts-clause-led : goal.returns-then-sum_counts-clause-led
-returns-then-sum_counts-clause-led c =
-    led_to (all_summed c.args.freeze.now c.args.level c.sum_counts.result c.if-sum_counts.true) c.sum_counts.ensures.led
+pub returns-then-sum_counts : goal.returns-then-sum_counts
+returns-then-sum_counts c =
+    led_to (all_summed c.args.freeze.now c.args.level c.sum_counts.result c.if-sum_counts.true) c.sum_counts.ensures
 
-pub returns-clause-led : goal.returns-clause-led
-returns-clause-led c =
-    led_to (some_summed c.args.freeze.now c.args.level c.sum_counts.result c.if-sum_counts.false ∙ sym c.leave_to_ask.ensures) c.sum_counts.ensures.led
+pub returns : goal.returns
+returns c =
+    led_to (some_summed c.args.freeze.now c.args.level c.sum_counts.result c.if-sum_counts.false ∙ sym c.leave_to_ask.ensures) c.sum_counts.ensures

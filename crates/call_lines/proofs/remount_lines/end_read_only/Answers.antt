@@ -1,14 +1,14 @@
 -- the stores go on from what `reconfigure` has answered
 use Rattle.std.proofs.Common.{refl}
-use Rattle.gate_steps.proofs.call_events.Leading.{asking_on, asking_agrees, led_on, led_unasked, still_agrees}
+use Rattle.gate_steps.proofs.call_events.Leading.{asking_on, asking_stands, led_on, led_unasked, still_stands}
 use Rattle.call_lines.proofs.remount_lines.end_read_only.Goals as goal
 
-pub find-cleared-requires-clause-agrees : goal.find-cleared-requires-clause-agrees
-find-cleared-requires-clause-agrees g c = asking_agrees c.in_default.ensures.led.1 c.requires.agrees
+pub find-cleared-requires-clause-stands : goal.find-cleared-requires-clause-stands
+find-cleared-requires-clause-stands g c = asking_stands c.in_default.ensures.1 c.requires
 
-pub release-requires-clause-agrees : goal.release-requires-clause-agrees
-release-requires-clause-agrees g c = still_agrees c.find-cleared.ensures.led (asking_agrees c.in_default.ensures.led.1 c.requires.agrees)
+pub release-requires : goal.release-requires
+release-requires g c = still_stands c.find-cleared.ensures.led (asking_stands c.in_default.ensures.1 c.requires)
 
-pub returns-clause-led : goal.returns-clause-led
-returns-clause-led g c =
-    asking_on c.in_default.ensures.led.1 (led_unasked (led_on c.find-cleared.ensures.led c.release.ensures.led) refl)
+pub returns : goal.returns
+returns g c =
+    asking_on c.in_default.ensures.1 (led_unasked (led_on c.find-cleared.ensures.led c.release.ensures) refl)

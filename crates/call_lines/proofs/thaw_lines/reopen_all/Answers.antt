@@ -1,28 +1,28 @@
 -- each level goes on from what the one above it left
 use Rattle.std.proofs.Common.{sym}
-use Rattle.gate_steps.proofs.call_events.Leading.{led_on, led_to, still_agrees}
+use Rattle.gate_steps.proofs.call_events.Leading.{led_on, led_to, still_stands}
 use Rattle.call_lines.proofs.thaw_lines.reopen_all.Goals as goal
 
-pub reopen-requires-clause-agrees : goal.reopen-requires-clause-agrees
-reopen-requires-clause-agrees c = still_agrees c.find-stored.ensures.led c.requires.agrees
+pub reopen-requires : goal.reopen-requires
+reopen-requires c = still_stands c.find-stored.ensures.led c.requires
 
-pub returns-then-not-reopen-clause-led : goal.returns-then-not-reopen-clause-led
-returns-then-not-reopen-clause-led c = led_to (sym c.exit_again.ensures) (led_on c.find-stored.ensures.led c.if-not-reopen.ensures.led)
+pub returns-then-not-reopen : goal.returns-then-not-reopen
+returns-then-not-reopen c = led_to (sym c.exit_again.ensures) (led_on c.find-stored.ensures.led c.if-not-reopen.ensures)
 
-pub reopen-requires-2-clause-agrees : goal.reopen-requires-2-clause-agrees
-reopen-requires-2-clause-agrees c = still_agrees (led_on c.find-stored.ensures.led c.if-not-reopen.ensures.led) c.requires.agrees
+pub reopen-requires-2 : goal.reopen-requires-2
+reopen-requires-2 c = still_stands (led_on c.find-stored.ensures.led c.if-not-reopen.ensures) c.requires
 
-pub returns-then-not-reopen-2-clause-led : goal.returns-then-not-reopen-2-clause-led
-returns-then-not-reopen-2-clause-led c = led_to (sym c.exit_again-then-not-reopen-2.ensures) (led_on (led_on c.find-stored.ensures.led c.if-not-reopen.ensures.led) c.if-not-reopen-2.ensures.led)
+pub returns-then-not-reopen-2 : goal.returns-then-not-reopen-2
+returns-then-not-reopen-2 c = led_to (sym c.exit_again-then-not-reopen-2.ensures) (led_on (led_on c.find-stored.ensures.led c.if-not-reopen.ensures) c.if-not-reopen-2.ensures)
 
-pub reopen-requires-3-clause-agrees : goal.reopen-requires-3-clause-agrees
-reopen-requires-3-clause-agrees c = still_agrees (led_on (led_on c.find-stored.ensures.led c.if-not-reopen.ensures.led) c.if-not-reopen-2.ensures.led) c.requires.agrees
+pub reopen-requires-3 : goal.reopen-requires-3
+reopen-requires-3 c = still_stands (led_on (led_on c.find-stored.ensures.led c.if-not-reopen.ensures) c.if-not-reopen-2.ensures) c.requires
 
-pub returns-then-not-reopen-3-clause-led : goal.returns-then-not-reopen-3-clause-led
-returns-then-not-reopen-3-clause-led c = led_to (sym c.exit_again-then-not-reopen-3.ensures) (led_on (led_on (led_on c.find-stored.ensures.led c.if-not-reopen.ensures.led) c.if-not-reopen-2.ensures.led) c.if-not-reopen-3.ensures.led)
+pub returns-then-not-reopen-3 : goal.returns-then-not-reopen-3
+returns-then-not-reopen-3 c = led_to (sym c.exit_again-then-not-reopen-3.ensures) (led_on (led_on (led_on c.find-stored.ensures.led c.if-not-reopen.ensures) c.if-not-reopen-2.ensures) c.if-not-reopen-3.ensures)
 
-pub find-freed-requires-clause-agrees : goal.find-freed-requires-clause-agrees
-find-freed-requires-clause-agrees c = still_agrees (led_on (led_on (led_on c.find-stored.ensures.led c.if-not-reopen.ensures.led) c.if-not-reopen-2.ensures.led) c.if-not-reopen-3.ensures.led) c.requires.agrees
+pub find-freed-requires-clause-stands : goal.find-freed-requires-clause-stands
+find-freed-requires-clause-stands c = still_stands (led_on (led_on (led_on c.find-stored.ensures.led c.if-not-reopen.ensures) c.if-not-reopen-2.ensures) c.if-not-reopen-3.ensures) c.requires
 
-pub returns-clause-led : goal.returns-clause-led
-returns-clause-led c = led_on (led_on (led_on (led_on c.find-stored.ensures.led c.if-not-reopen.ensures.led) c.if-not-reopen-2.ensures.led) c.if-not-reopen-3.ensures.led) c.find-freed.ensures.led
+pub returns : goal.returns
+returns c = led_on (led_on (led_on (led_on c.find-stored.ensures.led c.if-not-reopen.ensures) c.if-not-reopen-2.ensures) c.if-not-reopen-3.ensures) c.find-freed.ensures.led

@@ -1,6 +1,6 @@
 -- the reopening goes on from what `unfreeze_fs` has answered
 use Rattle.std.proofs.Common.{refl}
-use Rattle.gate_steps.proofs.call_events.Leading.{asking_on, asking_agrees, led_unasked}
+use Rattle.gate_steps.proofs.call_events.Leading.{asking_on, asking_stands, led_unasked}
 use Rattle.call_lines.proofs.Reopening.{leaves_last}
 use Rattle.call_lines.proofs.thaw_lines.thaw_last.Goals as goal
 
@@ -8,10 +8,10 @@ pub find_asking-answer-requires-clause-leaves : goal.find_asking-answer-requires
 find_asking-answer-requires-clause-leaves g c =
     λ found hook. leaves_last c.args.thaw c.args.accesses.now found hook
 
-pub reopen_all-requires-clause-agrees : goal.reopen_all-requires-clause-agrees
-reopen_all-requires-clause-agrees g c =
-    asking_agrees c.in_default.ensures.led.1 c.requires.agrees
+pub reopen_all-requires : goal.reopen_all-requires
+reopen_all-requires g c =
+    asking_stands c.in_default.ensures.1 c.requires
 
-pub returns-clause-led : goal.returns-clause-led
-returns-clause-led g c =
-    asking_on c.in_default.ensures.led.1 (led_unasked c.reopen_all.ensures.led refl)
+pub returns : goal.returns
+returns g c =
+    asking_on c.in_default.ensures.1 (led_unasked c.reopen_all.ensures refl)

@@ -1,10 +1,13 @@
 -- the second event goes on from what the first one left
+use Rattle.std.proofs.Common.{refl}
+use Rattle.std.specs.Prelude.{Ok}
+use Rattle.gate_steps.proofs.call_events.Leading.{led_on, led_once, seated_stands}
 use Rattle.fast_paths.proofs.writes.give_in_line.Goals as goal
 
-pub returns-clause-agrees : goal.returns-clause-agrees
-returns-clause-agrees c number flags ghost_agrees = c.step_if_at.ensures.agrees number flags (c.step_once-next.ensures.agrees number flags ghost_agrees)
+pub step_if_at-requires : goal.step_if_at-requires
+step_if_at-requires c = seated_stands c.step_once-next.ensures.seated c.requires
 
-pub returns-clause-went : goal.returns-clause-went
-returns-clause-went c waits op start goes =
-    c.step_if_at.ensures.went waits op start
-    (c.step_once-next.ensures.went waits op start goes)
+pub returns : goal.returns
+returns c =
+    led_on (led_once (Ok tt) refl c.step_once-next.ensures.seated c.step_once-next.ensures.asks)
+    c.step_if_at.ensures

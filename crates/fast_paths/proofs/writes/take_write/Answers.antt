@@ -1,55 +1,60 @@
 -- each event of the line goes on from what the one before it left
-use Rattle.std.proofs.Common.{sym, subst, arith}
-use Rattle.std.specs.Prelude.{None}
-use Rattle.gate_world.specs.Views.{phase_after}
-use Rattle.gate_steps.specs.call_events.{SeatedTasks.{task_state}, GhostAgrees.{GhostAgrees}, Turns.{state_at, of_write}}
-use Rattle.gate_steps.specs.call_events.Waited.{OpAfterStepWaiting}
-use Rattle.fast_paths.proofs.Entering.{led_waiting, led_sync, led_idle}
+use Rattle.std.proofs.Common.{refl, sym, ap, arith}
+use Rattle.std.specs.Prelude.{Ok}
+use Rattle.access_model.specs.declared.replies.Next.TheVariants.{Go}
+use Rattle.composite_ops.specs.declared.write_access.phases.WritePhase.{WritePhase}
+use Rattle.gate_world.specs.declared.work.Phase.TheVariants.{Writes}
+use Rattle.gate_steps.specs.call_events.Turns.{of_write}
+use Rattle.gate_steps.proofs.call_events.Leading.{led_on, led_once, led_to, seated_stands, stands_from, still_stands}
+use Rattle.fast_paths.proofs.Entering.{led_entered, led_sync, led_idle}
 use Rattle.fast_paths.proofs.writes.take_write.Goals as goal
 
-pub returns-then-found-ne0-clause-went : goal.returns-then-found-ne0-clause-went
-returns-then-found-ne0-clause-went c waits op start goes =
-    subst (λ n. OpAfterStepWaiting waits op start (of_write n) (task_state c.find-found.new.seat.table_id c.args.gates.now.config None
-    (phase_after (of_write n)) c.find-found.new.seat.me.0)) (sym c.leave_at_sync.ensures)
-    (led_waiting (led_sync c.args.mount c.args.cpu c.args.task c.find_first-section.result c.find-found.result c.taking_at-phase.ensures
-    c.taking_at-phase-2.ensures c.find_first-section.ensures.led c.find-found.ensures.led) waits op start goes)
+pub find_first-section-requires-clause-stands : goal.find_first-section-requires-clause-stands
+find_first-section-requires-clause-stands c =
+    stands_from (ap (λ (at : WritePhase). Go (Writes at)) c.taking_at-phase.ensures) c.requires
 
-pub returns-then-is_granted-clause-agrees : goal.returns-then-is_granted-clause-agrees
-returns-then-is_granted-clause-agrees c number flags ghost_agrees =
+pub find-found-requires-clause-stands : goal.find-found-requires-clause-stands
+find-found-requires-clause-stands c =
+    still_stands (led_entered c.args.mount c.args.cpu c.args.task c.find_first-section.result c.taking_at-phase.ensures
+    c.taking_at-phase-2.ensures c.find_first-section.ensures.led) c.requires
+
+pub returns-then-found-ne0 : goal.returns-then-found-ne0
+returns-then-found-ne0 c =
+    led_to (ap (λ n. of_write n) (sym c.leave_at_sync.ensures))
+    (led_sync c.args.mount c.args.cpu c.args.task c.find_first-section.result c.find-found.result c.taking_at-phase.ensures
+    c.taking_at-phase-2.ensures c.find_first-section.ensures.led c.find-found.ensures.led)
+
+pub step_once-next-requires : goal.step_once-next-requires
+step_once-next-requires c =
     let idle = led_idle c.args.mount c.args.cpu c.args.task c.find_first-section.result c.find-found.result c.taking_at-phase.ensures
     c.taking_at-phase-2.ensures (omega arith) c.taking_at-phase-3.ensures c.find_first-section.ensures.led c.find-found.ensures.led in
-    subst (λ n. GhostAgrees number c.args.gates.now.config None (state_at (phase_after (of_write n)) c.want_then-next.new.accesses) flags
-    c.want_then-next.new.seat.me.0.items) (c.is_granted.ensures c.if-is_granted.true)
-    (c.want_then-next.ensures.agrees number flags
-    (c.step_if_at-next.ensures.agrees number flags
-    (c.step_once-next.ensures.agrees number flags
-    (idle.agrees number flags ghost_agrees))))
+    still_stands idle c.requires
 
-pub returns-then-is_granted-clause-went : goal.returns-then-is_granted-clause-went
-returns-then-is_granted-clause-went c waits op start goes =
+pub step_if_at-next-requires : goal.step_if_at-next-requires
+step_if_at-next-requires c =
     let idle = led_idle c.args.mount c.args.cpu c.args.task c.find_first-section.result c.find-found.result c.taking_at-phase.ensures
     c.taking_at-phase-2.ensures (omega arith) c.taking_at-phase-3.ensures c.find_first-section.ensures.led c.find-found.ensures.led in
-    subst (λ n. OpAfterStepWaiting waits op start (of_write n) (task_state c.want_then-next.new.seat.table_id c.args.gates.now.config None
-    (phase_after (of_write n)) c.want_then-next.new.seat.me.0)) (c.is_granted.ensures c.if-is_granted.true)
-    (c.want_then-next.ensures.went waits op start
-    (c.step_if_at-next.ensures.went waits op start
-    (c.step_once-next.ensures.went waits op start
-    (led_waiting idle waits op start goes))))
+    seated_stands c.step_once-next.ensures.seated (still_stands idle c.requires)
 
-pub returns-clause-agrees : goal.returns-clause-agrees
-returns-clause-agrees c number flags ghost_agrees =
+pub want_then-next-requires : goal.want_then-next-requires
+want_then-next-requires c =
     let idle = led_idle c.args.mount c.args.cpu c.args.task c.find_first-section.result c.find-found.result c.taking_at-phase.ensures
     c.taking_at-phase-2.ensures (omega arith) c.taking_at-phase-3.ensures c.find_first-section.ensures.led c.find-found.ensures.led in
-    c.want_then-next.ensures.agrees number flags
-    (c.step_if_at-next.ensures.agrees number flags
-    (c.step_once-next.ensures.agrees number flags
-    (idle.agrees number flags ghost_agrees)))
+    still_stands c.step_if_at-next.ensures (seated_stands c.step_once-next.ensures.seated (still_stands idle c.requires))
 
-pub returns-clause-went : goal.returns-clause-went
-returns-clause-went c waits op start goes =
+pub returns-then-is_granted : goal.returns-then-is_granted
+returns-then-is_granted c =
     let idle = led_idle c.args.mount c.args.cpu c.args.task c.find_first-section.result c.find-found.result c.taking_at-phase.ensures
     c.taking_at-phase-2.ensures (omega arith) c.taking_at-phase-3.ensures c.find_first-section.ensures.led c.find-found.ensures.led in
-    c.want_then-next.ensures.went waits op start
-    (c.step_if_at-next.ensures.went waits op start
-    (c.step_once-next.ensures.went waits op start
-    (led_waiting idle waits op start goes)))
+    led_to (ap (λ n. of_write n) (c.is_granted.ensures c.if-is_granted.true))
+    (led_on idle
+    (led_on (led_once (Ok tt) refl c.step_once-next.ensures.seated c.step_once-next.ensures.asks)
+    (led_on c.step_if_at-next.ensures c.want_then-next.ensures)))
+
+pub returns : goal.returns
+returns c =
+    let idle = led_idle c.args.mount c.args.cpu c.args.task c.find_first-section.result c.find-found.result c.taking_at-phase.ensures
+    c.taking_at-phase-2.ensures (omega arith) c.taking_at-phase-3.ensures c.find_first-section.ensures.led c.find-found.ensures.led in
+    led_on idle
+    (led_on (led_once (Ok tt) refl c.step_once-next.ensures.seated c.step_once-next.ensures.asks)
+    (led_on c.step_if_at-next.ensures c.want_then-next.ensures))

@@ -1,13 +1,13 @@
 -- what the threads did is what their tasks' numbers have in the end
 use Rattle.std.proofs.{Common.{◌≡◌, ℕ, inl, inr, sym, ◌*◌, ◌-◌, ◌≤◌, arith, subst, ap, ◌∙◌}, lemmas.Nat.{mul-le}}
 use Rattle.std.proofs.lemmas.Result.{err_from_is_err_and}
-use Rattle.std.specs.Prelude.{Err, Ok, Result, slice_index, unwrap_or}
+use Rattle.std.specs.Prelude.{Err, None, Ok, Option, Result, slice_index, unwrap_or}
 use Rattle.access_model.specs.declared.errors.GateError.{GateError, TheVariants.{NoMemory}}
 use Rattle.cpu_words.specs.{Names.{place, stride}, declared.names.WordName.TheVariants.{Used}}
 use Rattle.gate_world.specs.{declared.config.Config.{Config}, Configs.{IsWithin}}
 use Rattle.vfs_gates.specs.{TaskStates.{SeatedTask}, Ended.{EndedWith, ClosedState}, declared.Gates.{Gates}, Splitting.{Gives, HasBegun}}
-use Rattle.gate_runs.specs.{Ends.{AllJoined}, Parts.{Among, EndsAs}, Refusals.{NotStarted, RunRefused}}
-use Rattle.run_plans.specs.{Plans.{MayRun, run_config}, declared.{counts.Details.{Details}, plans.Plan.{Plan}}}
+use Rattle.gate_runs.specs.{Counts.{CountsRounds}, Ends.{AllJoined}, Parts.{Among, EndsAs}, Refusals.{NotStarted, RunRefused}}
+use Rattle.run_plans.specs.{Plans.{MayRun, run_config}, declared.{counts.{Copies.{Copies}, Details.{Details}}, plans.Plan.{Plan}}}
 use Rattle.gate_runs.proofs.Answering.{IsInOrder, file_in_order}
 use Rattle.vfs_gates.proofs.Splitting.{first_begins, gives_all}
 use Rattle.gate_runs.proofs.{Joining.{found_nothing}, Staying.{all_did_on, ends_as}}
@@ -38,6 +38,10 @@ met_so : (held : ℕ → ℕ → Type 0) (seen : ℕ → Type 0) (gates : Gates)
     (details : Details) → met ≡ Ok details → AllJoined held seen gates plan task met → AllJoined held seen gates plan task (Ok details)
 met_so held seen gates plan task met details is joined = subst (AllJoined held seen gates plan task) is joined
 
+-- with no end to its patience each freeze was granted
+all_frozen : (patience : Option ℕ) (freezes : ℕ) (copies : Copies) → CountsRounds patience freezes copies → patience ≡ None → copies.frozen ≡ freezes
+all_frozen patience freezes copies counts none = omega (arith, counts.each, counts.endless none)
+
 pub returns-clause-tells : goal.returns-clause-tells
 returns-clause-tells g c =
     let closed = c.close-closed.ensures in
@@ -50,11 +54,14 @@ returns-clause-tells g c =
       config = closed.0 ∙ (c.in_ok-gates.ensures.made.0 ∙ c.config.ensures);
       grown = grown;
       none_held = c.held_in.ensures;
-      frozen = c.from.ensures ∙ joined.copies.0;
-      snapshots = c.from-2.ensures ∙ joined.copies.1;
+      frozen = c.from.ensures;
+      gave_up = c.gave_up_told.ensures;
+      snapshots = c.from-2.ensures ∙ joined.copies.snapshots ∙ sym c.from.ensures;
+      counts = joined.copies;
+      endless = λ none. c.from.ensures ∙ all_frozen _ _ _ joined.copies none;
       remounts = c.from-3.ensures ∙ c.rounds.ensures;
       ended = closed.1.ended;
-      all = all_did_on (Among task.items) (EndsAs views) (λ s h. ends_as views task.items s closed.1.mine h) _ _ _ _ _ _ _ joined.did;
+      all = all_did_on (Among task.items) (EndsAs views) (λ s h. ends_as views task.items s closed.1.mine h) _ _ _ _ _ _ _ _ joined.did;
     }
 
 -- Who was refused where all were joined is a writer: the backup found nothing frozen or thawed by others, as the closed gates tell.

@@ -1,5 +1,6 @@
 -- the plan is what was asked for
 use Rattle.std.proofs.{Common.{◌≡◌, ℕ, refl, subst}, lemmas.Result.{err_from_is_err_and}}
+use Rattle.std.specs.Prelude.{None, Option}
 use Rattle.access_model.specs.declared.errors.GateError.TheVariants.{Invalid}
 use Rattle.run_plans.specs.{declared.plans.Plan.{Plan}, Meetings.{unseen}}
 use Rattle.gate_runs.specs.{Told.{TellsRun}, Refusals.{RunRefused}}
@@ -17,11 +18,13 @@ as_asked Says plan tasks processors rounds freezes asked says =
 
 pub returns-clause-tells : goal.returns-clause-tells
 returns-clause-tells g c =
-    let answer = c.in_ok-totals in (
+    let answer = c.in_ok-totals in
+    let Tells : Option ℕ → ℕ → ℕ → ℕ → ℕ → Type 0 = λ patience tasks processors rounds freezes.
+    TellsRun (g.M.Meeting.held c.args.meeting.now) unseen tasks processors rounds freezes patience answer.totals answer._details answer.closed in
+    let plan = c.in_ok-plan.plan in (
       answer._details,
-      as_asked (λ tasks processors rounds freezes.
-          TellsRun (g.M.Meeting.held c.args.meeting.now) unseen tasks processors rounds freezes answer.totals answer._details answer.closed)
-          c.in_ok-plan.plan c.args.tasks c.args.processors c.args.rounds c.args.freezes c.in_ok-plan.ensures.asked answer.ensures.tells,
+      as_asked (Tells None) plan c.args.tasks c.args.processors c.args.rounds c.args.freezes c.in_ok-plan.ensures.asked
+          (subst (λ p. Tells p plan.tasks plan.processors plan.rounds plan.freezes) c.in_ok-plan.ensures.patience answer.ensures.tells),
     )
 
 pub returns-in_err-totals-clause-refused : goal.returns-in_err-totals-clause-refused

@@ -6,7 +6,7 @@ use Rattle.access_model.specs.declared.errors.GateError.{GateError}
 use Rattle.access_model.specs.declared.actions.Holder.TheVariants.{User}
 use Rattle.gate_world.specs.declared.{config.Config.{Config}, views.View.{View}}
 use Rattle.run_plans.specs.declared.counts.{Copies.{Copies}, Details.{Details}, Remounts.{Remounts}, Writes.{Writes}}
-use Rattle.gate_runs.specs.{Counts.{no_copies, remounts_of}, Observers.{was_frozen, was_held}, Keeping.{HaveNotFrozen}}
+use Rattle.gate_runs.specs.{Counts.{CountsRounds, no_copies, remounts_of}, Observers.{was_frozen, was_held}, Keeping.{HaveNotFrozen}}
 use Rattle.gate_runs.specs.{Refusals.{FoundOthers, WriterRefused}, Rounds.{BackupRound, Repeats}}
 use Rattle.gate_runs.specs.Parts.{AllWrote, Among, Remounted}
 use Rattle.vfs_gates.specs.{Frozen.{MayFreeze, NeverFreezes}, Held.{own_actions}, Splitting.{Gives}, TaskStates.{own_number, spare_of}}
@@ -94,9 +94,9 @@ returns-clause-joined g c =
     let copies = c.back_up-copies.result in
     let others = c.join_workers-others.result in
     let both = c.details_of.ensures in
-    let Frozen : Copies → Type 0 = λ x. (x.frozen ≡ plan.freezes) × (x.snapshots ≡ plan.freezes) in
+    let Counts : Copies → Type 0 = λ x. CountsRounds plan.patience plan.freezes x in
     let Backs : Copies → Type 0 =
-    λ x. Repeats (BackupRound (was_frozen (g.W.RunObserver.seen c.args.watch.now))) plan.freezes (first, tt, no_copies) (last, tt, x) in
+    λ x. Repeats (BackupRound (was_frozen (g.W.RunObserver.seen c.args.watch.now)) plan.patience) plan.freezes (first, tt, no_copies) (last, tt, x) in
     let Wrote : Remounts × Writes → Type 0 =
     λ m. AllWrote (Among task.items) (was_held (g.W.RunObserver.held c.args.watch.now)) plan.processors plan.rounds 0
     (vec_len c.start_workers.new.workers - 1) tt tt m.1 in
@@ -114,7 +114,7 @@ returns-clause-joined g c =
             (omega (arith, tasks, lt, started.all, plan.within.tasks_from)),
       );
       none = joined.back.none (subst HaveNotFrozen (sym backed.stays.spare) (idle_have_not (spare_of first.items) started.gives.nothing));
-      copies = each_ok Both (λ d. Frozen d.copies) c.details_of.result (λ d is. where_ok Frozen copies d.copies is.0 backed.all) both.done;
+      copies = each_ok Both (λ d. Counts d.copies) c.details_of.result (λ d is. where_ok Counts copies d.copies is.0 backed.counts) both.done;
       did = each_ok Both _ c.details_of.result (λ d is.
           let wrote = where_ok Wrote others (remounts_of d, d.writes) is.1 joined.wrote in record {
             backup = record {

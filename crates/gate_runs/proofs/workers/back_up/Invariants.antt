@@ -1,17 +1,16 @@
--- The task comes from the gates, at rest, and may freeze, and all freezes so far were done and counted, with their snapshots and their callbacks.
-use Rattle.std.proofs.Common.{◌≡◌, ◌*◌, ◌≤◌}
+-- The task comes from the gates, at rest, and may freeze, and all rounds so far were done and counted, each with its callbacks.
+use Rattle.std.proofs.Common.{◌*◌, ◌≤◌}
 use Rattle.access_model.specs.declared.actions.Holder.TheVariants.{User}
 use Rattle.vfs_gates.specs.{Frozen.{MayFreeze}, Held.{Rests, own_actions}, TaskStates.{IsFrom}}
-use Rattle.gate_runs.specs.{Counts.{no_copies}, Rounds.{BackupRound, Repeats}}
+use Rattle.gate_runs.specs.{Counts.{CountsRounds, no_copies}, Rounds.{BackupRound, Repeats}}
 use Rattle.gate_runs.proofs.workers.back_up.Given as goal
 
-abbrev pub invariant-loop-freeze : goal.invariant-loop-freeze
-invariant-loop-freeze g l = record {
+abbrev pub invariant-loop-round : goal.invariant-loop-round
+invariant-loop-round g l = record {
   from : IsFrom l.task l.fn.gates;
   rests : Rests l.task;
   may : MayFreeze User (own_actions l.task);
-  frozen : l.copies.frozen ≡ l.freeze;
-  snapshots : l.copies.snapshots ≡ l.freeze;
-  callbacks : l.copies.callbacks ≤ 3 * l.freeze;
-  did : Repeats (BackupRound (g.W.NotedObserver.sees l.fn.watch)) l.freeze (l.fn.task, l.fn.notes, no_copies) (l.task, l.notes, l.copies);
+  counts : CountsRounds l.fn.plan.patience l.round l.copies;
+  callbacks : l.copies.callbacks ≤ 3 * l.round;
+  did : Repeats (BackupRound (g.W.NotedObserver.sees l.fn.watch) l.fn.plan.patience) l.round (l.fn.task, l.fn.notes, no_copies) (l.task, l.notes, l.copies);
 }

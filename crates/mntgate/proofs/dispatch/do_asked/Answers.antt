@@ -1,4 +1,4 @@
-use Rattle.mntgate.proofs.Asked.{outcomes_ended, replay_ended}
+use Rattle.mntgate.proofs.Asked.{history_ended, outcomes_ended, replay_ended}
 use Rattle.mntgate.proofs.dispatch.do_asked.Goals as goal
 
 pub returns-in-Outcomes : goal.returns-in-Outcomes
@@ -13,3 +13,6 @@ returns-in-Replay g c = replay_ended _ _ _ _ _ _ _ c.in-Replay.is record {
   of_file = c.run_replay.ensures.of_file;
   named = c.run_replay.ensures.named;
 }
+
+pub returns-in-Validate : goal.returns-in-Validate
+returns-in-Validate g c = history_ended _ _ _ _ _ _ _ c.in-Validate.is c.run_validation.ensures

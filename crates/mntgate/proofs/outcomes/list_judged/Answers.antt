@@ -1,5 +1,5 @@
 use Rattle.std.proofs.Common.{ap, ◌∙◌}
-use Rattle.mntgate.proofs.Listed.{own_lines, tells_as}
+use Rattle.mntgate.proofs.Listed.{own_lines, tells_as, verdicts_told}
 use Rattle.schedule_lines.specs.declared.output.Output.{Output}
 use Rattle.mntgate.proofs.outcomes.list_judged.Goals as goal
 
@@ -15,6 +15,7 @@ returns-clause-told g c = λ text pairs.
       tells = tells;
       apart = own_lines _ _ _ _ _ _ _ tells c.requires.race;
       verdicts = c.judge_claims.new.verdicts.bytes.items;
+      judging = verdicts_told _ _ _ _ _ _ _ _ _ c.new-verdicts.ensures.nothing c.in_ok-settled.ensures.whole (c.in_ok-judged.ensures.told text);
       claims = λ none. (ap (λ (o : Output). o.bytes.items) (c.in_ok-judged.ensures.nothing none) ∙ c.new-verdicts.ensures.nothing, c.in_ok-judged.ensures.holds none);
       written = (c.tell_verdicts.ensures text).printed c.in_ok-settled-2.ensures.whole;
     }

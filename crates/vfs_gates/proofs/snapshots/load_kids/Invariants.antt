@@ -8,10 +8,9 @@ use Rattle.vfs_gates.proofs.snapshots.load_kids.Given as goal
 
 abbrev pub invariant-loop-next : goal.invariant-loop-next
 invariant-loop-next l = record {
-  slots : l.seat.me.1 ≡ l.fn.seat.me.1;
   there : l.node < l.fn.snapshot.nodes;
-  noted : Noted l.fn.gates.config None l.fn.accesses (Go (snapshot_at l.fn.snapshot (LoadsKids 0))) l.fn.seat.table_id l.fn.seat.me.0
-      (λ r. r.next.kids ≡ l.fn.kids) (Go (snapshot_at l.fn.snapshot (LoadsKids l.node))) l.seat.table_id l.seat.me.0 (with_kids l.kids);
+  noted : Noted l.fn.gates None (Go (snapshot_at l.fn.snapshot (LoadsKids 0))) l.fn.accesses l.fn.seat (λ r. r.next.kids ≡ l.fn.kids)
+      (Go (snapshot_at l.fn.snapshot (LoadsKids l.node))) l.seat (with_kids l.kids);
 }
 
 abbrev pub decreases-loop-next : goal.decreases-loop-next

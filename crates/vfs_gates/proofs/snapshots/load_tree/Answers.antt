@@ -3,29 +3,29 @@ use Rattle.std.proofs.Common.{◌≡◌, refl, sym, ap, ◌∙◌}
 use Rattle.std.specs.Prelude.{Ok}
 use Rattle.access_model.specs.declared.replies.Reply.TheVariants.{Tree as TreeReply}
 use Rattle.gated_tree.specs.{declared.snapshots.SnapshotStep.TheVariants.{Releases}, Phases.{at_snapshot}, Trees.{words_of}}
-use Rattle.gate_steps.proofs.call_events.Leading.{still_agrees}
+use Rattle.gate_steps.proofs.call_events.Leading.{still_stands}
 use Rattle.vfs_gates.specs.Buffers.{BufferWords, completed, with_words, words_in}
 use Rattle.vfs_gates.proofs.Loading.{noted_as, noted_on, noted_to, unnoted}
 use Rattle.vfs_gates.proofs.snapshots.load_tree.Goals as goal
 
-pub find-freed-requires-clause-agrees : goal.find-freed-requires-clause-agrees
-find-freed-requires-clause-agrees c = still_agrees c.in_default.ensures.noted.led c.requires.agrees
+pub find-freed-requires-clause-stands : goal.find-freed-requires-clause-stands
+find-freed-requires-clause-stands c = still_stands c.in_default.ensures.led c.requires.stands
 
-pub returns-clause-noted : goal.returns-clause-noted
-returns-clause-noted c =
-    let loaded = c.in_default.ensures.noted in
+pub returns : goal.returns
+returns c =
+    let loaded = c.in_default.ensures in
     noted_as {Are = λ r. r ≡ words_in c.args.buffers.now} (λ (r : BufferWords) were. (
       ap (λ (z : BufferWords). z.next) were ∙ ap words_of (sym c.deref_mut.ensures.value),
       ap (λ (z : BufferWords). completed (with_words (words_of c.load_words.new.tree) z)) were ∙ sym c.complete.ensures,
     ))
     (noted_on loaded (λ r were. refl)
     (unnoted {Were = λ r. r ≡ r} (at_snapshot c.args.snapshot (Releases (Ok TreeReply))) c.find-freed.result (λ r. refl) refl
-    c.find-freed.ensures.led c.find-freed.ensures.items (still_agrees loaded.led c.requires.agrees)))
+    c.find-freed.ensures.led c.find-freed.ensures.items (still_stands loaded.led c.requires.stands)))
 
-pub returns-in-Some-clause-noted : goal.returns-in-Some-clause-noted
-returns-in-Some-clause-noted c =
+pub returns-in-Some : goal.returns-in-Some
+returns-in-Some c =
     noted_as {Are = λ r. r ≡ words_in c.args.buffers.now} (λ (r : BufferWords) were. (
       ap (λ (z : BufferWords). z.next) were ∙ ap words_of (sym c.deref_mut.ensures.value),
       ap (λ (z : BufferWords). with_words (words_of c.load_words.new.tree) z) were,
     ))
-    (noted_to (sym c.leave_at_node.ensures) c.in-Some.ensures.noted)
+    (noted_to (sym c.leave_at_node.ensures) c.in-Some.ensures)

@@ -4,7 +4,7 @@ use Rattle.std.specs.Prelude.{length}
 use Rattle.gated_tree.specs.declared.{snapshots.SnapshotStep.TheVariants.{LoadsUsed}, trees.{Tree.{Tree}, TreeWords.{TreeWords}}}
 use Rattle.gated_tree.specs.{Lending.{with_kids as kids_lent, with_nodes as nodes_lent}, Phases.{at_snapshot}, Trees.{words_of}}
 use Rattle.gated_tree.proofs.Lent.{words_with_kids, words_with_nodes}
-use Rattle.gate_steps.proofs.call_events.Leading.{still_agrees}
+use Rattle.gate_steps.proofs.call_events.Leading.{still_stands}
 use Rattle.vfs_gates.specs.Buffers.{BufferWords, completed, with_words}
 use Rattle.vfs_gates.proofs.Loading.{noted_as, noted_on, taking_leaves, used_noted}
 use Rattle.vfs_gates.proofs.snapshots.load_words.Goals as goal
@@ -12,11 +12,11 @@ use Rattle.vfs_gates.proofs.snapshots.load_words.Goals as goal
 pub find-used-requires-clause-leaves : goal.find-used-requires-clause-leaves
 find-used-requires-clause-leaves c found = taking_leaves c.args.accesses.now (at_snapshot c.args.snapshot LoadsUsed) found
 
-pub load_nodes-requires-clause-agrees : goal.load_nodes-requires-clause-agrees
-load_nodes-requires-clause-agrees c = still_agrees c.find-used.ensures.led c.requires.agrees
+pub load_nodes-requires-clause-stands : goal.load_nodes-requires-clause-stands
+load_nodes-requires-clause-stands c = still_stands c.find-used.ensures.led c.requires.stands
 
-pub returns-in-Some-clause-noted : goal.returns-in-Some-clause-noted
-returns-in-Some-clause-noted c =
+pub returns-in-Some : goal.returns-in-Some
+returns-in-Some c =
     let tree : Tree = c.load.new.self in
     let words : TreeWords = words_of c.args.tree.now in
     let nodes = c.load_nodes.new.nodes in
@@ -24,8 +24,8 @@ returns-in-Some-clause-noted c =
     words_with_nodes tree nodes (omega (arith, ap length c.nodes_mut.ensures.words)) ∙
     ap (λ (v : TreeWords). record v { nodes = nodes }) c.load.ensures in
     noted_as (λ (r : BufferWords) were. (were, ap (λ (v : TreeWords). with_words v r) (sym left)))
-    (noted_on (used_noted c.args.snapshot c.find-used.result words c.find-used.ensures.led c.find-used.ensures.items c.requires.agrees)
-    (λ r were. sym (c.nodes_mut.ensures.words ∙ ap (λ (v : TreeWords). v.nodes) c.load.ensures)) c.in-Some.ensures.noted)
+    (noted_on (used_noted c.args.snapshot c.find-used.result words c.find-used.ensures.led c.find-used.ensures.items c.requires.stands)
+    (λ r were. sym (c.nodes_mut.ensures.words ∙ ap (λ (v : TreeWords). v.nodes) c.load.ensures)) c.in-Some.ensures)
 
 pub load_kids-requires-clause-many : goal.load_kids-requires-clause-many
 load_kids-requires-clause-many c =
@@ -37,11 +37,11 @@ load_kids-requires-clause-many c =
       c.requires.many.1,
     )
 
-pub load_kids-requires-clause-agrees : goal.load_kids-requires-clause-agrees
-load_kids-requires-clause-agrees c = still_agrees c.in_default.ensures.noted.led (still_agrees c.find-used.ensures.led c.requires.agrees)
+pub load_kids-requires-clause-stands : goal.load_kids-requires-clause-stands
+load_kids-requires-clause-stands c = still_stands c.in_default.ensures.led (still_stands c.find-used.ensures.led c.requires.stands)
 
-pub returns-clause-noted : goal.returns-clause-noted
-returns-clause-noted c =
+pub returns : goal.returns
+returns c =
     let tree : Tree = c.load.new.self in
     let words : TreeWords = words_of c.args.tree.now in
     let nodes = c.load_nodes.new.nodes in
@@ -53,6 +53,6 @@ returns-clause-noted c =
     let left : words_of (kids_lent (nodes_lent tree nodes) kids) ≡ record words { used = c.find-used.result; nodes = nodes; kids = kids } =
     words_with_kids (nodes_lent tree nodes) kids (omega (arith, ap length lent)) ∙ ap (λ (v : TreeWords). record v { kids = kids }) half in
     noted_as (λ (r : BufferWords) were. (were, ap (λ (v : TreeWords). completed (with_words v r)) (sym left)))
-    (noted_on (noted_on (used_noted c.args.snapshot c.find-used.result words c.find-used.ensures.led c.find-used.ensures.items c.requires.agrees)
-    (λ r were. sym (c.nodes_mut.ensures.words ∙ ap (λ (v : TreeWords). v.nodes) c.load.ensures)) c.in_default.ensures.noted)
-    (λ r were. sym (lent ∙ ap (λ (v : TreeWords). v.kids) half)) c.load_kids.ensures.noted)
+    (noted_on (noted_on (used_noted c.args.snapshot c.find-used.result words c.find-used.ensures.led c.find-used.ensures.items c.requires.stands)
+    (λ r were. sym (c.nodes_mut.ensures.words ∙ ap (λ (v : TreeWords). v.nodes) c.load.ensures)) c.in_default.ensures)
+    (λ r were. sym (lent ∙ ap (λ (v : TreeWords). v.kids) half)) c.load_kids.ensures)

@@ -3,6 +3,6 @@ use Rattle.std.proofs.Common.{refl}
 use Rattle.gate_steps.proofs.call_events.Leading.{led_unasked}
 use Rattle.call_ends.proofs.ends.CallbackWaiting.run_fast_path.Goals as goal
 
-pub returns-clause-led : goal.returns-clause-led
-returns-clause-led g c =
-    led_unasked c.callback_in_line.ensures.led refl
+pub returns : goal.returns
+returns g c =
+    led_unasked c.callback_in_line.ensures refl

@@ -1,12 +1,12 @@
 -- the operation stands at its first step
-use Rattle.gate_steps.proofs.call_events.Leading.{asking_from, agrees_from}
+use Rattle.gate_steps.proofs.call_events.Leading.{asking_from, stands_from}
 use Rattle.call_ends.proofs.Beginning.{remount_begun}
 use Rattle.call_ends.proofs.ends.RemountWaiting.begin_in_line.Goals as goal
 
-pub remount_first-requires-clause-agrees : goal.remount_first-requires-clause-agrees
-remount_first-requires-clause-agrees g c =
-    agrees_from (remount_begun c.args.self c.requires.agrees) c.requires.agrees
+pub remount_first-requires : goal.remount_first-requires
+remount_first-requires g c =
+    stands_from (remount_begun c.args.self c.requires.agrees) c.requires
 
-pub returns-clause-led : goal.returns-clause-led
-returns-clause-led g c =
-    asking_from (remount_begun c.args.self c.requires.agrees) c.remount_first.ensures.led
+pub returns : goal.returns
+returns g c =
+    asking_from (remount_begun c.args.self c.requires.agrees) c.remount_first.ensures

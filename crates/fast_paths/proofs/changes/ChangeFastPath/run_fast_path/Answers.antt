@@ -1,14 +1,12 @@
 -- each part of the line goes on from what the one before it left
+use Rattle.gate_steps.proofs.call_events.Leading.{led_on, still_stands}
 use Rattle.fast_paths.proofs.changes.ChangeFastPath.run_fast_path.Goals as goal
 
-pub returns-clause-agrees : goal.returns-clause-agrees
-returns-clause-agrees c number flags ghost_agrees =
-    c.end_change.ensures.agrees number flags
-    (c.add_counts-next.ensures.agrees number flags
-    (c.begin_change-next.ensures.agrees number flags ghost_agrees))
+pub add_counts-next-requires : goal.add_counts-next-requires
+add_counts-next-requires c = still_stands c.begin_change-next.ensures c.requires
 
-pub returns-clause-went : goal.returns-clause-went
-returns-clause-went c waits op start goes =
-    c.end_change.ensures.went waits op start
-    (c.add_counts-next.ensures.went waits op start
-    (c.begin_change-next.ensures.went waits op start goes))
+pub end_change-requires : goal.end_change-requires
+end_change-requires c = still_stands c.add_counts-next.ensures (still_stands c.begin_change-next.ensures c.requires)
+
+pub returns : goal.returns
+returns c = led_on c.begin_change-next.ensures (led_on c.add_counts-next.ensures c.end_change.ensures)

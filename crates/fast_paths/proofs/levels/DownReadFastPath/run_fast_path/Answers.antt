@@ -1,10 +1,12 @@
 -- each event of the line goes on from what the one before it left
+use Rattle.std.proofs.Common.{refl}
+use Rattle.std.specs.Prelude.{Ok}
+use Rattle.gate_steps.proofs.call_events.Leading.{led_on, led_once, seated_stands}
 use Rattle.fast_paths.proofs.levels.DownReadFastPath.run_fast_path.Goals as goal
 
-pub returns-clause-agrees : goal.returns-clause-agrees
-returns-clause-agrees c number flags ghost_agrees =
-    c.count_in_line.ensures.agrees number flags (c.step_once-next.ensures.agrees number flags ghost_agrees)
+pub count_in_line-requires : goal.count_in_line-requires
+count_in_line-requires c = seated_stands c.step_once-next.ensures.seated c.requires
 
-pub returns-clause-went : goal.returns-clause-went
-returns-clause-went c waits op start goes =
-    c.count_in_line.ensures.went waits op start (c.step_once-next.ensures.went waits op start goes)
+pub returns : goal.returns
+returns c =
+    led_on (led_once (Ok tt) refl c.step_once-next.ensures.seated c.step_once-next.ensures.asks) c.count_in_line.ensures

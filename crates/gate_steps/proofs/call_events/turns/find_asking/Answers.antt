@@ -5,25 +5,27 @@ use Rattle.gate_steps.specs.call_events.Asking.{call_at}
 use Rattle.gate_steps.proofs.call_events.{Turning.{inside_so, acts_so}, Asking.{was_asked}, Leading.{led_asking_by}}
 use Rattle.gate_steps.proofs.call_events.turns.find_asking.Goals as goal
 
+pub touch-found-requires-clause-table : goal.touch-found-requires-clause-table
+touch-found-requires-clause-table g c = c.requires.stands.table
+
 pub touch-found-requires-clause-inside : goal.touch-found-requires-clause-inside
 touch-found-requires-clause-inside g c =
     inside_so c.args.gates.now.config c.args.gates.now.table.shared.key c.args.gates.now.key None (g.P.PendingOp.as_phase c.args.under_way)
-    c.args.accesses.now c.args.seat.now.me.0.items c.requires.agrees c.ask-answer.result
+    c.args.accesses.now c.args.seat.now.me.0.items c.requires.stands.agrees c.ask-answer.result
 
 pub touch-found-requires-clause-acts : goal.touch-found-requires-clause-acts
 touch-found-requires-clause-acts g c =
     acts_so c.args.gates.now.config c.args.gates.now.table.shared.key c.args.gates.now.key None (g.P.PendingOp.as_phase c.args.under_way)
-    c.args.accesses.now c.args.seat.now.me.0.items c.requires.agrees c.ask-answer.result
+    c.args.accesses.now c.args.seat.now.me.0.items c.requires.stands.agrees c.ask-answer.result
 
-pub returns-clause-led : goal.returns-clause-led
-returns-clause-led g c = (
+pub returns : goal.returns
+returns g c = (
   c.touch-found.result,
-  led_asking_by c.args.gates.now.config c.args.gates.now.table.shared.key c.args.gates.now.key c.args.gates.now.within None
-      (g.P.PendingOp.as_phase c.args.under_way) c.args.accesses.now c.args.seat.now.me.0 c.touch-found.new.seat.me.0 c.ask-answer.result
-      c.touch-found.result (c.next-word.result.0, c.next-word.result.1) c.next-word.ensures c.touch-found.ensures.found
-      (c.requires.leaves c.touch-found.result c.ask-answer.result) c.requires.agrees c.touch-found.ensures.event c.touch-found.ensures.moves
-      c.touch-found.new.seat.table_id c.args.seat.now.table_id c.touch-found.ensures.table g.H.TimedHooks.answers c.args.hooks.now
-      c.ask-answer.new.self
+  led_asking_by c.args.gates.now None (g.P.PendingOp.as_phase c.args.under_way) c.args.accesses.now c.args.accesses.now c.args.seat.now
+      c.touch-found.new.seat c.ask-answer.result c.touch-found.result (c.next-word.result.0, c.next-word.result.1) c.next-word.ensures
+      c.touch-found.ensures.found (c.requires.leaves c.touch-found.result c.ask-answer.result) c.requires.stands
+      c.touch-found.ensures.event c.touch-found.ensures.moves c.touch-found.ensures.table c.touch-found.ensures.slots
+      g.H.TimedHooks.answers c.args.hooks.now c.ask-answer.new.self
       (was_asked g.H.TimedHooks.answers (call_at (g.P.PendingOp.as_phase c.args.under_way)) c.args.seat.now.me.0.items c.args.call c.requires.wanted
       c.ask-answer.result c.args.hooks.now c.ask-answer.new.self c.ask-answer.result refl c.ask-answer.new.self refl c.ask-answer.ensures),
 )

@@ -3,19 +3,22 @@ use Rattle.std.specs.Prelude.{Some, Ok}
 use Rattle.gate_steps.proofs.call_events.{Turning.{inside_so, acts_so}, Leading.{led_by}}
 use Rattle.gate_steps.proofs.call_events.turns.find_first.Goals as goal
 
+pub touch-requires-clause-table : goal.touch-requires-clause-table
+touch-requires-clause-table g c = c.requires.stands.table
+
 pub touch-requires-clause-inside : goal.touch-requires-clause-inside
 touch-requires-clause-inside g c =
     inside_so c.args.gates.now.config c.args.gates.now.table.shared.key c.args.gates.now.key (Some c.args.op) (g.P.PendingOp.as_phase c.args.under_way)
-    c.args.accesses.now c.args.seat.now.me.0.items c.requires.agrees (Ok tt)
+    c.args.accesses.now c.args.seat.now.me.0.items c.requires.stands.agrees (Ok tt)
 
 pub touch-requires-clause-acts : goal.touch-requires-clause-acts
 touch-requires-clause-acts g c =
     acts_so c.args.gates.now.config c.args.gates.now.table.shared.key c.args.gates.now.key (Some c.args.op) (g.P.PendingOp.as_phase c.args.under_way)
-    c.args.accesses.now c.args.seat.now.me.0.items c.requires.agrees (Ok tt)
+    c.args.accesses.now c.args.seat.now.me.0.items c.requires.stands.agrees (Ok tt)
 
 pub returns-clause-led : goal.returns-clause-led
 returns-clause-led g c =
-    led_by c.args.gates.now.config c.args.gates.now.table.shared.key c.args.gates.now.key c.args.gates.now.within (Some c.args.op)
-    (g.P.PendingOp.as_phase c.args.under_way) c.args.accesses.now c.args.seat.now.me.0 c.touch.new.seat.me.0 (Ok tt) c.touch.result
-    (c.args.word, c.args.touch) c.requires.known c.touch.ensures.found (c.requires.leaves c.touch.result) c.requires.agrees
-    c.touch.ensures.event c.touch.ensures.moves c.touch.new.seat.table_id c.args.seat.now.table_id c.touch.ensures.table c.requires.unasked
+    led_by c.args.gates.now (Some c.args.op) (g.P.PendingOp.as_phase c.args.under_way) c.args.accesses.now c.args.accesses.now c.args.seat.now
+    c.touch.new.seat (Ok tt) c.touch.result (c.args.word, c.args.touch) c.requires.known c.touch.ensures.found
+    (c.requires.leaves c.touch.result) c.requires.stands c.touch.ensures.event c.touch.ensures.moves c.touch.ensures.table
+    c.touch.ensures.slots c.requires.unasked

@@ -1,11 +1,11 @@
 -- a call at the tree: its beginning, its events, and what the task shows then
-use Rattle.std.proofs.Common.{refl, sym, ◌∙◌}
+use Rattle.std.proofs.Common.{refl, sym, ap, ◌∙◌}
 use Rattle.access_model.specs.declared.replies.Next.TheVariants.{Done}
 use Rattle.gate_world.specs.declared.work.Phase.TheVariants.{Trees}
 use Rattle.gate_steps.specs.call_events.Runs.{the_reply}
 use Rattle.vfs_gates.proofs.{Admitting.{refused_by}, Calling.{Call, Left, call_with, is_agrees, has_begun, ghost_agrees_done, ended_at}}
 use Rattle.vfs_gates.proofs.{Rooming.{room_done}, Waiting.{left_tells, waits_for_nobody}, task.Task.call.Goals.{After-run_to_reply}}
-use Rattle.vfs_gates.specs.TaskStates.{own_number}
+use Rattle.vfs_gates.specs.TaskStates.{SeatedTask, own_number}
 use Rattle.gate_steps.proofs.call_events.Running.{was_refused, was_done, told_whole}
 use Rattle.vfs_gates.proofs.task.Task.call.Goals as goal
 
@@ -21,16 +21,20 @@ left c = record {
   accesses = c.run_to_reply.new.accesses;
   known = c.run_to_reply.new.seat.me.0;
   table = c.run_to_reply.new.seat.table_id;
-  agrees = c.run_to_reply.ensures.agrees;
+  agrees = c.run_to_reply.ensures.seated.agrees;
   waits = 0;
   went = let called = c.run_to_reply.ensures.called (call c).op (call c).start (has_begun (call c)) in
       (called, waits_for_nobody (call c).start.config (own_number (call c).start.items) (call c).op called.trace c.requires.tries called.waits);
 }
 
-pub run_to_reply-requires-clause-agrees : goal.run_to_reply-requires-clause-agrees
-run_to_reply-requires-clause-agrees c =
-    is_agrees (call_with c.args.op c.self.inside c.args.gates.now.words.config c.args.self.now c.self.view_is c.requires.from.1 c.self.invariant.0
-    c.admit.result c.admit.ensures c.in_default.not-Err (Trees c.args.first) c.requires.first)
+pub run_to_reply-requires-clause-stands : goal.run_to_reply-requires-clause-stands
+run_to_reply-requires-clause-stands c =
+    record {
+      table = ap (λ (s : SeatedTask). s.table) c.self.view_is ∙ c.requires.from.0;
+      agrees =
+          is_agrees (call_with c.args.op c.self.inside c.args.gates.now.words.config c.args.self.now c.self.view_is c.requires.from.1 c.self.invariant.0
+          c.admit.result c.admit.ensures c.in_default.not-Err (Trees c.args.first) c.requires.first);
+    }
 
 pub run_to_reply-requires-clause-trying : goal.run_to_reply-requires-clause-trying
 run_to_reply-requires-clause-trying c =
@@ -41,7 +45,7 @@ run_to_reply-requires-clause-trying c =
 pub invariant_of-self : goal.invariant_of-self
 invariant_of-self c = (
   ghost_agrees_done (call c) (left c) c.run_to_reply.result refl,
-  c.run_to_reply.ensures.slots ∙ c.self.invariant.1,
+  c.run_to_reply.ensures.seated.same_slots ∙ c.self.invariant.1,
   room_done (call c) _ c.requires.other c.self.invariant.2 (left c) c.run_to_reply.result refl,
   left_tells (call c) (left c) 0 refl,
 )

@@ -1,5 +1,5 @@
 -- a beginning, and a line of steps whose loads are noted
-use Rattle.std.proofs.Common.{◌≡◌, ◌≤◌, arith, sym, ap, subst, ◌∙◌}
+use Rattle.std.proofs.Common.{◌≡◌, ◌≤◌, arith, refl, sym, ap, subst, ◌∙◌}
 use Rattle.std.specs.Prelude.{Some}
 use Rattle.gate_steps.proofs.call_events.Onward.{stands_at, done_at}
 use Rattle.gate_steps.specs.call_events.Progress.TheVariants.{Going, Done}
@@ -7,9 +7,9 @@ use Rattle.gate_world.specs.declared.{operations.Op.TheVariants.{Snapshot as Sna
 use Rattle.gate_world.specs.declared.work.Phase.TheVariants.{Trees}
 use Rattle.gated_tree.specs.declared.snapshots.SnapshotStep.TheVariants.{Locks}
 use Rattle.vfs_gates.specs.{Noted.{of_tree, snapshot_at}, TaskStates.{SeatedTask}, Buffers.{BuffersMatch, IsSized, words_in}}
-use Rattle.vfs_gates.proofs.{Admitting.{refused_by}, AtOnce.{refused_at_once, told_at_once}}
-use Rattle.vfs_gates.proofs.Calling.{Call, Left, call_with, is_agrees, items_of, not_begun, ghost_agrees_at, ghost_agrees_done, goes_at, ended_at}
-use Rattle.vfs_gates.proofs.{Loading.{left_by, loaded_done, loaded_buffers, nodes_as_begun}, Rooming.{begun_in}, Waiting.{left_tells, once}}
+use Rattle.vfs_gates.proofs.{Admitting.{refused_by}, AtOnce.{went_so, refused_at_once, told_at_once}}
+use Rattle.vfs_gates.proofs.Calling.{Call, Left, call_with, is_agrees, has_asked_none, items_of, not_begun, ghost_agrees_at, ghost_agrees_done, goes_at, ended_at}
+use Rattle.vfs_gates.proofs.{Loading.{loaded_done, loaded_buffers, nodes_as_begun}, Rooming.{begun_in}, Waiting.{left_tells, once}}
 use Rattle.vfs_gates.proofs.task.Task.load_at_once.Goals.{After-snapshot_first-next}
 use Rattle.vfs_gates.proofs.task.Task.load_at_once.Goals as goal
 
@@ -21,18 +21,30 @@ call c =
     c.first_snapshot-first.ensures
 
 abbrev left : (c : After-snapshot_first-next) → Left (call c)
-left c = left_by (call c) (of_tree c.snapshot_first-next.result) c.snapshot_first-next.ensures.noted
+left c = record {
+  next = of_tree c.snapshot_first-next.result;
+  accesses = c.self.inside.state.accesses;
+  known = c.snapshot_first-next.new.seat.me.0;
+  table = c.snapshot_first-next.new.seat.table_id;
+  agrees = c.snapshot_first-next.ensures.led.seated.agrees;
+  waits = 0;
+  went = went_so (call c).op (call c).start c.snapshot_first-next.ensures.led (has_asked_none (call c));
+}
 
 -- as the call begins, its buffers tell of the operation's first phase
 begun : (c : After-snapshot_first-next) →
     BuffersMatch (call c).task.config.nodes (words_in c.self.inside.buffers) (Some (call c).op) (Some (call c).first) (items_of (call c))
 begun c = begun_in (call c) (words_in c.self.inside.buffers) c.self.inside.begins c.self.inside.state.phase c.self.invariant.2
 
-pub snapshot_first-next-requires-clause-agrees : goal.snapshot_first-next-requires-clause-agrees
-snapshot_first-next-requires-clause-agrees c =
-    is_agrees (call_with (SnapshotOp c.args.wait) c.self.inside c.args.gates.now.words.config c.args.self.now c.self.view_is c.requires.1
-    c.self.invariant.0 c.admit.result c.admit.ensures c.in_default.not-Err (snapshot_at c.first_snapshot-first.result Locks)
-    c.first_snapshot-first.ensures)
+pub snapshot_first-next-requires-clause-stands : goal.snapshot_first-next-requires-clause-stands
+snapshot_first-next-requires-clause-stands c =
+    record {
+      table = ap (λ (s : SeatedTask). s.table) c.self.view_is ∙ c.requires.0;
+      agrees =
+          is_agrees (call_with (SnapshotOp c.args.wait) c.self.inside c.args.gates.now.words.config c.args.self.now c.self.view_is c.requires.1
+          c.self.invariant.0 c.admit.result c.admit.ensures c.in_default.not-Err (snapshot_at c.first_snapshot-first.result Locks)
+          c.first_snapshot-first.ensures);
+    }
 
 -- there is room for as many nodes as it loads
 pub snapshot_first-next-requires-clause-many : goal.snapshot_first-next-requires-clause-many
@@ -51,8 +63,9 @@ invariant_of-self c =
     let d = (goal.at.invariant_of-self c).After-snapshot_first-next in
     let done = done_at Trees c.snapshot_first-next.result c.in-Done.answer c.in-Done.is in (
       ghost_agrees_done (call d) (left d) c.in-Done.answer done,
-      c.snapshot_first-next.ensures.slots ∙ c.self.invariant.1,
-      loaded_done (call d) _ c.snapshot_first-next.ensures.noted (begun d) c.in-Done.answer done,
+      c.snapshot_first-next.ensures.led.seated.same_slots ∙ c.self.invariant.1,
+      loaded_done (call d) (of_tree c.snapshot_first-next.result) (c.snapshot_first-next.ensures.tells (words_in c.self.inside.buffers) refl)
+          (begun d) c.in-Done.answer done,
       left_tells (call d) (left d) c.waits-self-inside.result (once (of_tree c.snapshot_first-next.result) c.waits-self-inside.result c.waits-self-inside.ensures),
     )
 
@@ -61,8 +74,9 @@ invariant_of-self-in-Go c =
     let d = (goal.at.invariant_of-self-in-Go c).After-snapshot_first-next in
     let stands = stands_at Trees c.snapshot_first-next.result c.in-Go.under_way c.in-Go.is ∙ ap (λ (p : Phase). Some p) (sym c.phase.ensures) in (
       ghost_agrees_at (call d) (left d) _ stands,
-      c.snapshot_first-next.ensures.slots ∙ c.self.invariant.1,
-      loaded_buffers (call d) _ c.snapshot_first-next.ensures.noted (begun d) _ stands,
+      c.snapshot_first-next.ensures.led.seated.same_slots ∙ c.self.invariant.1,
+      loaded_buffers (call d) (of_tree c.snapshot_first-next.result)
+          (c.snapshot_first-next.ensures.tells (words_in c.self.inside.buffers) refl) (begun d) _ stands,
       left_tells (call d) (left d) c.waits-self-inside.result (once (of_tree c.snapshot_first-next.result) c.waits-self-inside.result c.waits-self-inside.ensures),
     )
 

@@ -9,6 +9,7 @@ use Rattle.vfs_gates.proofs.{Admitting.{refused_by}, AtOnce.{went_there, refused
 use Rattle.vfs_gates.proofs.Calling.{Call, Left, call_with, is_agrees, has_asked_none, not_begun, ghost_agrees_at, ghost_agrees_done, goes_at, ended_at}
 use Rattle.vfs_gates.proofs.{Rooming.{room_at, room_done}, Waiting.{left_tells, once}}
 use Rattle.vfs_gates.proofs.task.Task.perform_at_once.Goals.{After-begin_in_line-next}
+use Rattle.vfs_gates.specs.TaskStates.{SeatedTask}
 use Rattle.vfs_gates.proofs.task.Task.perform_at_once.Goals as goal
 
 -- the call, and what its line has left
@@ -23,21 +24,25 @@ left g c = record {
   accesses = c.self.inside.state.accesses;
   known = c.begin_in_line-next.new.seat.me.0;
   table = c.begin_in_line-next.new.seat.table_id;
-  agrees = c.begin_in_line-next.ensures.led.agrees;
+  agrees = c.begin_in_line-next.ensures.seated.agrees;
   waits = 0;
-  went = went_there (call g c).op (call g c).start c.begin_in_line-next.ensures.led (has_asked_none (call g c));
+  went = went_there (call g c).op (call g c).start c.begin_in_line-next.ensures (has_asked_none (call g c));
 }
 
-pub begin_in_line-next-requires-clause-agrees : goal.begin_in_line-next-requires-clause-agrees
-begin_in_line-next-requires-clause-agrees g c =
-    is_agrees (call_with c.args.op c.self.inside c.args.gates.now.words.config c.args.self.now c.self.view_is c.requires.from.1 c.self.invariant.0
-    c.admit.result c.admit.ensures c.in_default.not-Err (g.P.PendingOp.as_phase c.args.first) c.requires.first)
+pub begin_in_line-next-requires : goal.begin_in_line-next-requires
+begin_in_line-next-requires g c =
+    record {
+      table = ap (λ (s : SeatedTask). s.table) c.self.view_is ∙ c.requires.from.0;
+      agrees =
+          is_agrees (call_with c.args.op c.self.inside c.args.gates.now.words.config c.args.self.now c.self.view_is c.requires.from.1 c.self.invariant.0
+          c.admit.result c.admit.ensures c.in_default.not-Err (g.P.PendingOp.as_phase c.args.first) c.requires.first);
+    }
 
 pub invariant_of-self : goal.invariant_of-self
 invariant_of-self g c =
     let d = (goal.at.invariant_of-self g c).After-begin_in_line-next in (
       ghost_agrees_done (call g d) (left g d) c.in-Done.answer (done_at g.P.PendingOp.as_phase c.begin_in_line-next.result c.in-Done.answer c.in-Done.is),
-      c.begin_in_line-next.ensures.slots ∙ c.self.invariant.1,
+      c.begin_in_line-next.ensures.seated.same_slots ∙ c.self.invariant.1,
       room_done (call g d) _ c.requires.other c.self.invariant.2 (left g d) c.in-Done.answer
           (done_at g.P.PendingOp.as_phase c.begin_in_line-next.result c.in-Done.answer c.in-Done.is),
       left_tells (call g d) (left g d) c.waits-self-inside.result (once (map_next g.P.PendingOp.as_phase c.begin_in_line-next.result) c.waits-self-inside.result c.waits-self-inside.ensures),
@@ -48,7 +53,7 @@ invariant_of-self-in-Go g c =
     let d = (goal.at.invariant_of-self-in-Go g c).After-begin_in_line-next in
     let stands = stands_at g.P.PendingOp.as_phase c.begin_in_line-next.result c.in-Go.under_way c.in-Go.is ∙ ap (λ (p : Phase). Some p) (sym c.phase.ensures) in (
       ghost_agrees_at (call g d) (left g d) _ stands,
-      c.begin_in_line-next.ensures.slots ∙ c.self.invariant.1,
+      c.begin_in_line-next.ensures.seated.same_slots ∙ c.self.invariant.1,
       room_at (call g d) _ c.requires.other c.self.invariant.2 (left g d) _ stands,
       left_tells (call g d) (left g d) c.waits-self-inside.result (once (map_next g.P.PendingOp.as_phase c.begin_in_line-next.result) c.waits-self-inside.result c.waits-self-inside.ensures),
     )

@@ -7,7 +7,7 @@ use Rattle.vfs_gates.proofs.Admitting.{refused_by}
 use Rattle.vfs_gates.proofs.Calling.{Call, Left, call_with, is_agrees, has_asked_none, ghost_agrees_done, ended_asking}
 use Rattle.vfs_gates.proofs.{Rooming.{room_done}, Waiting.{left_tells}, task.Task.perform_waiting.Goals.{After-wait_for_reply-answer}}
 use Rattle.gate_steps.proofs.call_events.{Asking.{was_refused_asking, was_done_asking}, Running.{told_whole}}
-use Rattle.vfs_gates.specs.TaskStates.{own_number, task_state}
+use Rattle.vfs_gates.specs.TaskStates.{SeatedTask, own_number, task_state}
 use Rattle.vfs_gates.proofs.task.Task.perform_waiting.Goals as goal
 
 -- the call, and what its events have left
@@ -29,21 +29,25 @@ left g c = record {
   accesses = c.wait_for_reply-answer.new.accesses;
   known = c.wait_for_reply-answer.new.seat.me.0;
   table = c.wait_for_reply-answer.new.seat.table_id;
-  agrees = c.wait_for_reply-answer.ensures.agrees;
+  agrees = c.wait_for_reply-answer.ensures.seated.agrees;
   waits = waits_in (call g c).start.config (own_number (call g c).start.items) (call g c).op (asking g c).0.trace;
   went = ((asking g c).0, refl);
 }
 
-pub wait_for_reply-answer-requires-clause-agrees : goal.wait_for_reply-answer-requires-clause-agrees
-wait_for_reply-answer-requires-clause-agrees g c =
-    is_agrees (call_with c.args.op c.self.inside c.args.gates.now.words.config c.args.self.now c.self.view_is c.requires.from.1 c.self.invariant.0
-    c.admit.result c.admit.ensures c.in_default.not-Err (g.P.PendingOp.as_phase c.args.first) c.requires.first)
+pub wait_for_reply-answer-requires : goal.wait_for_reply-answer-requires
+wait_for_reply-answer-requires g c =
+    record {
+      table = ap (λ (s : SeatedTask). s.table) c.self.view_is ∙ c.requires.from.0;
+      agrees =
+          is_agrees (call_with c.args.op c.self.inside c.args.gates.now.words.config c.args.self.now c.self.view_is c.requires.from.1 c.self.invariant.0
+          c.admit.result c.admit.ensures c.in_default.not-Err (g.P.PendingOp.as_phase c.args.first) c.requires.first);
+    }
 
 pub invariant_of-self : goal.invariant_of-self
 invariant_of-self g c =
     let d = (goal.at.invariant_of-self g c).After-wait_for_reply-answer in (
       ghost_agrees_done (call g d) (left g d) c.wait_for_reply-answer.result.0 refl,
-      c.wait_for_reply-answer.ensures.slots ∙ c.self.invariant.1,
+      c.wait_for_reply-answer.ensures.seated.same_slots ∙ c.self.invariant.1,
       room_done (call g d) _ c.requires.other c.self.invariant.2 (left g d) c.wait_for_reply-answer.result.0 refl,
       left_tells (call g d) (left g d) c.wait_for_reply-answer.result.1 ((asking g d).2 ∙ ap (λ n. counted n) (sym (add-zero (left g d).waits))),
     )

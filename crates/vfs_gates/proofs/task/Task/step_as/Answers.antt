@@ -10,17 +10,19 @@ use Rattle.vfs_gates.proofs.{Rooming.{FollowsBy, stepped_room}, Waiting.{noted_t
 use Rattle.vfs_gates.proofs.task.Task.step_as.Goals.{then-is_some, else-is_some}
 use Rattle.vfs_gates.proofs.task.Task.step_as.Goals as goal
 
-pub do_event-action-requires-clause-agrees : goal.do_event-action-requires-clause-agrees
-do_event-action-requires-clause-agrees g c =
+pub do_event-action-requires : goal.do_event-action-requires
+do_event-action-requires g c =
     let t = c.self.inside in
     let phase : Phase = g.P.PendingOp.as_phase c.args.under_way in
     let at : t.state.phase ≡ Some phase = ap (λ (s : SeatedTask). s.phase) c.self.view_is ∙ c.requires.at in
     let same : t.config ≡ c.args.gates.now.words.config = ap (λ (s : SeatedTask). s.config) c.self.view_is ∙ c.requires.from.1 in
     record {
-      number = t.number;
-      flags = t.spare;
-      ghost_agrees = agrees_at t.number t.begins t.spare t.seat.me.0.items t.state (Some phase)
-          c.self.invariant.0 same at;
+      table = ap (λ (s : SeatedTask). s.table) c.self.view_is ∙ c.requires.from.0;
+      agrees = record {
+        number = t.number;
+        flags = t.spare;
+        ghost_agrees = agrees_at t.number t.begins t.spare t.seat.me.0.items t.state (Some phase) c.self.invariant.0 same at;
+      };
     }
 
 pub invariant_of-self : goal.invariant_of-self
@@ -31,7 +33,7 @@ invariant_of-self g c =
     let same : t.config ≡ c.args.gates.now.words.config = ap (λ (s : SeatedTask). s.config) c.self.view_is ∙ c.requires.from.1 in
     let next : Next Phase = map_next g.P.PendingOp.as_phase c.do_event-action.result.next in
     let stands = sym (ap (λ p. p.1) c.standing-progress.ensures) in
-    let agrees = c.do_event-action.ensures.agrees t.number t.spare
+    let agrees = c.do_event-action.ensures.seated.agrees t.number t.spare
     (agrees_at t.number t.begins t.spare t.seat.me.0.items t.state (Some phase) c.self.invariant.0 same at) in
     let so_far : c.if-is_some.so_far ≡ since t.begins t.waited = elim c.if-is_some.branch [
       | then-is_some w ↦ w.so_far-is ∙ sym (since_begun t.begins t.waited (sym c.is_some.ensures ∙ w.if-is_some.true))
@@ -41,7 +43,7 @@ invariant_of-self g c =
     c.saturating_add-self-inside.ensures ∙ ((λ i. counted (so_far i + c.waits.ensures i))) in (
       agrees_at t.number None t.spare c.do_event-action.new.seat.me.0.items (state_at _ c.do_event-action.new.accesses) c.standing-progress.result.1 agrees
           (sym same) stands,
-      c.do_event-action.ensures.slots ∙ c.self.invariant.1,
+      c.do_event-action.ensures.seated.same_slots ∙ c.self.invariant.1,
       subst (λ (o : Option Phase). BuffersMatch t.config.nodes (words_in c.follow.new.self) None o c.do_event-action.new.seat.me.0.items)
           stands
           (stepped_room t.config.nodes (words_in t.buffers) (words_in c.follow.new.self) t.begins phase c.args.hook t.seat.table_id

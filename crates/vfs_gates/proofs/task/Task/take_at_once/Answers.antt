@@ -5,10 +5,11 @@ use Rattle.access_model.specs.Replies.{map_next}
 use Rattle.gate_steps.proofs.call_events.Onward.{stands_at, done_at}
 use Rattle.gate_steps.specs.call_events.Progress.TheVariants.{Going, Done}
 use Rattle.gate_world.specs.declared.work.Phase.{Phase}
-use Rattle.vfs_gates.proofs.{Admitting.{refused_by}, AtOnce.{refused_at_once, told_at_once}}
-use Rattle.vfs_gates.proofs.Calling.{Call, Left, call_with, is_agrees, has_not_waited, not_begun, ghost_agrees_at, ghost_agrees_done, goes_at, ended_at}
+use Rattle.vfs_gates.proofs.{Admitting.{refused_by}, AtOnce.{went_so, refused_at_once, told_at_once}}
+use Rattle.vfs_gates.proofs.Calling.{Call, Left, call_with, is_agrees, has_asked_none, not_begun, ghost_agrees_at, ghost_agrees_done, goes_at, ended_at}
 use Rattle.vfs_gates.proofs.{Rooming.{room_at, room_done}, Waiting.{left_tells, once}}
 use Rattle.vfs_gates.proofs.task.Task.take_at_once.Goals.{After-run_fast_path-next}
+use Rattle.vfs_gates.specs.TaskStates.{SeatedTask}
 use Rattle.vfs_gates.proofs.task.Task.take_at_once.Goals as goal
 
 -- the call, and what its line has left
@@ -23,21 +24,25 @@ left g c = record {
   accesses = c.run_fast_path-next.new.accesses;
   known = c.run_fast_path-next.new.seat.me.0;
   table = c.run_fast_path-next.new.seat.table_id;
-  agrees = c.run_fast_path-next.ensures.agrees;
+  agrees = c.run_fast_path-next.ensures.seated.agrees;
   waits = 0;
-  went = c.run_fast_path-next.ensures.went 0 (call g c).op (call g c).start (has_not_waited (call g c));
+  went = went_so (call g c).op (call g c).start c.run_fast_path-next.ensures (has_asked_none (call g c));
 }
 
-pub run_fast_path-next-requires-clause-agrees : goal.run_fast_path-next-requires-clause-agrees
-run_fast_path-next-requires-clause-agrees g c =
-    is_agrees (call_with c.args.op c.self.inside c.args.gates.now.words.config c.args.self.now c.self.view_is c.requires.from.1 c.self.invariant.0
-    c.admit.result c.admit.ensures c.in_default.not-Err (g.P.PendingOp.as_phase c.args.first) c.requires.first)
+pub run_fast_path-next-requires : goal.run_fast_path-next-requires
+run_fast_path-next-requires g c =
+    record {
+      table = ap (λ (s : SeatedTask). s.table) c.self.view_is ∙ c.requires.from.0;
+      agrees =
+          is_agrees (call_with c.args.op c.self.inside c.args.gates.now.words.config c.args.self.now c.self.view_is c.requires.from.1 c.self.invariant.0
+          c.admit.result c.admit.ensures c.in_default.not-Err (g.P.PendingOp.as_phase c.args.first) c.requires.first);
+    }
 
 pub invariant_of-self : goal.invariant_of-self
 invariant_of-self g c =
     let d = (goal.at.invariant_of-self g c).After-run_fast_path-next in (
       ghost_agrees_done (call g d) (left g d) c.in-Done.answer (done_at g.P.PendingOp.as_phase c.run_fast_path-next.result c.in-Done.answer c.in-Done.is),
-      c.run_fast_path-next.ensures.slots ∙ c.self.invariant.1,
+      c.run_fast_path-next.ensures.seated.same_slots ∙ c.self.invariant.1,
       room_done (call g d) _ c.requires.other c.self.invariant.2 (left g d) c.in-Done.answer
           (done_at g.P.PendingOp.as_phase c.run_fast_path-next.result c.in-Done.answer c.in-Done.is),
       left_tells (call g d) (left g d) c.waits-self-inside.result (once (map_next g.P.PendingOp.as_phase c.run_fast_path-next.result) c.waits-self-inside.result c.waits-self-inside.ensures),
@@ -48,7 +53,7 @@ invariant_of-self-in-Go g c =
     let d = (goal.at.invariant_of-self-in-Go g c).After-run_fast_path-next in
     let stands = stands_at g.P.PendingOp.as_phase c.run_fast_path-next.result c.in-Go.under_way c.in-Go.is ∙ ap (λ (p : Phase). Some p) (sym c.phase.ensures) in (
       ghost_agrees_at (call g d) (left g d) _ stands,
-      c.run_fast_path-next.ensures.slots ∙ c.self.invariant.1,
+      c.run_fast_path-next.ensures.seated.same_slots ∙ c.self.invariant.1,
       room_at (call g d) _ c.requires.other c.self.invariant.2 (left g d) _ stands,
       left_tells (call g d) (left g d) c.waits-self-inside.result (once (map_next g.P.PendingOp.as_phase c.run_fast_path-next.result) c.waits-self-inside.result c.waits-self-inside.ensures),
     )

@@ -1,0 +1,133 @@
+#!/usr/bin/env -S python3 -B
+"""Measures `mntgate validate` on histories of random executions, of rising length.
+
+    bench/histories.py [--tasks N] [--seed N] [--keep DIR] [--program PROGRAM] [CALLS..]
+
+PROGRAM, or bin/mntgate, plays each execution (`replay --json`) and judges the history. Task 0 freezes and thaws, remounts, changes the mount and runs
+callbacks, one call in three; the others take an access and give it back. Who moves is drawn; a return is recorded up to three moves after the last step, and
+the next call begins up to four moves later. A replay takes 1,048,576 lines, which are two a move: 30,000 calls of 3 tasks are about as many as it can
+play. Prints a row for each number of CALLS: the calls and states, seconds of processor time, and megabytes at most. With
+--keep the histories stay in DIR."""
+
+import argparse
+import json
+import os
+import random
+import re
+import subprocess
+import sys
+import tempfile
+
+ROOT = os.path.dirname(os.path.dirname(os.path.realpath(__file__)))
+TAKES = ("want 0 0", "wantwrite 0 0", "start 2 0")
+GIVES = {"want": "drop 0 0", "wantwrite": "dropwrite 0 0", "start": "end 2 0"}
+ADMINISTERS = ("remount ro", "remount rw", "change 0 ro", "change 0 rw", "freeze", "thaw", "callback 1", "callback 2", "callback 3")
+LATEST, LONGEST = 3, 4
+LIMIT = 4_000_000_000
+
+
+class Player:
+    """The gates, which play line by line."""
+
+    def __init__(self, program, tasks):
+        self.process = subprocess.Popen([program, "replay", "--json"], stdin=subprocess.PIPE, stdout=subprocess.PIPE, text=True)
+        self.process.stdin.write(f"config {tasks} 1 1 2 8\n")
+
+    def answer(self, line):
+        """What a call has answered by this line, as a history says it; None if it goes on."""
+        self.process.stdin.write(f"{line}\nwords\n")
+        self.process.stdin.flush()
+        answer = None
+        while (record := json.loads(self.process.stdout.readline()))["record"] != "words":
+            if record["record"] == "answer":
+                answer = record
+        if answer is None or answer["answer"] == "waiting":
+            return None
+        if answer["answer"] == "ok":
+            return f"ok {'ran' if answer['ran'] else 'none'}" if "ran" in answer else "ok"
+        return f"refused {answer['errno']} {answer['name']}"
+
+
+class Task:
+    """What a task is at: its call, if one is under way, what it has answered, how long that waits to be told, and what it has to give back."""
+
+    def __init__(self, number):
+        self.number, self.call, self.answer, self.wait, self.owes = number, None, None, 0, None
+
+    def draw(self, dice):
+        """Its next call."""
+        if self.owes:
+            return self.owes
+        return dice.choice(ADMINISTERS if self.number == 0 and dice.randrange(3) == 0 else TAKES)
+
+    def returned(self):
+        """It has to give back what it was granted."""
+        word = self.call.split()[0]
+        if self.answer.startswith("ok") and word in GIVES:
+            self.owes = GIVES[word]
+        elif self.answer == "ok" and self.call == "freeze":
+            self.owes = "thaw"
+        elif self.call == self.owes:
+            self.owes = None
+
+
+def draw(program, tasks, calls, dice):
+    """The lines of a history with so many calls."""
+    player, movers = Player(program, tasks), [Task(number) for number in range(tasks)]
+    lines, begun = [f"config {tasks} 1 1 2 8", "history"], 0
+    while begun < calls or any(task.call or task.owes for task in movers):
+        task = dice.choice(movers)
+        if task.call is None and (begun < calls or task.owes):
+            if task.wait:
+                task.wait -= 1
+                continue
+            task.call, begun = task.draw(dice), begun + 1
+            lines.append(f"{task.number} {task.call}")
+            task.answer = player.answer(lines[-1])
+        elif task.call and task.answer is None:
+            task.answer = player.answer(f"{task.number} step")
+            task.wait = dice.randrange(LATEST + 1)
+        elif task.call and task.wait:
+            task.wait -= 1
+        elif task.call:
+            lines.append(f"{task.number} {task.answer}")
+            task.returned()
+            task.call, task.wait = None, dice.randrange(LONGEST + 1)
+    player.process.stdin.close()
+    player.process.wait()
+    return lines
+
+
+def measure(program, path):
+    """What the program says of a history, and the seconds and megabytes that it took."""
+    with tempfile.TemporaryFile("w+") as file:
+        process = subprocess.Popen([program, "validate", "--limit", str(LIMIT), path], stdout=file, stderr=subprocess.STDOUT)
+        _, _, usage = os.wait4(process.pid, 0)
+        file.seek(0)
+        said = file.readline()
+    found = re.fullmatch(r"possible: ([\d,]+) calls; ([\d,]+) states\n", said)
+    if not found:
+        sys.exit(f"histories.py: {path}: {said}")
+    return found[1], found[2], usage.ru_utime + usage.ru_stime, usage.ru_maxrss / 1024
+
+
+def main():
+    parser = argparse.ArgumentParser(description=__doc__, formatter_class=argparse.RawDescriptionHelpFormatter)
+    parser.add_argument("--tasks", type=int, default=3)
+    parser.add_argument("--seed", type=int, default=1)
+    parser.add_argument("--keep", metavar="DIR")
+    parser.add_argument("--program", default=f"{ROOT}/bin/mntgate")
+    parser.add_argument("calls", type=int, nargs="*", default=[1_000, 10_000])
+    args = parser.parse_args()
+    print("calls     states        seconds  megabytes")
+    with tempfile.TemporaryDirectory() as folder:
+        for calls in args.calls:
+            path = f"{args.keep or folder}/{args.tasks}-{calls}.history"
+            with open(path, "w", encoding="utf-8") as file:
+                file.writelines(f"{line}\n" for line in draw(args.program, args.tasks, calls, random.Random(args.seed)))
+            begun, states, seconds, megabytes = measure(args.program, path)
+            print(f"{begun:9} {states:13} {seconds:7.1f}  {megabytes:9.0f}", flush=True)
+
+
+if __name__ == "__main__":
+    main()

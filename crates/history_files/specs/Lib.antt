@@ -1,0 +1,6 @@
+pub mod Answers
+pub mod Operations
+pub mod Records
+pub mod Faults
+pub mod Readings
+pub mod Files

@@ -1,0 +1,111 @@
+// SPDX-License-Identifier: GPL-2.0 OR MIT
+/*
+ * The file system's own parts in a freeze and a thaw. A superblock that is
+ * tested has a copy of its operations, in which these parts fail for a caller
+ * that wants it, and are the file system's else.
+ */
+#include <linux/fs.h>
+#include <linux/mutex.h>
+#include <linux/spinlock.h>
+
+#include "inner.h"
+
+/* The calls in which a part is to fail. */
+static LIST_HEAD(failings);
+static DEFINE_SPINLOCK(failings_lock);
+
+/* The superblock that is tested, and how many open files of the device it has. */
+static DEFINE_MUTEX(hooks_lock);
+static struct super_block *tested;
+static unsigned int users;
+static const struct super_operations *own;
+static struct super_operations changed;
+
+void begin_failing(struct failing *failing, u16 hook, u16 error)
+{
+	failing->caller = current;
+	failing->hook = hook;
+	failing->error = error;
+	spin_lock(&failings_lock);
+	list_add(&failing->list, &failings);
+	spin_unlock(&failings_lock);
+}
+
+void end_failing(struct failing *failing)
+{
+	spin_lock(&failings_lock);
+	list_del(&failing->list);
+	spin_unlock(&failings_lock);
+}
+
+/* The error by which this part has to fail in the caller's call, or 0. */
+static int error_of(u16 hook)
+{
+	struct failing *failing;
+	int error = 0;
+
+	spin_lock(&failings_lock);
+	list_for_each_entry(failing, &failings, list)
+		if (failing->caller == current && failing->hook == hook)
+			error = -failing->error;
+	spin_unlock(&failings_lock);
+	return error;
+}
+
+static int sync_fs(struct super_block *sb, int wait)
+{
+	int error = error_of(GATES_SYNC);
+
+	return error ? error : own->sync_fs(sb, wait);
+}
+
+static int freeze_fs(struct super_block *sb)
+{
+	int error = error_of(GATES_FREEZE_FS);
+
+	return error ? error : own->freeze_fs(sb);
+}
+
+static int unfreeze_fs(struct super_block *sb)
+{
+	int error = error_of(GATES_UNFREEZE_FS);
+
+	return error ? error : own->unfreeze_fs(sb);
+}
+
+/* Gives the superblock operations that may fail. There is one at a time. */
+int take_hooks(struct super_block *sb)
+{
+	int error = 0;
+
+	mutex_lock(&hooks_lock);
+	if (users && tested != sb) {
+		error = -EBUSY;
+	} else if (!users++) {
+		tested = sb;
+		own = sb->s_op;
+		changed = *own;
+		if (own->sync_fs)
+			changed.sync_fs = sync_fs;
+		if (own->freeze_fs)
+			changed.freeze_fs = freeze_fs;
+		if (own->unfreeze_fs)
+			changed.unfreeze_fs = unfreeze_fs;
+		/* Whoever finds ours has to find them whole. */
+		smp_store_release(&sb->s_op, &changed);
+	}
+	mutex_unlock(&hooks_lock);
+	return error;
+}
+
+/*
+ * Gives the superblock its own operations back. Whoever is in one of ours
+ * stays in this module's code, so a test ends before the module is unloaded.
+ */
+void give_hooks(struct super_block *sb)
+{
+	mutex_lock(&hooks_lock);
+	if (!--users)
+		WRITE_ONCE(sb->s_op, own);
+	mutex_unlock(&hooks_lock);
+}
