@@ -121,10 +121,10 @@ impl Meeting for Lingering {
 /// How often a lingering writer leaves the processor to others.
 const LINGERS: u32 = 1_000;
 
-/// How many runs are made at most until a freeze has met such a writer. Threads decide whether one does: nearly always in the first run.
+/// How many runs are made at most until a freeze has met such a writer. The scheduler decides whether one does.
 const RUNS: u32 = 10;
 
-/// How many freezes a run has: so many that its writer has begun long before the last.
+/// How many freezes a run has: as many as it may, since its writer's thread begins beside the first.
 const FREEZES: u32 = 1_000;
 
 /// Whether each run counts all its freezes without patience, as granted or given up, until one gave up.
