@@ -1,4 +1,4 @@
-//! What `gate_workbench measure` is compared with: the same by hand, over padded atomics with sequentially consistent steps, and with no
+//! What `bench_gates measure` is compared with: the same by hand, over padded atomics with sequentially consistent steps, and with no
 //! proof. It takes the same three words, and prints nanoseconds likewise; `bench/by-turns.py` builds it and measures both by turns.
 //! A pair is a want and a drop of a mount, a start and an end of level 1, or a taking and a return of write access, which is
 //! both. Each thread is a task of its own, at a processor of its own. Freezes and thaws are one task's, among so many tasks and processors, and so

@@ -1,5 +1,5 @@
 #!/usr/bin/env python3
-"""Measures `gate_workbench measure` and bench/by-hand.rs by turns, in the same minutes, and prints medians and ratios.
+"""Measures `bench_gates measure` and bench/by-hand.rs by turns, in the same minutes, and prints medians and ratios.
 
     bench/by-turns.py [--turns N] [--only WORD] [--program FILE] [--instructions]
 
@@ -10,7 +10,7 @@ least and the most of the N turns. --only takes the rows that have the word in t
 With --instructions callgrind counts the instructions of one pair or round in place of its time: those of 1,200 less those of 200, divided by
 1,000. They are the same whatever else the machine does. Rows of several threads and runs are left out. valgrind has to be there.
 
-gate_workbench has to be built: cd crates/gate_workbench && rt run -- --help. rustc has to be there. No proof covers these figures, and they say
+bench_gates has to be built: cd crates/bench_gates && rt run -- --help. rustc has to be there. No proof covers these figures, and they say
 little while the machine does other work: the last line has its load. The exit status is 0, 1 where a program failed, and 2 for a misuse.
 """
 
@@ -25,7 +25,7 @@ import tempfile
 from callgrind import instructions
 
 ROOT = os.path.dirname(os.path.dirname(os.path.realpath(__file__)))
-PROGRAM = f"{ROOT}/crates/gate_workbench/out/gate_workbench"
+PROGRAM = f"{ROOT}/crates/bench_gates/out/bench_gates"
 
 # Rounds of each writer in one run, in both programs.
 ROUNDS_OF_A_RUN = 10_000
@@ -82,7 +82,7 @@ def measure(programs, turns, words):
 
 def count(programs, only, folder):
     """Prints the instructions of each row that one thread does."""
-    print("| What | Size | gate_workbench | By hand |")
+    print("| What | Size | bench_gates | By hand |")
     print("|---|---|---|---|")
     for name, sizes, *_ in KINDS:
         if only not in name or name == "run":
@@ -112,7 +112,7 @@ def main():
     if asked.turns < 1:
         parser.error("there is at least one turn")
     if not os.access(asked.program, os.X_OK):
-        parser.error(f"{asked.program} is not built: cd crates/gate_workbench && rt run -- --help")
+        parser.error(f"{asked.program} is not built: cd crates/bench_gates && rt run -- --help")
     if asked.instructions and not shutil.which("valgrind"):
         parser.error("valgrind is not there, which counts the instructions")
     with tempfile.TemporaryDirectory() as folder:
@@ -123,7 +123,7 @@ def main():
         if asked.instructions:
             count(programs, asked.only, folder)
             return
-        print("| What | Size | gate_workbench | By hand | Speed | Unit |")
+        print("| What | Size | bench_gates | By hand | Speed | Unit |")
         print("|---|---|---|---|---|---|")
         for kind in KINDS:
             for size in kind[1]:

@@ -7,7 +7,7 @@ One task has all frozen and sleeps S seconds (3, if left out) before it thaws. 1
 row is the median of N turns (5, if left out): the seconds from start to end, and those of processor time, of all threads together. The program's own
 start and end, which are measured without a wait, are in neither.
 
-gate_workbench has to be built: cd crates/gate_workbench && rt run -- --help. No proof covers these figures. The exit status is 0, 1 where the program
+bench_gates has to be built: cd crates/bench_gates && rt run -- --help. No proof covers these figures. The exit status is 0, 1 where the program
 failed, and 2 for a misuse.
 """
 
@@ -19,7 +19,7 @@ import sys
 import time
 
 ROOT = os.path.dirname(os.path.dirname(os.path.realpath(__file__)))
-PROGRAM = f"{ROOT}/crates/gate_workbench/out/gate_workbench"
+PROGRAM = f"{ROOT}/crates/bench_gates/out/bench_gates"
 
 
 def measured(program, tasks, milliseconds):

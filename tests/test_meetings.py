@@ -1,11 +1,11 @@
 #!/usr/bin/env -S python3 -B
-"""Tests that crates/first_program prints the same without its meetings.
+"""Tests that crates/example_first prints the same without its meetings.
 
     tests/test_meetings.py
 
-By its meetings the contracts of crates/first_program know what the other task holds. When it runs they do nothing that shows. So a copy of the crates
+By its meetings the contracts of crates/example_first know what the other task holds. When it runs they do nothing that shows. So a copy of the crates
 is made, each line of `two_tasks.rt` goes that is a meeting, and the program is built of that without a proof and run: about a minute. It has to print
-what crates/first_program/stdout has. Prints what is wrong; the exit status is 1 then."""
+what crates/example_first/stdout has. Prints what is wrong; the exit status is 1 then."""
 
 import os
 import shutil
@@ -14,7 +14,7 @@ import sys
 import tempfile
 
 ROOT = os.path.dirname(os.path.dirname(os.path.realpath(__file__)))
-CRATE = "crates/first_program"
+CRATE = "crates/example_first"
 SOURCE = f"{CRATE}/src/two_tasks.rt"
 MEETING = "    backup.meet(gates, writer);\n"
 MEETINGS = 8

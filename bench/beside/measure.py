@@ -6,7 +6,7 @@
 PREFIX is where bin/install-c has installed the library (out/c, if left out). It needs gcc, rustc, cargo, and of Debian liburcu-dev,
 librust-parking-lot-dev and librust-crossbeam-utils-dev. A pair is taken and given back by each thread, at a processor number of its own. Figures are
 medians and, in brackets, the best, of N turns (7, if left out): by the clock, and by the processor time of the threads, which others disturb less but
-which leaves out who waits asleep. The library's own speed is that of crates/gate_workbench, if it is built (`cd crates/gate_workbench && rt run --
+which leaves out who waits asleep. The library's own speed is that of crates/bench_gates, if it is built (`cd crates/bench_gates && rt run --
 --help`): a proved program, whose compiler sees the library's code and puts it into the loop. The steps by hand are calls that aren't put into the
 loop, as the calls of C aren't. 'Speed through C' is compared with both, turn by turn, by processor time: 1.00 is as fast. --gates-only leaves out
 what a user would take instead. The last line has the machine's load.
@@ -26,7 +26,7 @@ sys.path.insert(0, f"{ROOT}/bench")
 from callgrind import instructions  # noqa: E402
 
 HERE = f"{ROOT}/bench/beside"
-WORKBENCH = f"{ROOT}/crates/gate_workbench/out/gate_workbench"
+WORKBENCH = f"{ROOT}/crates/bench_gates/out/bench_gates"
 THREADS = (1, 2, 4)
 PAIRS = 3_000_000
 # Of what one task does alone: the sizes, and how often it is done. Of a freeze these are tasks and processors, of a snapshot nodes.

@@ -21,8 +21,8 @@ use call_lines::{
     remount_first, remount_locked, reopen_all, run_callback, thaw_first, thaw_locked,
 };
 use freeze_levels::{Freeze, FreezeStep, HookCall, Thaw, ThawStep};
-use gate_events::PendingOp;
 use gate_steps::call_events::{GateWords, GhostSeat, StepResult, TimedHooks, do_event, step_once};
+use gate_transitions::PendingOp;
 use gate_world::{Accesses, Op};
 use mount_counts::{Remount, RemountStep};
 use percpu_rwsem::{Callback, CallbackStep, DownWrite};

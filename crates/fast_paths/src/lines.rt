@@ -5,8 +5,8 @@ ghost use Rattle.access_model.specs.Replies.{map_next};
 ghost use Rattle.gate_steps.specs.call_events.Led.{Led, Stands};
 
 use access_model::Next;
-use gate_events::PendingOp;
 use gate_steps::call_events::{GateWords, GhostSeat, step_once};
+use gate_transitions::PendingOp;
 use gate_world::{Accesses, Op};
 
 /// An operation under way, in a form of its own, whose usual events stand in a line.

@@ -11,7 +11,7 @@ use crate::rule::{Given, Gives, StepInputs, StepPlay, TableInvariant, TakesBack}
 use crate::seating::Knowledge;
 use atomic_table::{Seat, Shared};
 use cpu_words::{Event, STRIDE, Touch, WordName};
-use gate_events::PendingOp;
+use gate_transitions::PendingOp;
 use gate_world::{Config, Op};
 use std::marker::Brand;
 

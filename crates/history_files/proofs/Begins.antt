@@ -3,7 +3,7 @@ use Rattle.std.proofs.Common.{◌≡◌, ◌∙◌, sym, ap, ℕ, Bool, true, fa
 use Rattle.std.specs.{Prelude.{if◌then◌else◌}, Result.{OnOk}}
 use Rattle.histories.specs.declared.markers.Marker.TheVariants.{Begins}
 use Rattle.race_files.specs.{Left.{calls_left, lines_in}, declared.faults.RaceFault.TheVariants.{UnderWay}}
-use Rattle.race_programs.specs.declared.calls.Call.{Call}
+use Rattle.races.specs.declared.calls.Call.{Call}
 use Rattle.history_files.specs.{Faults.{IsToldOrMemory}, Operations.{operation_lines}, Records.{Reading, begun_at, row_among, row_of, with_begin, with_marker}}
 use Rattle.history_files.specs.declared.faults.HistoryFault.{HistoryFault, TheVariants.{Race}}
 

@@ -5,3 +5,6 @@ pub mod Begins
 pub mod Found
 pub mod Failing
 pub mod Whole
+pub mod Few
+pub mod Judged
+pub mod PrintedVerdicts

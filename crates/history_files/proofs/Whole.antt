@@ -3,7 +3,7 @@ use Rattle.std.proofs.Common.{◌≡◌, ◌⊎◌, ap, subst, ℕ, ◌+◌, Lis
 use Rattle.std.specs.Prelude.{codes}
 use Rattle.gate_core.specs.Memory.{Memory}
 use Rattle.race_files.specs.{FirstFaults.{IsFaultTold as IsSetUpFault}, Left.{Left, lines_in}, Races.{IsRaceIn}}
-use Rattle.race_programs.specs.declared.calls.Call.{Call}
+use Rattle.races.specs.declared.calls.Call.{Call}
 use Rattle.schedule_lines.specs.declared.bytes.replay_faults.ReplayFault.{ReplayFault}
 use Rattle.history_files.specs.{Faults.{FailsInRecord, IsFaultAt, IsMemory}, Files.{IsFaultTold, history_from}}
 use Rattle.history_files.specs.Files.IsFaultTold.{BeforeHistory, BehindHistory, NoMemory}

@@ -3,7 +3,7 @@ use Rattle.std.specs.Prelude.{◌≡◌, ℕ, zero, suc, ◌+◌, if◌then◌el
 use Rattle.gate_core.specs.Memory.{Memory}
 use Rattle.histories.specs.declared.markers.Marker.{Marker}
 use Rattle.race_files.specs.{FirstFaults.{IsFaultTold as IsSetUpFault}, Left.{Left, lines_in}, Races.{IsRaceIn}}
-use Rattle.race_programs.specs.declared.calls.Call.{Call}
+use Rattle.races.specs.declared.calls.Call.{Call}
 use Rattle.schedule_lines.specs.{Lines.{front_of}, declared.{bytes.replay_faults.ReplayFault.{ReplayFault}, lines.Front.TheVariants.{Line, TooLong, Part}}}
 use Rattle.history_files.specs.{Faults.{FailsInRecord, IsFaultAt, IsMemory}, Records.{Reading, reading_left}, declared.{faults.HistoryFault.{HistoryFault}, files.HistoryPlace.{HistoryPlace}}}
 

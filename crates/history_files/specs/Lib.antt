@@ -4,3 +4,5 @@ pub mod Records
 pub mod Faults
 pub mod Readings
 pub mod Files
+pub mod Verdicts
+pub mod Unjudged

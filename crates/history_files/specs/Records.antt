@@ -4,7 +4,7 @@ use Rattle.std.specs.List.{position}
 use Rattle.histories.specs.declared.markers.{Marker.{Marker, TheVariants.{Begins, Returns}}, Recorded.{Recorded}}
 use Rattle.race_files.specs.Left.{Left, calls_left, lines_in}
 use Rattle.race_files.specs.declared.faults.RaceFault.{RaceFault, TheVariants.{Schedule, CallExpected, HookTwice, UnderWay}}
-use Rattle.race_programs.specs.declared.calls.Call.{Call}
+use Rattle.races.specs.declared.calls.Call.{Call}
 use Rattle.schedule_lines.specs.{Numbers.{code_of, is_digits, number_of}, Words.{first_word, after_word, word_count}, declared.faults.Fault.{Fault, TheVariants.{BadNumber, BadWord, NoSuchTask, UnknownCommand, WrongNumberOfWords}}}
 use Rattle.schedule_text.specs.{Commands.{hook_named}, Parsing.{parsed}, declared.commands.{HookFailure.{HookFailure}, Line.{Line, TheVariants.{Skipped}}}}
 use Rattle.freeze_levels.specs.declared.hooks.HookKind.{HookKind}

@@ -7,7 +7,7 @@ ghost use Rattle.history_files.specs.declared.faults.HistoryFault.{HistoryFault 
 ghost use Rattle.race_files.specs.FirstFaults.{IsFaultTold as IsSetUpFault};
 ghost use Rattle.race_files.specs.Left.{lines_in};
 ghost use Rattle.race_files.specs.Races.{IsRaceIn, IsRecent};
-ghost use Rattle.race_programs.specs.declared.calls.Call.{Call as CallType};
+ghost use Rattle.races.specs.declared.calls.Call.{Call as CallType};
 
 use crate::faults::HistoryFault;
 use crate::operations::refused;

@@ -7,12 +7,12 @@ use Rattle.exit_status.specs.declared.ends.ProgramEnding.{ProgramEnding}
 use Rattle.gate_core.specs.Memory.{Memory}
 use Rattle.mntgate.specs.declared.unlisted.Unlisted.{Unlisted, TheVariants.{Unwritten}}
 use Rattle.mntgate.specs.Outcomes.{IsListed, IsUnlisted, IsUnlisted.{IsCutOff}, TellsAs, TellsRace, details_of, list_ending, method_of, outcomes_told}
-use Rattle.outcome_texts.specs.Outcomes.{HaveOwnTexts, IsIdle}
+use Rattle.race_outcomes.specs.Outcomes.{HaveOwnTexts, IsIdle}
 use Rattle.program_checks.specs.{Claims.{PrintsClaims, TellsClaims}, declared.claims.Judged.{Judged}}
 use Rattle.race_files.specs.{Left.{Left}, Races.{IsRaceIn}}
-use Rattle.race_programs.specs.declared.calls.Call.{Call}
+use Rattle.races.specs.declared.calls.Call.{Call}
 use Rattle.schedule_lines.specs.{bytes.Writing.{AppendsPart}, declared.{faults.Fault.TheVariants.{WriteFailed}, output.Output.{Output}}}
-use Rattle.shown_outcomes.specs.Told.{TellsAll, TellsSome}
+use Rattle.outcome_forms.specs.Told.{TellsAll, TellsSome}
 
 -- all outcomes are told, or those so far
 pub tells_as : (b : Bool) (core : Memory) (calls : List (List (Option Call))) (tasks : ℕ) (asked : Outcomes) (before after : List ℕ)

@@ -5,8 +5,8 @@ use Rattle.command_line.specs.declared.words.Validation.{Validation}
 use Rattle.exit_status.specs.declared.ends.ProgramEnding.{ProgramEnding, TheVariants.{Possible, Refused}}
 use Rattle.mntgate.specs.Validated.{AreRead, EndsValidated}
 use Rattle.mntgate.specs.Validated.EndsValidated.{IsCutOff, IsImpossible, IsPossible}
-use Rattle.program_histories.specs.Verdicts.{HasPossible, IsImpossibleAt}
-use Rattle.program_histories.specs.declared.telling.Impossible.{Impossible}
+use Rattle.history_files.specs.Verdicts.{HasPossible, IsImpossibleAt}
+use Rattle.history_files.specs.declared.telling.Impossible.{Impossible}
 use Rattle.schedule_lines.specs.bytes.Writing.{AppendsPart}
 
 -- a verdict was told

@@ -7,15 +7,15 @@ use Rattle.exit_status.specs.{Endings.{IsInput}, declared.ends.ProgramEnding.{Pr
 use Rattle.exploration.specs.declared.stops.Stop.TheVariants.{NoMemory}
 use Rattle.gate_core.specs.Memory.{Memory}
 use Rattle.mntgate.specs.declared.unlisted.Unlisted.{Unlisted, TheVariants.{BadClaim, Faulty, Stopped, Unsaved, Unwritten}}
-use Rattle.outcome_texts.specs.declared.listing.Method.{Method, TheVariants.{Full, Reduced}}
-use Rattle.outcome_texts.specs.Outcomes.{HaveOwnTexts}
+use Rattle.race_outcomes.specs.declared.listing.Method.{Method, TheVariants.{Full, Reduced}}
+use Rattle.race_outcomes.specs.Outcomes.{HaveOwnTexts}
 use Rattle.program_checks.specs.{Claims.{HasBadClaim, TellsClaims, race_lines}, declared.claims.Judged.{Judged, TheVariants.{Hold}}}
-use Rattle.race_programs.specs.declared.{calls.Call.{Call}, courses.CallAnswers.{CallAnswers}}
+use Rattle.races.specs.declared.{calls.Call.{Call}, courses.CallAnswers.{CallAnswers}}
 use Rattle.schedule_lines.specs.{bytes.Writing.{AppendsPart}, declared.faults.Fault.TheVariants.{WriteFailed}}
-use Rattle.shown_outcomes.specs.declared.details.{Details.{Details}, Schedules.{Schedules, TheVariants.{Untold, Lines, Columns}}}
-use Rattle.shown_outcomes.specs.Told.{TellsAll, TellsSome, margin_of, mark_of}
+use Rattle.outcome_forms.specs.declared.details.{Details.{Details}, Schedules.{Schedules, TheVariants.{Untold, Lines, Columns}}}
+use Rattle.outcome_forms.specs.Told.{TellsAll, TellsSome, margin_of, mark_of}
 use Rattle.race_files.specs.{Calls.{is_claim}, FirstFaults.{IsFaultTold}, Left.lines_in, Races.IsRaceIn}
-use Rattle.shown_events.specs.Styles.{style_of}
+use Rattle.replay_forms.specs.Styles.{style_of}
 
 -- in which form schedules are told
 abbrev pub schedules_as : words.ScheduleForm → Schedules

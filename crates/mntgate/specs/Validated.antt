@@ -2,7 +2,7 @@
 use Rattle.std.specs.{Prelude.{◌≡◌, ℕ, List, Option, IfSome}, Io.KnownBytes.{Appends, Keeps}}
 use Rattle.command_line.specs.declared.words.Validation.{Validation}
 use Rattle.exit_status.specs.{Endings.{IsInput}, declared.ends.ProgramEnding.{ProgramEnding, TheVariants.{Possible, Refused}}}
-use Rattle.program_histories.specs.{Unjudged.{IsUnjudged}, Verdicts.{HasPossible, IsImpossibleAt}, declared.validating.Unvalidated.{Unvalidated}}
+use Rattle.history_files.specs.{Unjudged.{IsUnjudged}, Verdicts.{HasPossible, IsImpossibleAt}, declared.validating.Unvalidated.{Unvalidated}}
 use Rattle.schedule_lines.specs.bytes.Writing.{AppendsPart}
 
 -- these bytes are all of what was there to be read, of standard input; of a file's no contract tells

@@ -5,12 +5,12 @@ ghost use Rattle.std.specs.Io.KnownBytes.{Appends, Keeps};
 ghost use Rattle.exit_status.specs.declared.ends.ProgramEnding.TheVariants.{Listed, Refused};
 ghost use Rattle.exploration.specs.Tables.{IsTable};
 ghost use Rattle.exploration.specs.declared.stops.Stop.TheVariants.{TooMany};
-ghost use Rattle.outcome_texts.specs.Methods.{next_by};
+ghost use Rattle.race_outcomes.specs.Methods.{next_by};
 ghost use Rattle.program_checks.specs.Claims.{ClaimConditions, IsPlain, PrintsClaims, race_lines};
 ghost use Rattle.program_checks.specs.declared.claims.Judged.TheVariants.{Hold};
 ghost use Rattle.mntgate.specs.Outcomes.{EndsTold, IsListed, IsUnlisted, IsWhyUnlisted, TellsRace, details_of, list_ending, method_of, schedules_as};
 ghost use Rattle.mntgate.specs.declared.unlisted.Unlisted.TheVariants.{Unsaved, Unwritten};
-ghost use Rattle.shown_outcomes.specs.Told.{TellsAll, TellsSome, margin_of, mark_of};
+ghost use Rattle.outcome_forms.specs.Told.{TellsAll, TellsSome, margin_of, mark_of};
 ghost use Rattle.command_line.specs.declared.words.OutcomeForm.TheVariants.{Text};
 ghost use Rattle.race_files.specs.Calls.{is_claim};
 ghost use Rattle.race_files.specs.Left.{lines_in};
@@ -25,15 +25,15 @@ use command_line::{OutcomeForm, Outcomes, ScheduleForm};
 use exit_status::{ProgramEnding, read_bytes};
 use exploration::{Observer, Stop};
 use gate_core::Core;
-use outcome_texts::{Method, OutcomeListing as RaceListing, SearchPlan};
-use program_checks::{Judged, VerdictForm, bad_claim, tell_claims};
-use race_files::{RaceFile, RaceSource, read_race};
-use schedule_lines::bytes::write_out;
-use schedule_text::Output;
-use shown_events::{Style, html};
-use shown_outcomes::{
+use outcome_forms::{
     Details, Exhibit, Schedules, Shape, save_outcomes, show_outcomes, tell, tell_ends,
 };
+use program_checks::{Judged, VerdictForm, bad_claim, tell_claims};
+use race_files::{RaceFile, RaceSource, read_race};
+use race_outcomes::{Method, OutcomeListing as RaceListing, SearchPlan};
+use replay_forms::{Style, html};
+use schedule_lines::bytes::write_out;
+use schedule_text::Output;
 use std::alloc::{AllocError, Global};
 use std::io::{Read, Stderr, Write};
 use std::rt::{Clock, Files};

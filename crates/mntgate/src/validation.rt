@@ -10,7 +10,7 @@ use crate::progress::SearchProgress;
 use access_model::GateError;
 use command_line::Validation;
 use exit_status::{ProgramEnding, fault_told, read_bytes, refused_of, why_told, why_told_of};
-use program_histories::{Told, Unjudged, Unvalidated, fault_text, validate};
+use history_files::{Told, Unjudged, Unvalidated, fault_text, validate};
 use schedule_lines::bytes::{ReplayFault, write_out};
 use std::alloc::{AllocError, Global};
 use std::io::{Read, Stderr, Write};

@@ -12,8 +12,8 @@ use exit_status::SourceName;
 use exploration::{Stop, Unobserved};
 use race_files::setting_up::SetUpObserver;
 use race_files::{Lines, RaceFile, RaceSource, read_race};
+use replay_forms::Style;
 use schedule_text::Output;
-use shown_events::Style;
 use std::alloc::{AllocError, Global};
 
 /// How a schedule compares.

@@ -1,7 +1,7 @@
 //! The lines of a file, done one by one.
 
 ghost use Rattle.std.specs.Prelude.{OnOk};
-ghost use Rattle.program_histories.specs.Verdicts.{TellsVerdict};
+ghost use Rattle.history_files.specs.Verdicts.{TellsVerdict};
 
 use crate::claims::claims_some;
 use crate::said::{Said, said_in};
@@ -9,10 +9,10 @@ use access_model::GateError;
 use diagnostics::{Context, Faulty, diagnosis};
 use exploration::Stop;
 use gate_core::Core;
-use outcome_texts::print_briefly;
-use program_histories::{Unjudged, Unvalidated, fault_text, print_verdict};
+use history_files::{Unjudged, Unvalidated, fault_text, print_verdict};
 use race_files::setting_up::{SetUpObserver, do_setting};
 use race_files::{Lines, RaceFault, RaceFile};
+use race_outcomes::print_briefly;
 use schedule_lines::bytes::ReplayFault;
 use schedule_text::{Fault, LINES, Output};
 use std::alloc::{AllocError, Global};

@@ -25,7 +25,7 @@ use cpu_words::{Event, WordName};
 use freeze_levels::HookKind;
 use gate_core::{Driver, Step, words_at_start};
 use gate_world::{Config, Op};
-use line_replays::{ReplayFault, replay_over};
+use line_players::{ReplayFault, replay_over};
 use std::alloc::Global;
 use std::io::{Read, Write};
 use vfs_gates::{Gates, Task};
@@ -195,7 +195,7 @@ impl Driver for GatesDriver {
     }
 }
 
-/// Reads a schedule and replays it over the gates that threads use, driven by this one thread: it prints what `line_replays`' `replay` prints of the
+/// Reads a schedule and replays it over the gates that threads use, driven by this one thread: it prints what `line_players`' `replay` prints of the
 /// same bytes, and ends by the same faults. A task is made for each number by splits, and none is joined. Words and trees are printed from a list
 /// that each step moves by its event, since gates tell their words only once they are closed.
 ///

@@ -12,7 +12,7 @@ use crate::telling::{Telling, replay_gates_told, replay_told, show_told};
 use command_line::{Replay, ReplayForm};
 use exit_status::{ProgramEnding, folder_told, unopened};
 use gate_core::Core;
-use shown_events::{Form, Look, Style};
+use replay_forms::{Form, Look, Style};
 use std::alloc::Global;
 use std::fs;
 use std::io::{Read, Stderr, Write};

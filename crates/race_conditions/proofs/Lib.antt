@@ -1,1 +1,4 @@
-pub mod Models
+pub mod ModelsAlike
+pub mod Parsed
+pub mod Same
+pub mod Transfer

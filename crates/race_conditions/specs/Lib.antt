@@ -4,3 +4,12 @@ pub mod Named
 pub mod Models
 pub mod Laws
 pub mod Claims
+pub mod Faults
+pub mod Pieces
+pub mod Parsing
+pub mod ClaimText
+pub mod Listed
+pub mod Held
+pub mod Ends
+pub mod Found
+pub mod Verdicts

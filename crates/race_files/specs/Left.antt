@@ -1,7 +1,7 @@
 -- The lines of a text.
 use Rattle.std.specs.Prelude.{◌≡◌, ℕ, zero, suc, ◌+◌, ◌-◌, List, [], ◌∷◌, length, take, drop, Option, Some, None, Result, Ok, true}
 use Rattle.race_files.specs.{Calls.{calls_of, is_race, no_calls}, declared.{faults.RaceFault.{RaceFault}, lines.Lines.{Lines}}}
-use Rattle.race_programs.specs.declared.calls.Call.{Call}
+use Rattle.races.specs.declared.calls.Call.{Call}
 use Rattle.schedule_lines.specs.{Lines.{front_of}, declared.faults.Fault.{Fault, TheVariants.{TooManyLines, LineTooLong, CutOff}}}
 use Rattle.schedule_lines.specs.declared.lines.Front.TheVariants.{Line as WholeLine, TooLong, Part}
 

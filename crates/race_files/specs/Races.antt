@@ -2,7 +2,7 @@
 use Rattle.std.specs.Prelude.{◌≡◌, ℕ, ◌<◌, List, Option, Some, None, Ok}
 use Rattle.gate_core.specs.{Drivers.{CoreShows}, Memory.{Memory}}
 use Rattle.race_files.specs.{Left.{BeginRace, Left, behind, calls_left}, SettingUp.{SetsUp}}
-use Rattle.race_programs.specs.declared.calls.Call.{Call}
+use Rattle.races.specs.declared.calls.Call.{Call}
 use Rattle.races.specs.Counts.{AreRecent}
 use Rattle.transcripts.specs.Transcript.{ReplayState}
 

@@ -10,8 +10,8 @@ use crate::task::Task;
 use access_model::{GateError, Holder, Next};
 use call_ends::Waiting;
 use fast_paths::FastPath;
-use gate_events::PendingOp;
 use gate_steps::call_events::Progress;
+use gate_transitions::PendingOp;
 use gate_world::Op;
 
 impl Task {

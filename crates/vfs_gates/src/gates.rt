@@ -12,7 +12,7 @@ use gate_steps::call_events::GateWords;
 use gate_world::Config;
 use std::alloc::Global;
 
-/// All words of the gates, which threads share by reference. From crates/backup_beside_writer/src/run.rt, a proved crate:
+/// All words of the gates, which threads share by reference. From crates/example_backup/src/run.rt, a proved crate:
 ///
 /// ```
 /// let (gates, mut first) = Gates::new(alloc, config)?;

@@ -16,8 +16,8 @@ use crate::gates::Gates;
 use crate::numbers::{Numbers, add_all, are_all, others_of};
 use access_model::{GateError, Next};
 use freeze_levels::{Freeze, FreezeStep, HookKind};
-use gate_events::PendingOp;
 use gate_steps::call_events::{GhostSeat, Progress, Step, StepResult, TaskState, do_event};
+use gate_transitions::PendingOp;
 use gate_world::{Accesses, Config, Op, Phase};
 use gated_tree::Tree;
 use mount_counts::MountPhase;
@@ -43,7 +43,7 @@ use std::marker::Model;
 /// - a call at the tree: what it has charged stays charged, and the level that it needs is as above.
 ///
 /// So each task is to be joined, at rest: an access is given back before a refusal is handed on, and an operation that has begun is done
-/// to its end. docs/refusals.md says more. From crates/backup_beside_writer/src/writer.rt, a proved crate:
+/// to its end. docs/refusals.md says more. From crates/example_backup/src/writer.rt, a proved crate:
 ///
 /// ```
 /// task.want(rt, gates, MOUNT, CPU)?;

@@ -20,7 +20,7 @@ use crate::call_events::words::{GateWords, GhostSeat};
 use access_model::{Action, Next};
 use cpu_words::{Event, Touch, WordName};
 use freeze_levels::HookCall;
-use gate_events::PendingOp;
+use gate_transitions::PendingOp;
 use gate_world::{Accesses, Op};
 
 /// An event, the action that it added, and what comes after it.

@@ -13,7 +13,7 @@ ghost use Rattle.gate_steps.specs.Seating.{OwnNumberMayStep, HasWitness, items_a
 
 use crate::{Closed, GateTable, Knowledge};
 use cpu_words::{Event, Touch, WordName};
-use gate_events::PendingOp;
+use gate_transitions::PendingOp;
 use gate_world::{Config, Op};
 use std::alloc::{AllocError, Global};
 

@@ -1,7 +1,7 @@
 use Rattle.std.proofs.Common.{◌∙◌, sym, ap, ◌+◌, ◌-◌, Option, slice_set}
 use Rattle.history_files.proofs.Failing.{none_failing, one_failing}
 use Rattle.history_files.specs.Records.{failing_from}
-use Rattle.race_programs.specs.declared.calls.Call.{Call}
+use Rattle.races.specs.declared.calls.Call.{Call}
 use Rattle.history_files.proofs.hooks.all_failing.Goals as goal
 
 pub loop-turn-preserved : goal.loop-turn-preserved

@@ -1,4 +1,4 @@
-use Rattle.race_conditions.proofs.Models.{holds_alike, seen_shown, seen_kept}
+use Rattle.race_conditions.proofs.ModelsAlike.{holds_alike, seen_shown, seen_kept}
 use Rattle.race_conditions.proofs.laws.conditions_speak_of_the_world.Goals as goal
 
 pub returns-clause-reads : goal.returns-clause-reads

@@ -1,7 +1,0 @@
--- The task comes from the gates, rests, has its numbers, and has made all copies so far, of which no more are torn.
-use Rattle.vfs_gates.proofs.Rounds.{◌≤◌, IsFrom, Rests}
-use Rattle.backup_beside_writer.specs.Reports.{Copies, SameNumbers}
-use Rattle.backup_beside_writer.proofs.backup.back_up.Given as goal
-
-abbrev pub invariant-loop : goal.invariant-loop
-invariant-loop g l = IsFrom l.task l.gates × Rests l.task × SameNumbers l.fn.task l.task × (l.torn ≤ l.made) × (l.made ≤ l.copies) × Copies l.made l.fn.task l.task

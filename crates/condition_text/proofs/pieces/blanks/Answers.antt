@@ -1,7 +1,0 @@
-use Rattle.std.proofs.Common.{sym, arith}
-use Rattle.schedule_lines.proofs.Positions.{nowhere_is_end}
-use Rattle.condition_text.specs.Pieces.{is_no_blank}
-use Rattle.condition_text.proofs.pieces.blanks.Goals as goal
-
-pub returns-clause-count : goal.returns-clause-count
-returns-clause-count c = sym (nowhere_is_end is_no_blank c.args.text.now (λ k h. c.loop-index.invariant k (omega arith)))

@@ -1,7 +1,0 @@
-use Rattle.std.proofs.Common.{◌≡◌, ℕ, ◌<◌, false, get_or}
-use Rattle.condition_text.specs.Pieces.{is_no_blank}
-use Rattle.condition_text.proofs.pieces.blanks.Given as goal
-
--- no byte before this one is such
-abbrev pub invariant-loop-index : goal.invariant-loop-index
-invariant-loop-index l = (k : ℕ) → k < l.index → is_no_blank (get_or l.text k 0) ≡ false

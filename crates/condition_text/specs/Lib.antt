@@ -1,4 +1,0 @@
-pub mod Faults
-pub mod Pieces
-pub mod Parsing
-pub mod Claims

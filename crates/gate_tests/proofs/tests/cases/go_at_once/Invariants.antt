@@ -1,6 +1,0 @@
-use Rattle.std.specs.Prelude.{All}
-use Rattle.vfs_gates.specs.TaskStates.{IsFrom}
-use Rattle.gate_tests.proofs.tests.cases.go_at_once.Given as goal
-
-abbrev pub invariant-loop-part : goal.invariant-loop-part
-invariant-loop-part g l = IsFrom l.first l.fn.gates × All (λ task. IsFrom task l.fn.gates) l.others.items

@@ -1,6 +1,0 @@
-use Rattle.std.specs.Prelude.{All}
-use Rattle.vfs_gates.specs.TaskStates.{IsFrom}
-use Rattle.gate_tests.proofs.tests.cases.join_rest.Given as goal
-
-abbrev pub invariant-loop-other : goal.invariant-loop-other
-invariant-loop-other l = IsFrom l.first l.fn.gates × All (λ task. IsFrom task l.fn.gates) l.others.items

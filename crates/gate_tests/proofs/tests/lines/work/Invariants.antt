@@ -1,5 +1,0 @@
-use Rattle.vfs_gates.specs.TaskStates.{IsFrom}
-use Rattle.gate_tests.proofs.tests.lines.work.Given as goal
-
-abbrev pub invariant-loop-round : goal.invariant-loop-round
-invariant-loop-round g l = IsFrom l.task l.fn.gates

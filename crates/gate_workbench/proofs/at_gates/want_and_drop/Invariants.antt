@@ -1,6 +1,0 @@
--- The task comes from the gates.
-use Rattle.vfs_gates.specs.TaskStates.{IsFrom}
-use Rattle.gate_workbench.proofs.at_gates.want_and_drop.Given as goal
-
-abbrev pub invariant-loop-round : goal.invariant-loop-round
-invariant-loop-round l = IsFrom l.task l.gates

@@ -1,0 +1,19 @@
+-- What the search has found of a history's markers.
+use Rattle.std.proofs.Common.{◌≡◌, ℕ, ◌<◌, ◌≤◌, List, length, subst}
+use Rattle.gate_core.specs.Memory.{Memory, Represents}
+use Rattle.gate_world.specs.Worlds.{World}
+use Rattle.histories.specs.{Executions.{Has, HasMost}, declared.markers.Marker.{Marker}}
+use Rattle.history_files.proofs.Few.{admitted}
+use Rattle.history_files.specs.Verdicts.{IsImpossible, IsPossible}
+
+module _ (core : Memory) (judged markers : List Marker) (same : judged ≡ markers) (passed : ℕ) where
+  -- some execution has as many markers as there are
+  pub is_possible : ((w : World) → Represents core w → Has core.config judged w passed) → length markers ≤ passed → IsPossible core markers
+  is_possible has all w shows = admitted core.config markers w passed all (subst (λ (m : List Marker). Has core.config m w passed) same (has w shows))
+
+  -- none has more
+  pub is_impossible : ((w : World) → Represents core w → HasMost core.config judged w passed) → passed < length markers → IsImpossible core markers passed
+  is_impossible most some = record {
+    some = some;
+    most = λ w shows. subst (λ (m : List Marker). HasMost core.config m w passed) same (most w shows);
+  }

@@ -1,0 +1,72 @@
+//! The verdict on a history.
+
+ghost use Rattle.std.specs.Prelude.{◌≡◌, ◌<◌, ◌≤◌, ◌+◌, true, false, IfOk, length};
+ghost use Rattle.exploration.specs.Tables.{IsTable};
+ghost use Rattle.histories.specs.Eager.{next_eager};
+ghost use Rattle.history_files.specs.Verdicts.{IsImpossible, IsPossible};
+
+use crate::unjudged::Unjudged;
+use exploration::Observer;
+use gate_core::Core;
+use histories::{History, Judged, Marker, judge_history};
+use std::alloc::{AllocError, Global};
+
+/// What was found of a history.
+#[derive(Drop)]
+pub struct Verdict {
+    pub history: History,
+    pub judged: Judged,
+}
+
+impl Verdict {
+    /// Returns whether some execution has the whole history.
+    pub fn is_possible(&self) -> bool
+        ensures all { result ≡ true → length self.now.history.markers.items ≤ self.now.judged.passed }
+        ensures some { result ≡ false → self.now.judged.passed < length self.now.history.markers.items }
+    {
+        self.judged.passed as usize >= self.history.markers().len()
+    }
+
+    /// Returns whether the search came far enough for a verdict: some execution has the whole history, or all states were found.
+    fn is_known(&self) -> bool
+        ensures { result ≡ true → self.now.judged.passed < length self.now.history.markers.items →
+            self.now.judged.found.expanded ≡ length self.now.judged.found.origins.items }
+    {
+        self.is_possible() || self.judged.found.is_whole()
+    }
+}
+
+/// Finds whether some execution over a core has a history with these markers.
+///
+/// # Errors
+///
+/// If it isn't known: more states than the limit come up, and the markers so far are possible; or there was no memory.
+pub fn verdict_of<W: Observer>(
+    alloc: Global,
+    core: &Core,
+    markers: Vec<Marker>,
+    limit: usize,
+    watch: &mut W,
+) -> Result<Verdict, Unjudged>
+    ensures table { IfOk result (λ verdict. IsTable (next_eager verdict.history.tasks verdict.history.markers.items) (verdict.history.tasks + 1)
+        verdict.judged.found.states verdict.judged.found.origins.items verdict.judged.found.edges.items) }
+    ensures within { IfOk result (λ verdict. verdict.judged.farthest < length verdict.judged.found.states) }
+    ensures markers { IfOk result (λ verdict. verdict.history.markers.items ≡ markers.items) }
+    ensures possible { IfOk result (λ verdict. length markers.items ≤ verdict.judged.passed → IsPossible core.now markers.items) }
+    ensures impossible { IfOk result (λ verdict. verdict.judged.passed < length markers.items → IsImpossible core.now markers.items verdict.judged.passed) }
+{
+    let history = match History::new(alloc, core.config().tasks, markers) {
+        Ok(history) => history,
+        Err(AllocError) => return Err(Unjudged::NoMemory),
+    };
+    let judged = match judge_history(alloc, &history, core, limit, watch) {
+        Ok(judged) => judged,
+        Err(stop) => return Err(Unjudged::of(stop)),
+    };
+    let verdict = Verdict { history, judged };
+    if verdict.is_known() {
+        Ok(verdict)
+    } else {
+        Err(Unjudged::TooMany)
+    }
+}

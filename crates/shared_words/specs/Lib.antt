@@ -1,2 +1,0 @@
-pub mod Summaries
-pub mod Same

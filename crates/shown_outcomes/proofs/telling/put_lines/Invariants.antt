@@ -1,6 +1,0 @@
-use Rattle.shown_outcomes.specs.Told.{TellsDetails}
-use Rattle.shown_outcomes.proofs.telling.put_lines.Given as goal
-
--- the lines so far
-abbrev pub invariant-loop-line : goal.invariant-loop-line
-invariant-loop-line l = TellsDetails l.margin ⊥ l.initial.out l.out

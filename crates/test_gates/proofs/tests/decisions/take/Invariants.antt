@@ -1,0 +1,6 @@
+-- The task comes from the gates.
+use Rattle.vfs_gates.specs.TaskStates.{IsFrom}
+use Rattle.test_gates.proofs.tests.decisions.take.Given as goal
+
+abbrev pub invariant-loop-try : goal.invariant-loop-try
+invariant-loop-try g l = IsFrom l.task l.fn.gates
