@@ -3,10 +3,12 @@
 
     bench/histories.py [--tasks N] [--seed N] [--keep DIR] [--program PROGRAM] [CALLS..]
 
-PROGRAM, or bin/mntgate, plays each execution (`replay --json`) and judges the history. Task 0 freezes and thaws, remounts, changes the mount and runs
-callbacks, one call in three; the others take an access and give it back. Who moves is drawn; a return is recorded up to three moves after the last step, and
-the next call begins up to four moves later. A replay takes 1,048,576 lines, which are two a move: 30,000 calls of 3 tasks are about as many as it can
-play. Prints a row for each number of CALLS: the calls and states, seconds of processor time, and megabytes at most. With
+PROGRAM, or bin/mntgate, plays each execution (`replay --json`) and judges the history. Task 0
+freezes and thaws, remounts, changes the mount and runs callbacks, one call in three; the others
+take an access and give it back. Who moves is drawn; a return is recorded up to three moves after
+the last step, and the next call begins up to four moves later. A replay takes 1,048,576 lines,
+which are two a move: 30,000 calls of 3 tasks are about as many as it can play. Prints a row for
+each number of CALLS: the calls and states, seconds of processor time, and megabytes at most. With
 --keep the histories stay in DIR."""
 
 import argparse
@@ -21,7 +23,17 @@ import tempfile
 ROOT = os.path.dirname(os.path.dirname(os.path.realpath(__file__)))
 TAKES = ("want 0 0", "wantwrite 0 0", "start 2 0")
 GIVES = {"want": "drop 0 0", "wantwrite": "dropwrite 0 0", "start": "end 2 0"}
-ADMINISTERS = ("remount ro", "remount rw", "change 0 ro", "change 0 rw", "freeze", "thaw", "callback 1", "callback 2", "callback 3")
+ADMINISTERS = (
+    "remount ro",
+    "remount rw",
+    "change 0 ro",
+    "change 0 rw",
+    "freeze",
+    "thaw",
+    "callback 1",
+    "callback 2",
+    "callback 3",
+)
 LATEST, LONGEST = 3, 4
 LIMIT = 4_000_000_000
 
@@ -30,7 +42,9 @@ class Player:
     """The gates, which play line by line."""
 
     def __init__(self, program, tasks):
-        self.process = subprocess.Popen([program, "replay", "--json"], stdin=subprocess.PIPE, stdout=subprocess.PIPE, text=True)
+        self.process = subprocess.Popen(
+            [program, "replay", "--json"], stdin=subprocess.PIPE, stdout=subprocess.PIPE, text=True
+        )
         self.process.stdin.write(f"config {tasks} 1 1 2 8\n")
 
     def answer(self, line):
@@ -49,7 +63,8 @@ class Player:
 
 
 class Task:
-    """What a task is at: its call, if one is under way, what it has answered, how long that waits to be told, and what it has to give back."""
+    """What a task is at: its call, if one is under way, what it has answered, how long that waits
+    to be told, and what it has to give back."""
 
     def __init__(self, number):
         self.number, self.call, self.answer, self.wait, self.owes = number, None, None, 0, None
@@ -101,7 +116,11 @@ def draw(program, tasks, calls, dice):
 def measure(program, path):
     """What the program says of a history, and the seconds and megabytes that it took."""
     with tempfile.TemporaryFile("w+") as file:
-        process = subprocess.Popen([program, "validate", "--limit", str(LIMIT), path], stdout=file, stderr=subprocess.STDOUT)
+        process = subprocess.Popen(
+            [program, "validate", "--limit", str(LIMIT), path],
+            stdout=file,
+            stderr=subprocess.STDOUT,
+        )
         _, _, usage = os.wait4(process.pid, 0)
         file.seek(0)
         said = file.readline()
@@ -112,7 +131,9 @@ def measure(program, path):
 
 
 def main():
-    parser = argparse.ArgumentParser(description=__doc__, formatter_class=argparse.RawDescriptionHelpFormatter)
+    parser = argparse.ArgumentParser(
+        description=__doc__, formatter_class=argparse.RawDescriptionHelpFormatter
+    )
     parser.add_argument("--tasks", type=int, default=3)
     parser.add_argument("--seed", type=int, default=1)
     parser.add_argument("--keep", metavar="DIR")
@@ -124,7 +145,10 @@ def main():
         for calls in args.calls:
             path = f"{args.keep or folder}/{args.tasks}-{calls}.history"
             with open(path, "w", encoding="utf-8") as file:
-                file.writelines(f"{line}\n" for line in draw(args.program, args.tasks, calls, random.Random(args.seed)))
+                file.writelines(
+                    f"{line}\n"
+                    for line in draw(args.program, args.tasks, calls, random.Random(args.seed))
+                )
             begun, states, seconds, megabytes = measure(args.program, path)
             print(f"{begun:9} {states:13} {seconds:7.1f}  {megabytes:9.0f}", flush=True)
 

@@ -3,12 +3,13 @@
 
     bench/waits.py [--seconds S] [--turns N] [--program FILE]
 
-One task has all frozen and sleeps S seconds (3, if left out) before it thaws. 1, 8 and 63 others, in a thread each, wait for level 1 meanwhile. Each
-row is the median of N turns (5, if left out): the seconds from start to end, and those of processor time, of all threads together. The program's own
-start and end, which are measured without a wait, are in neither.
+One task has all frozen and sleeps S seconds (3, if left out) before it thaws. 1, 8 and 63 others,
+in a thread each, wait for level 1 meanwhile. Each row is the median of N turns (5, if left out):
+the seconds from start to end, and those of processor time, of all threads together. The program's
+own start and end, which are measured without a wait, are in neither.
 
-bench_gates has to be built: cd crates/bench_gates && rt run -- --help. No proof covers these figures. The exit status is 0, 1 where the program
-failed, and 2 for a misuse.
+bench_gates has to be built: cd crates/bench_gates && rt run -- --help. No proof covers these
+figures. The exit status is 0, 1 where the program failed, and 2 for a misuse.
 """
 
 import argparse

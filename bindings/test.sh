@@ -1,7 +1,8 @@
 #!/bin/bash
-# Tests the gates from C, Rust and Python with this machine's own compilers. It builds and installs the C library into out/c, compiles the header as
-# C and C++, runs the C and Python programs and the tests of the Rust crate, C programs also under the thread sanitizer where it can, has bin/mntgate judge
-# what the recording library writes, and says what it does. A difference ends it.
+# Tests the gates from C, Rust and Python with this machine's own compilers. It builds and installs
+# the C library into out/c, compiles the header as C and C++, runs the C and Python programs and the
+# tests of the Rust crate, C programs also under the thread sanitizer where it can, has bin/mntgate
+# judge what the recording library writes, and says what it does. A difference ends it.
 #
 #     bindings/test.sh
 set -euo pipefail
@@ -33,14 +34,25 @@ expect() {
 # As it is, and as the thread sanitizer has it.
 test_header() {
     local standard how
-    printf '#include "mntgate.h"\nint main(void) { struct mntgate_task task = MNTGATE_NONE; return task.at != NULL || mntgate_split(&task, &task); }\n' >"$work/header.c"
+    local -a words
+    cat >"$work/header.c" <<'END'
+#include "mntgate.h"
+
+int main(void)
+{
+	struct mntgate_task task = MNTGATE_NONE;
+
+	return task.at != NULL || mntgate_split(&task, &task);
+}
+END
     cp "$work/header.c" "$work/header.cc"
+    words=("${strict[@]}" -I"$prefix/include" -fsyntax-only)
     for how in -DPLAIN -fsanitize=thread; do
         for standard in c99 c11; do
-            gcc "-std=$standard" "$how" "${strict[@]}" -I"$prefix/include" -fsyntax-only "$work/header.c"
+            gcc "-std=$standard" "$how" "${words[@]}" "$work/header.c"
         done
         for standard in c++11 c++20; do
-            g++ "-std=$standard" "$how" "${strict[@]}" -I"$prefix/include" -fsyntax-only "$work/header.cc"
+            g++ "-std=$standard" "$how" "${words[@]}" "$work/header.cc"
         done
     done
 }
@@ -49,7 +61,8 @@ test_header() {
 compile_with() {
     local library=$1 source=$2 program=$3
     shift 3
-    "$compiler" -std=c11 -O2 -D_GNU_SOURCE "${strict[@]}" -I"$prefix/include" -o "$program" "$source" "$@" "$library/libmntgate.a" -lpthread
+    "$compiler" -std=c11 -O2 -D_GNU_SOURCE "${strict[@]}" -I"$prefix/include" -o "$program" \
+        "$source" "$@" "$library/libmntgate.a" -lpthread
 }
 
 compile() {
@@ -73,30 +86,42 @@ test_c() {
     expect "with the gates: no backup is torn" "$work/log_backup" with
 }
 
-# Fails unless some execution of the model has the history in this file, whose calls are as many as a pattern says.
+# Fails unless some execution of the model has the history in this file, whose calls are as many as
+# a pattern says.
 expect_possible() {
     local pattern=$1 came
-    came=$("$root/bin/mntgate" validate --limit 60000000 "$2" 2>"$work/said") || { cat "$work/said" >&2; say "$2 isn't possible"; exit 1; }
+    if ! came=$("$root/bin/mntgate" validate --limit 60000000 "$2" 2>"$work/said"); then
+        cat "$work/said" >&2
+        say "$2 isn't possible"
+        exit 1
+    fi
     [[ $came =~ ^possible:\ $pattern\ calls ]] || { say "$2: $came"; exit 1; }
 }
 
-# The library that records: it does the same, and what it writes is possible. A file that can't be written is told, and the program goes on.
+# What the shared library in this folder exports.
+exports_of() {
+    nm -D --defined-only "$1/libmntgate.so" | cut -d ' ' -f 3
+}
+
+# The library that records: it does the same, and what it writes is possible. A file that can't be
+# written is told, and the program goes on.
 test_recording() {
     local recording=$prefix/lib/mntgate-recording
-    diff <(nm -D --defined-only "$recording/libmntgate.so" | cut -d ' ' -f 3) <(nm -D --defined-only "$prefix/lib/libmntgate.so" | cut -d ' ' -f 3)
+    diff <(exports_of "$recording") <(exports_of "$prefix/lib")
     compile_with "$recording" bindings/c/tests/calls.c "$work/calls"
     expect "all calls" "$work/calls"
     expect "all calls" env MNTGATE_HISTORY="$work/calls.history" "$work/calls"
     expect_possible 323 "$work/calls.history"
     expect "all calls" env MNTGATE_HISTORY="$work/none/calls.history" "$work/calls"
-    grep -q "^mntgate: no history is recorded: $work/none/calls.history: No such file or directory" "$work/said"
+    grep -q "^mntgate: no history is recorded: $work/none/calls.history: No such file" "$work/said"
     expect "all calls" env MNTGATE_HISTORY=/dev/full "$work/calls"
     grep -q '^mntgate: the history ends here: No space left on device' "$work/said"
     compile_with "$recording" bindings/c/tests/histories.c "$work/histories"
     MNTGATE_HISTORY=$work/threads.history "$work/histories" 4 400 1 300 >"$work/said"
     expect_possible '[0-9]*' "$work/threads.history"
     MNTGATE_LIBRARY=$recording/libmntgate.so.1 MNTGATE_HISTORY=$work/remount.history \
-        expect "$(cat bindings/python/examples/remount.stdout)" python3 -B bindings/python/examples/remount.py
+        expect "$(cat bindings/python/examples/remount.stdout)" \
+        python3 -B bindings/python/examples/remount.py
     expect_possible '[0-9]*' "$work/remount.history"
 }
 
@@ -105,20 +130,23 @@ thread_sanitizer() {
     local compiler
     printf 'int main(void) { return 0; }\n' >"$work/nothing.c"
     for compiler in gcc clang; do
-        if "$compiler" -fsanitize=thread -o "$work/nothing" "$work/nothing.c" 2>/dev/null && "$work/nothing" 2>/dev/null; then
+        if "$compiler" -fsanitize=thread -o "$work/nothing" "$work/nothing.c" 2>/dev/null &&
+            "$work/nothing" 2>/dev/null; then
             printf '%s\n' "$compiler"
             return
         fi
     done
 }
 
-# Every call under the sanitizer; memory that the gates guard, in which it finds no race; and a race that is planted, which it finds.
+# Every call under the sanitizer; memory that the gates guard, in which it finds no race; and a race
+# that is planted, which it finds.
 test_threads() {
     local compiler=$1 status=0
     local -x TSAN_OPTIONS=exitcode=66
     compile bindings/c/tests/calls.c "$work/calls_watched" -fsanitize=thread
     expect "all calls" "$work/calls_watched"
-    compile bindings/c/tests/threads.c "$work/threads" -g -fsanitize=thread bindings/c/tests/threads_writers.c
+    compile bindings/c/tests/threads.c "$work/threads" -g -fsanitize=thread \
+        bindings/c/tests/threads_writers.c
     expect "0 records torn" "$work/threads" guarded
     "$work/threads" planted >"$work/said" 2>&1 || status=$?
     if [[ $status -ne 66 ]] || ! grep -q 'ThreadSanitizer: data race' "$work/said"; then
@@ -131,13 +159,18 @@ test_threads() {
 test_python() {
     local name
     for name in backup remount; do
-        MNTGATE_LIBRARY=$prefix/lib/libmntgate.so.1 expect "$(cat "bindings/python/examples/$name.stdout")" python3 -B "bindings/python/examples/$name.py"
+        MNTGATE_LIBRARY=$prefix/lib/libmntgate.so.1 \
+            expect "$(cat "bindings/python/examples/$name.stdout")" \
+            python3 -B "bindings/python/examples/$name.py"
     done
-    MNTGATE_LIBRARY=$prefix/lib/libmntgate.so.1 python3 -B bindings/python/test_mntgate.py 2>"$work/said" || { cat "$work/said" >&2; exit 1; }
+    MNTGATE_LIBRARY=$prefix/lib/libmntgate.so.1 \
+        python3 -B bindings/python/test_mntgate.py 2>"$work/said" ||
+        { cat "$work/said" >&2; exit 1; }
 }
 
 test_rust() {
-    (cd bindings/rust && MNTGATE_LIB=$prefix/lib CARGO_TARGET_DIR=$root/out/c/rust cargo test --offline --quiet) >"$work/said" 2>&1 ||
+    (cd bindings/rust && MNTGATE_LIB=$prefix/lib CARGO_TARGET_DIR=$root/out/c/rust \
+        cargo test --offline --quiet) >"$work/said" 2>&1 ||
         { cat "$work/said" >&2; exit 1; }
 }
 

@@ -6,6 +6,7 @@
 #include <stdio.h>
 #include <string.h>
 #include <sys/ioctl.h>
+#include <sys/syscall.h>
 #include <unistd.h>
 
 #include "guest.h"
@@ -27,6 +28,13 @@ void open_gates(void) {
 }
 
 int have_gates(void) { return gates[0] > 0; }
+
+/* Closes the device and unloads the module. No call is under way, and a kernel may be built without the unloading of modules. */
+void unload_gates(void) {
+    if (!have_gates()) return;
+    for (int i = 0; i < MOUNTS; i++) need(close(gates[i]) == 0, "the device's end");
+    need(syscall(SYS_delete_module, "gates", O_NONBLOCK) == 0 || errno == ENOSYS, "the module's end");
+}
 
 static const unsigned long commands[VERBS] = {
     [FREEZE] = GATES_FREEZE,          [THAW] = GATES_THAW,   [WANT] = GATES_WANT,           [DROP] = GATES_DROP,

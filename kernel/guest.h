@@ -69,6 +69,7 @@ void let_disk_fail(int fails);
 
 /* gate_calls.c: the calls of the module's device, if it has one. */
 void open_gates(void);
+void unload_gates(void);
 int have_gates(void);
 int call_gates(struct task *task, const struct call *call);
 void give_back(struct task *task);

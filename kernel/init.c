@@ -6,7 +6,7 @@
  *   restore                 restored: nothing is under way, frozen, open or read-only
  *   words                   words NAME VALUE ..: those behind the gates that aren't 0, by the module
  *   history CALLS SEED CHANGES HOLDERS     what threads have called at once (histories.c)
- *   off                     the guest ends
+ *   off                     the module is unloaded, and the guest ends
  *
  * T is a task, 0 to 3: a thread of its own. A call is one of
  *
@@ -345,7 +345,7 @@ static int read_argument(char kind, const char *word, struct call *call) {
     case 'l': return call->argument = number, number >= 1 && number <= LEVELS;
     case 'p': return call->processor = number, number >= 0;
     case 'w': return call->read_only = word != NULL && strcmp(word, "ro") == 0, word != NULL;
-    case 'e': return call->error = number, word == NULL || number > 0;
+    case 'e': return call->error = word ? number : 0, word == NULL || number > 0;
     case 'f':
         for (int i = 0; word && i < (int)(sizeof hooks / sizeof *hooks); i++)
             if (strcmp(word, hooks[i]) == 0) call->hook = i + 1;
@@ -645,6 +645,7 @@ int main(void) {
         else if (strcmp(line, "off") == 0) break;
         else do_line(line);
     }
+    unload_gates();
     reboot(RB_POWER_OFF);
     return 0;
 }

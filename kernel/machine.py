@@ -30,9 +30,13 @@ NEEDED = r"\./(boot/vmlinuz-|(usr/)?lib/modules/[^/]+/(modules\.builtin$|kernel/
 # The names of the stock kernels' packages, by release, behind linux-image- and linux-headers-.
 RELEASES = {"6.1": r"6\.1\.0-\d+-amd64", "6.12": r"6\.12\.\d+\+deb12-amd64"}
 
-# Seconds that the guest may take to come up, and for one answer: an emulated one on a machine with much else to do gets few of them.
-BOOT = 300
-ANSWER = 300
+# An emulated processor would spend much time on what guards it from others. One that gets no time itself may miss the timer at its first look.
+PARAMETERS = "mitigations=off no_timer_check"
+
+# Seconds that the guest may take to come up, for one answer, and to go: an emulated one on a machine with much else to do gets few of them.
+BOOT = 900
+ANSWER = 600
+END = 120
 
 
 class Failed(Exception):
@@ -171,14 +175,19 @@ def move_paths(name, root):
 
 
 def build_module(headers, *words):
-    """Builds the module of module/ for the kernel that has these headers, with these words for make, and hands out its file."""
+    """Builds the module of module/ for the kernel that has these headers, with these words for make, and hands out its file. One that was built of the
+    same sources for a stock kernel is taken again; headers elsewhere may have changed."""
     if not os.path.exists(f"{headers}/Makefile"):
         raise Failed(f"there are no headers of a kernel in {headers}: give the folder that it was built in by --headers DIR")
-    folder = f"{OUT}/module-{hashlib.sha256(os.path.realpath(headers).encode()).hexdigest()[:16]}"
+    sources = [(name, read(f"{HERE}/module/{name}")) for name in sorted(os.listdir(f"{HERE}/module"))]
+    folder = f"{OUT}/module-{hashlib.sha256(repr((os.path.realpath(headers), words, sources)).encode()).hexdigest()[:16]}"
+    if headers.startswith(f"{OUT}/") and os.path.exists(f"{folder}/whole"):
+        return f"{folder}/gates.ko"
     shutil.rmtree(folder, ignore_errors=True)
     shutil.copytree(f"{HERE}/module", folder)
     # Type information for debuggers would need another program.
     run(["make", "-C", headers, f"M={folder}", "CONFIG_DEBUG_INFO_BTF_MODULES=", *words, "modules"], "the module can't be built")
+    open(f"{folder}/whole", "w", encoding="utf-8").close()
     return f"{folder}/gates.ko"
 
 
@@ -315,12 +324,17 @@ class Guest:
         self.said = f"{OUT}/kernel-{processors}.log"
         words = [find("qemu-system-x86_64"), "-accel", by, "-cpu", "max", "-smp", str(processors), "-m", "320", "-nodefaults",
                  "-display", "none", "-no-reboot", "-kernel", kernel, "-initrd", guest,
-                 "-append", f"console=ttyS0 loglevel=5 panic=-1 rcupdate.rcu_expedited=1 {' '.join(f'brd.{it}' for it in DISK_PARAMETERS.split())} rdinit=/init",
+                 "-append", f"console=ttyS0 loglevel=5 panic=-1 {PARAMETERS} rcupdate.rcu_expedited=1 {' '.join(f'brd.{it}' for it in DISK_PARAMETERS.split())} rdinit=/init",
                  "-serial", f"file:{self.said}", "-serial", "stdio"]
         self.qemu = subprocess.Popen(words, stdin=subprocess.PIPE, stdout=subprocess.PIPE, stderr=subprocess.PIPE)
-        self.expect("ready", BOOT)
-        self.processors = int(self.ask("hello").split()[1])
-        self.version = self.receive(ANSWER).split(" ", 1)[1]
+        try:
+            self.expect("ready", BOOT)
+            self.processors = int(self.ask("hello").split()[1])
+            self.version = self.receive(ANSWER).split(" ", 1)[1]
+        except BaseException:
+            # Else a guest that is still to come up would go on without whoever was told to stop.
+            self.qemu.kill()
+            raise
         self.release = tuple(int(number) for number in re.search(r"(\d+)\.(\d+)\.(\d+)", self.version).groups())
 
     def receive(self, seconds):
@@ -361,11 +375,14 @@ class Guest:
         return self.receive(seconds)
 
     def end(self):
-        """Ends the guest, if it has not ended."""
+        """Ends the guest, if it has not ended. Before it goes it unloads the module."""
         if self.qemu.returncode is not None:
             return
         self.send("off")
         try:
-            self.qemu.communicate(timeout=10)
+            rest = self.qemu.communicate(timeout=END)[0].decode(errors="replace")
         except subprocess.TimeoutExpired:
             self.qemu.kill()
+            return
+        if "failed" in rest:
+            raise Failed(f"the guest's end: {rest.strip()}")

@@ -2,12 +2,17 @@
 """Tests how a comparison reads answers, on what both sides were asked and answered once (recorded.log, and recorded-module.log for the module's
 calls): no kernel runs, and no mntgate."""
 
+import argparse
+import contextlib
+import io
 import os
 import re
+import tempfile
 import unittest
 
 import gate_schedules
 import histories
+import machine
 import races
 import rules
 import schedules
@@ -190,6 +195,26 @@ class Calls(unittest.TestCase):
         self.assertRaises(schedules.Unreadable, histories.as_history, calls[:-1], (6, 1, 192))
         lines = iter(["1 0 begins want"])
         self.assertRaises(schedules.Unreadable, histories.read_history, guest, 1)
+
+    def test_verdicts(self):
+        options, none = argparse.Namespace(limit=9), "x:6:1: error: no execution has this line"
+        said = {"echo possible: 2 calls": histories.Verdict.POSSIBLE, f"echo '{none}' >&2; echo 1 run; exit 1": histories.Verdict.IMPOSSIBLE,
+                "echo 'x: more than 9 states' >&2; exit 1": histories.Verdict.UNJUDGED}
+        with contextlib.redirect_stdout(io.StringIO()) as printed, tempfile.TemporaryDirectory() as folder:
+            path = f"{folder}/a.history"
+            for script, verdict in said.items():
+                self.assertEqual(histories.judge(options, ["sh", "-c", script], path), verdict)
+            self.assertRaises(machine.Failed, histories.judge, options, ["sh", "-c", "exit 2"], path)
+        self.assertIn(f"{none} {path}.schedule, whose end is\n    1 run\n", printed.getvalue())
+
+    def test_a_spoiled_history(self):
+        lines = ["0 want 0 0", "0 ok", "1 want 1 0", "1 refused 30 ReadOnly", "1 trystart 1 0", "1 refused 11 Again"]
+        with tempfile.TemporaryDirectory() as folder:
+            path = f"{folder}/a.history"
+            with open(path, "w", encoding="utf-8") as file:
+                file.writelines(f"{line}\n" for line in lines)
+            with open(histories.spoil(path), encoding="utf-8") as file:
+                self.assertEqual(file.read().splitlines(), [*lines[:3], "1 ok", *lines[4:]])
 
 
 class Readings(unittest.TestCase):

@@ -12,11 +12,13 @@ COMPARE = f"{os.path.dirname(os.path.realpath(__file__))}/compare"
 
 
 class Case(NamedTuple):
-    """What is wrong, kernel/compare's words, and what it has to print; None where nothing is wrong."""
+    """What is wrong, kernel/compare's words, and what it has to print; None where nothing is wrong. `spoiled` is which of the guest's answers is taken
+    for another one, 0 for none."""
 
     about: str
     words: str
     printed: str | None
+    spoiled: int = 0
 
 
 DIFFERS = r"schedule \d+ differs:(\n    .*)+"
@@ -27,13 +29,15 @@ CASES = [
     Case("the kernel's ends are made twice", "--module --schedules 60 --wrong ends_twice", DIFFERS),
     Case("the kernel's freezes wait for no grace period", "--module --races --race freeze-and-kept-start --wrong no_grace_period",
          r".*NOT AMONG THE OUTCOMES.*"),
+    Case("a history's refusal is taken for Ok", "--histories 2 --calls 1000", r".*: IMPOSSIBLE(.*\n)+    .*", 1),
     Case("nothing: readers take their time", "--module --races --race freeze-and-kept-start --wrong slow", None),
 ]
 
 
 def run(case, words):
     """Whether kernel/compare fails as it has to."""
-    done = subprocess.run([COMPARE, *case.words.split(), *words], stdout=subprocess.PIPE, text=True, check=False)
+    spoiled = dict(os.environ, COMPARE_WRONG=str(case.spoiled))
+    done = subprocess.run([COMPARE, *case.words.split(), *words], stdout=subprocess.PIPE, text=True, env=spoiled, check=False)
     found = case.printed and re.search(case.printed, done.stdout)
     passed = done.returncode == (1 if case.printed else 0) and bool(found) == bool(case.printed)
     print(f"{'found' if found else 'not found'}{'' if passed else ', AND SHOULD BE OTHERWISE'}: {case.about} ({case.words})")

@@ -1,11 +1,14 @@
 #!/usr/bin/env -S python3 -B
-"""The pictures of the pages, and two pages with pictures: the program makes them, and they are kept.
+"""The pictures of the pages, and two pages with pictures: the program makes them, and they are
+kept.
 
     tests/pictures.py [--write] [PROGRAM]
 
-Each has to be, byte for byte, what the program prints now. A page has to parse, with each element ended, and must ask for nothing from elsewhere:
-no script, no link to another place. A picture has to parse as XML. With --write they are written anew. With no PROGRAM it is
-crates/mntgate/out/mntgate. Prints what is wrong; the exit status is 1 then. tests/test_pages.py tests the same."""
+Each has to be, byte for byte, what the program prints now. A page has to parse, with each element
+ended, and must ask for nothing from elsewhere: no script, no link to another place. A picture has
+to parse as XML. With --write they are written anew. With no PROGRAM it is
+crates/mntgate/out/mntgate. Prints what is wrong; the exit status is 1 then. tests/test_pages.py
+tests the same."""
 
 import os
 import re
@@ -16,16 +19,31 @@ from xml.etree import ElementTree
 
 ROOT = os.path.dirname(os.path.dirname(os.path.realpath(__file__)))
 PROGRAM = f"{ROOT}/crates/mntgate/out/mntgate"
-# Each picture, with the command line of the page that has it, and which of the page's pictures it is.
+# Each picture, with the command line of the page that has it, and which of the page's pictures it
+# is.
 PICTURES = {
     "docs/waiting.svg": (["replay", "--html", "examples/waiting.schedule"], 1),
     "docs/failed-remount.svg": (["replay", "--html", "examples/failed-remount.schedule"], 1),
-    "docs/removed-while-open.svg": (["outcomes", "--html", "examples/races/removed-while-open.race"], 5),
+    "docs/removed-while-open.svg": (
+        ["outcomes", "--html", "examples/races/removed-while-open.race"],
+        5,
+    ),
 }
 # Each page, with its command line.
 PAGES = {
-    "tests/pages/levels.html": ["replay", "--html", "--names", "kernel", "examples/levels.schedule"],
-    "tests/pages/two-changes.html": ["outcomes", "--html", "--model", "examples/races/two-changes.race"],
+    "tests/pages/levels.html": [
+        "replay",
+        "--html",
+        "--names",
+        "kernel",
+        "examples/levels.schedule",
+    ],
+    "tests/pages/two-changes.html": [
+        "outcomes",
+        "--html",
+        "--model",
+        "examples/races/two-changes.race",
+    ],
 }
 # Elements without an end.
 VOID = {"meta", "br"}
@@ -39,7 +57,10 @@ class Elements(HTMLParser):
         self.open, self.faults = [], []
 
     def handle_starttag(self, tag, attrs):
-        if tag == "script" or any(name in ("src", "onload") or name == "href" and not value.startswith("#") for name, value in attrs):
+        if tag == "script" or any(
+            name in ("src", "onload") or name == "href" and not value.startswith("#")
+            for name, value in attrs
+        ):
             self.faults.append(f"<{tag}> asks for something from elsewhere")
         if tag not in VOID:
             self.open.append(tag)
@@ -60,7 +81,9 @@ class Elements(HTMLParser):
 
 def printed(program, words):
     """What the program prints."""
-    return subprocess.run([os.path.abspath(program), *words], cwd=ROOT, stdout=subprocess.PIPE, check=True).stdout
+    return subprocess.run(
+        [os.path.abspath(program), *words], cwd=ROOT, stdout=subprocess.PIPE, check=True
+    ).stdout
 
 
 def made(program):
@@ -100,7 +123,10 @@ def main(words):
             with open(f"{ROOT}/{path}", "wb") as file:
                 file.write(came)
     faults = list(picture_faults(program))
-    print(*faults or [f"{len(PICTURES)} pictures and {len(PAGES)} pages are what the program makes"], sep="\n")
+    print(
+        *faults or [f"{len(PICTURES)} pictures and {len(PAGES)} pages are what the program makes"],
+        sep="\n",
+    )
     return 1 if faults else 0
 
 

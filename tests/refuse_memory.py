@@ -1,16 +1,19 @@
 #!/usr/bin/env -S python3 -B
-"""Refuses the program as it was built each growth of memory in turn, and fails unless it then ends by itself with exit status 1, and says why: as
-`refused 12 NoMemory`. What it has printed by then has to be how its whole output begins, and each file is as it was or as it would be. It may also do
-without a growth, as without room that it asks for ahead: then it ends as if none had been refused. A plain replay, over the core and over the gates,
-tells the line too: the one behind the lines that were done, which have printed all that they print. Which these are is known from its schedule cut
+"""Refuses the program as it was built each growth of memory in turn, and fails unless it then ends
+by itself with exit status 1, and says why: as `refused 12 NoMemory`. What it has printed by then
+has to be how its whole output begins, and each file is as it was or as it would be. It may also do
+without a growth, as without room that it asks for ahead: then it ends as if none had been refused.
+A plain replay, over the core and over the gates, tells the line too: the one behind the lines that
+were done, which have printed all that they print. Which these are is known from its schedule cut
 short: the line that asks for the growth is the first with which the schedule asks for so many.
 
     tests/refuse_memory.py [PROGRAM..]
 
-With no argument it tests the programs that tests/test_program.py does. gcc compiles tests/program/refuse_growth.c, which refuses a growth. A build that
-isn't proved has another malloc, and can't be tested. Of a command line with many growths the first and the last are refused, and some between them, by
-a fixed seed. It prints a line for each command line, and what was wanted and what came if one ended otherwise. The exit status is 0 if all ended as
-they should, else 1."""
+With no argument it tests the programs that tests/test_program.py does. gcc compiles
+tests/program/refuse_growth.c, which refuses a growth. A build that isn't proved has another malloc,
+and can't be tested. Of a command line with many growths the first and the last are refused, and
+some between them, by a fixed seed. It prints a line for each command line, and what was wanted and
+what came if one ended otherwise. The exit status is 0 if all ended as they should, else 1."""
 
 import bisect
 import concurrent.futures
@@ -47,7 +50,9 @@ FILES = {
     "waiting.schedule": SCHEDULE,
     # Its configuration stands behind what one read gives.
     "late.schedule": f"# {'-' * 97}\n" * 700 + "config 2 1 1 2 8\n0 want 0 0\n0 run\nwords\n",
-    "listing.schedule": "config 2 1 1 4 8\n0 freeze\n0 run\n0 snapshot\n0 run\nwords\ntree\nmodel\n",
+    "listing.schedule": (
+        "config 2 1 1 4 8\n0 freeze\n0 run\n0 snapshot\n0 run\nwords\ntree\nmodel\n"
+    ),
     "faulty.schedule": "config 2 1 1 2 8\n0 want 0 0\n0 run\n0 rum\n",
     "unblessed.schedule": SCHEDULE.replace("ok", "done"),
     "two-changes.race": RACE,
@@ -65,15 +70,18 @@ class CommandLine(NamedTuple):
     besides: bytes = rb"(?!)"
     # Whether it writes files: then it has a folder of its own.
     writes: bool = False
-    # Whether it is a plain replay of the file that its last word names: then it tells at which line memory was refused.
+    # Whether it is a plain replay of the file that its last word names: then it tells at which line
+    # memory was refused.
     replays: bool = False
 
 
-# What says that memory was refused: of which file and at which line, if it is of one. The line may stand below.
+# What says that memory was refused: of which file and at which line, if it is of one. The line may
+# stand below.
 REFUSAL = rb"(?:[^\n]*: )?refused 12 NoMemory\n(?:  [^\n]*\n)*"
 # A page has its end also if its schedule is refused.
 PAGE = REFUSAL + rb"<!DOCTYPE html>\n.*</html>\n"
-# A check tells on either output that its file is refused, below what was then not printed, and counts it.
+# A check tells on either output that its file is refused, below what was then not printed, and
+# counts it.
 FAILED = rb"(?:[^\n]*, and nothing more was printed\n)*" + REFUSAL + rb"0 passed, 1 failed\n"
 UNWRITTEN = REFUSAL + rb"0 written, 0 unchanged, 1 failed\n"
 # If there is no memory to explain a fault, it is told alone.
@@ -111,7 +119,8 @@ COMMANDS = [
 
 
 class Came(NamedTuple):
-    """How a command line ended, how many growths it asked for, and the files behind it, if it writes some."""
+    """How a command line ended, how many growths it asked for, and the files behind it, if it
+    writes some."""
 
     ended: Ended
     growths: int
@@ -155,12 +164,18 @@ class Refuser:
         with open(os.memfd_create("growths"), "r+b", 0) as growths:
             growths.truncate(8)
             counted = f"/proc/{os.getpid()}/fd/{growths.fileno()}"
-            env = {**os.environ, "LD_PRELOAD": self.library, "GROWTHS": counted, "REFUSED_GROWTH": str(refused)}
+            env = {
+                **os.environ,
+                "LD_PRELOAD": self.library,
+                "GROWTHS": counted,
+                "REFUSED_GROWTH": str(refused),
+            }
             ended = program.run(line.words.split(" "), env=env)
             return Came(ended, int.from_bytes(growths.read(8), sys.byteorder), {})
 
 
-# How a replay ends if a growth is refused before it begins, as one for the words of its command line.
+# How a replay ends if a growth is refused before it begins, as one for the words of its command
+# line.
 UNBEGUN = Ended(1, b"", b"refused 12 NoMemory\n")
 
 
@@ -180,19 +195,33 @@ class CutReplay:
             return self.refuser.run_by(Program(self.refuser.program.path, folder), self.line, 0)
 
     def refusal(self, refused):
-        """How it ends if this growth is refused: at the line that asks for it, or the first one, behind what the lines before it print."""
-        done = bisect.bisect_left(range(1, len(self.lines) + 1), refused, key=lambda count: self.after(count).growths)
-        return Ended(1, self.after(done).ended.printed, f"{self.file}: line {done + 1}: refused 12 NoMemory\n".encode())
+        """How it ends if this growth is refused: at the line that asks for it, or the first one,
+        behind what the lines before it print."""
+        done = bisect.bisect_left(
+            range(1, len(self.lines) + 1), refused, key=lambda count: self.after(count).growths
+        )
+        return Ended(
+            1,
+            self.after(done).ended.printed,
+            f"{self.file}: line {done + 1}: refused 12 NoMemory\n".encode(),
+        )
 
     def differences(self, whole, came, numbers):
-        """How it ended otherwise for each of these growths that was refused; nothing if it didn't. No growth of the replay itself comes before one of its
-        command line."""
+        """How it ended otherwise for each of these growths that was refused; nothing if it didn't.
+        No growth of the replay itself comes before one of its command line."""
         has_begun, found = False, []
         for each, refused in zip(came, numbers):
             wanted = self.refusal(refused)
             has_begun = has_begun or each.ended == wanted or refused > self.after(0).growths
             is_right = is_without(whole, each) or each.ended == (wanted if has_begun else UNBEGUN)
-            found.append("" if is_right else f"it was to tell {wanted.told!r} and to print {wanted.printed!r}, and ended by {each.ended!r}\n")
+            found.append(
+                ""
+                if is_right
+                else (
+                    f"it was to tell {wanted.told!r} and to print {wanted.printed!r}, and ended by"
+                    f" {each.ended!r}\n"
+                )
+            )
         return found
 
 
@@ -202,7 +231,8 @@ def is_without(whole, came):
 
 
 def difference(line, whole, came, refused):
-    """How a command line of which a growth was refused ended otherwise than it may; nothing if it didn't."""
+    """How a command line of which a growth was refused ended otherwise than it may; nothing if it
+    didn't."""
     if came.growths < refused:
         return f"it asked for {came.growths} growths alone\n"
     if is_without(whole, came):
@@ -231,7 +261,8 @@ def chosen(count):
 
 
 def test_line(refuser, pool, part, line):
-    """Tests a command line with a part of the growths refused, and prints how that went; whether it ended as it should."""
+    """Tests a command line with a part of the growths refused, and prints how that went; whether it
+    ended as it should."""
     whole = refuser.run(line)
     numbers = chosen(whole.growths)[::part]
     came = list(pool.map(functools.partial(refuser.run, line), numbers))
@@ -239,11 +270,19 @@ def test_line(refuser, pool, part, line):
     if line.replays:
         lines = CutReplay(refuser, line).differences(whole, came, numbers)
         differences = ["".join(pair) for pair in zip(differences, lines)]
-    wrong = [f"growth {number} refused:\n{text}" for number, text in zip(numbers, differences) if text]
+    wrong = [
+        f"growth {number} refused:\n{text}" for number, text in zip(numbers, differences) if text
+    ]
     if not whole.growths:
         wrong.append("no growth was counted: the program asks for memory in another way\n")
     without = sum(is_without(whole, each) for each in came)
-    print(f"  {line.words}: {whole.growths} growths, {len(came)} refused, {without} of them done without", flush=True)
+    print(
+        (
+            f"  {line.words}: {whole.growths} growths, {len(came)} refused, {without} of them done"
+            " without"
+        ),
+        flush=True,
+    )
     if wrong:
         print(*wrong[:SHOWN], f"  {len(wrong)} ended otherwise", sep="\n", flush=True)
     return not wrong
@@ -252,7 +291,9 @@ def test_line(refuser, pool, part, line):
 def test(path, library, part):
     """Tests a program, and prints how that went; whether all command lines ended as they should."""
     print(f"{os.path.relpath(path)}:", flush=True)
-    with tempfile.TemporaryDirectory() as folder, concurrent.futures.ThreadPoolExecutor(os.cpu_count()) as pool:
+    with tempfile.TemporaryDirectory() as folder, concurrent.futures.ThreadPoolExecutor(
+        os.cpu_count()
+    ) as pool:
         refuser = Refuser(path, library, folder)
         return all([test_line(refuser, pool, part, line) for line in COMMANDS])
 
@@ -261,8 +302,25 @@ def main(paths):
     """Tests these programs, or those of the repository; the exit status."""
     with tempfile.TemporaryDirectory() as folder:
         library = f"{folder}/refuse_growth.so"
-        subprocess.run(["gcc", "-std=c11", "-O2", "-Wall", "-Wextra", "-Werror", "-shared", "-fPIC", "-o", library, SOURCE], check=True)
-        parts = [(path, SECOND if number else 1) for number, path in enumerate(built_programs(paths))]
+        subprocess.run(
+            [
+                "gcc",
+                "-std=c11",
+                "-O2",
+                "-Wall",
+                "-Wextra",
+                "-Werror",
+                "-shared",
+                "-fPIC",
+                "-o",
+                library,
+                SOURCE,
+            ],
+            check=True,
+        )
+        parts = [
+            (path, SECOND if number else 1) for number, path in enumerate(built_programs(paths))
+        ]
         return 0 if all([test(path, library, part) for path, part in parts]) else 1
 
 

@@ -1,12 +1,15 @@
 #!/usr/bin/env -S python3 -B
-"""Refuses a run of the program as it was built each start of a thread in turn, and fails unless the run then ends by itself with exit status 1, has
-printed nothing, and says `refused 12 NoMemory`; and unless each thread that was started before has ended by then. Each of them begins late, so that a
+"""Refuses a run of the program as it was built each start of a thread in turn, and fails unless the
+run then ends by itself with exit status 1, has printed nothing, and says `refused 12 NoMemory`; and
+unless each thread that was started before has ended by then. Each of them begins late, so that a
 run that doesn't wait for them would tell the refusal first.
 
     tests/refuse_threads.py [PROGRAM..]
 
-With no argument it tests the programs that tests/test_program.py does. gcc compiles tests/program/refuse_thread.c, which refuses a start. It prints a
-line for each command line, and what was wanted and what came if one ended otherwise. The exit status is 0 if all ended as they should, else 1."""
+With no argument it tests the programs that tests/test_program.py does. gcc compiles
+tests/program/refuse_thread.c, which refuses a start. It prints a line for each command line, and
+what was wanted and what came if one ended otherwise. The exit status is 0 if all ended as they
+should, else 1."""
 
 import os
 import struct
@@ -29,7 +32,8 @@ REFUSED = Ended(1, b"", b"refused 12 NoMemory\n")
 
 
 class Came(NamedTuple):
-    """How a run ended; and of its threads, how many it asked for, had begun when it told anything, and have ended."""
+    """How a run ended; and of its threads, how many it asked for, had begun when it told anything,
+    and have ended."""
 
     ended: Ended
     asked: int
@@ -38,23 +42,35 @@ class Came(NamedTuple):
 
 
 def run(program, library, words, refused=0):
-    """Runs a command line with the start of the thread of this number refused; of none, if it is 0."""
+    """Runs a command line with the start of the thread of this number refused; of none, if it is
+    0."""
     counts = struct.Struct("=3Q")
     with open(os.memfd_create("threads"), "r+b", 0) as threads:
         threads.truncate(counts.size)
-        env = {**os.environ, "LD_PRELOAD": library, "THREADS": f"/proc/{os.getpid()}/fd/{threads.fileno()}", "REFUSED_THREAD": str(refused)}
+        env = {
+            **os.environ,
+            "LD_PRELOAD": library,
+            "THREADS": f"/proc/{os.getpid()}/fd/{threads.fileno()}",
+            "REFUSED_THREAD": str(refused),
+        }
         ended = program.run(words.split(" "), env=env)
         return Came(ended, *counts.unpack(threads.read(counts.size)))
 
 
 def test_line(program, library, words, threads):
-    """Tests a command line with each start refused, and prints how that went; whether it ended as it should."""
+    """Tests a command line with each start refused, and prints how that went; whether it ended as
+    it should."""
     whole = run(program, library, words)
     wrong = []
     if (whole.ended.status, whole.asked, whole.ended.told) != (0, threads, b""):
-        wrong.append(f"with no start refused: exit status 0 and {threads} threads were wanted, and {whole} came")
+        wrong.append(
+            f"with no start refused: exit status 0 and {threads} threads were wanted, and"
+            f" {whole} came"
+        )
     for number in range(1, threads + 1):
-        wanted, came = Came(REFUSED, number, number - 1, number - 1), run(program, library, words, number)
+        wanted, came = Came(REFUSED, number, number - 1, number - 1), run(
+            program, library, words, number
+        )
         if came != wanted:
             wrong.append(f"start {number} refused: {wanted} was wanted, and {came} came")
     print(f"  {words}: {threads} starts, each refused", *wrong, sep="\n", flush=True)
@@ -73,7 +89,22 @@ def main(paths):
     """Tests these programs, or those of the repository; the exit status."""
     with tempfile.TemporaryDirectory() as folder:
         library = f"{folder}/refuse_thread.so"
-        subprocess.run(["gcc", "-std=c11", "-O2", "-Wall", "-Wextra", "-Werror", "-shared", "-fPIC", "-o", library, SOURCE], check=True)
+        subprocess.run(
+            [
+                "gcc",
+                "-std=c11",
+                "-O2",
+                "-Wall",
+                "-Wextra",
+                "-Werror",
+                "-shared",
+                "-fPIC",
+                "-o",
+                library,
+                SOURCE,
+            ],
+            check=True,
+        )
         return 0 if all([test(path, library) for path in built_programs(paths)]) else 1
 
 

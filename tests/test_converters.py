@@ -1,7 +1,8 @@
 #!/usr/bin/env -S python3 -B
-"""Tests tools/from-strace and tools/from-ftrace on recorded texts: no kernel runs, and no mntgate. examples/traces/backup.strace was recorded on a 6.18, less the
-lines of other files; backup.ftrace is written by hand, in the form of a 6.1. What the two become stands in examples/histories, whose verdicts
-tests/test_program.py compares."""
+"""Tests tools/from-strace and tools/from-ftrace on recorded texts: no kernel runs, and no mntgate.
+examples/traces/backup.strace was recorded on a 6.18, less the lines of other files; backup.ftrace
+is written by hand, in the form of a 6.1. What the two become stands in examples/histories, whose
+verdicts tests/test_program.py compares."""
 
 import contextlib
 import importlib.machinery
@@ -62,7 +63,14 @@ class Converted(unittest.TestCase):
         """A trace becomes these lines, behind `history`, less comments."""
         printed, said = convert(self.tool, trace, *(self.words if words is None else words))
         self.assertEqual(said, "")
-        self.assertEqual([line for line in printed.partition("history\n")[2].splitlines() if not line.startswith("#")], list(lines))
+        self.assertEqual(
+            [
+                line
+                for line in printed.partition("history\n")[2].splitlines()
+                if not line.startswith("#")
+            ],
+            list(lines),
+        )
         return printed
 
     def expect_refused(self, trace, said):
@@ -72,7 +80,10 @@ class Converted(unittest.TestCase):
     def expect_example(self, trace, example):
         """A recorded trace becomes an example, but for the lines that a reader is told."""
         lines = read_file(f"examples/histories/{example}.history").splitlines(keepends=True)
-        self.assertEqual(convert(self.tool, read_file(f"examples/traces/{trace}"), *self.words), ("".join(lines[2:]), ""))
+        self.assertEqual(
+            convert(self.tool, read_file(f"examples/traces/{trace}"), *self.words),
+            ("".join(lines[2:]), ""),
+        )
 
 
 class Strace(Converted):
@@ -113,8 +124,16 @@ class Strace(Converted):
         opens = '7 openat(AT_FDCWD</>, "/mnt/a", O_RDWR|O_CREAT|O_CLOEXEC, 0666) = 3</mnt/a>\n'
         self.expect(f"{opens}7 close(3</mnt/a>) = 0\n8 ioctl(3</mnt>, FIFREEZE) = 0\n7 getpid() = 7\n",
                     f"0 {CREATES}", "0 ok", "0 drop 0 *", "1 freeze user", "1 ok", "0 ok")  # fmt: skip
-        self.expect(f'{opens}7 execve("/bin/true", ["true"], 0x1 /* 9 vars */) = 0\n7 getpid() = 7\n', f"0 {CREATES}", "0 ok", "0 drop 0 *", "0 ok")
-        self.expect(f"{opens}7 close_range(3, 4294967295, 0) = 0\n", f"0 {CREATES}", "0 ok", "0 drop 0 *")
+        self.expect(
+            f'{opens}7 execve("/bin/true", ["true"], 0x1 /* 9 vars */) = 0\n7 getpid() = 7\n',
+            f"0 {CREATES}",
+            "0 ok",
+            "0 drop 0 *",
+            "0 ok",
+        )
+        self.expect(
+            f"{opens}7 close_range(3, 4294967295, 0) = 0\n", f"0 {CREATES}", "0 ok", "0 drop 0 *"
+        )
 
     def test_who_ends_closes(self):
         opens = '7 openat(AT_FDCWD</>, "/mnt/a", O_RDWR|O_TRUNC) = 3</mnt/a>\n'
@@ -157,8 +176,14 @@ class Strace(Converted):
     def test_what_is_no_trace(self):
         self.expect_refused("what\n", "line 1: 'what' is no line of strace -f")
         self.expect_refused("7 what\n", "line 1: 'what' is no system call")
-        self.expect_refused('7 read(3</a>,  <unfinished ...>\n7 getpid() = 7\n', "line 2: process 7 is in a call, whose end isn't there: 7 read(3</a>)")
-        opens = "".join(f'7 openat(AT_FDCWD</>, "/mnt/{number}", O_WRONLY) = {number}</mnt/{number}>\n' for number in range(65))
+        self.expect_refused(
+            "7 read(3</a>,  <unfinished ...>\n7 getpid() = 7\n",
+            "line 2: process 7 is in a call, whose end isn't there: 7 read(3</a>)",
+        )
+        opens = "".join(
+            f'7 openat(AT_FDCWD</>, "/mnt/{number}", O_WRONLY) = {number}</mnt/{number}>\n'
+            for number in range(65)
+        )
         self.expect_refused(opens, "more than 64 tasks and open files at once")
 
 
@@ -173,7 +198,10 @@ class Ftrace(Converted):
         text = "# kernel 6.12.0\n"
         for number, event in enumerate(events, 1):
             thread, name, told = event.split(" ", 2)
-            text += f"              sh-{thread}     [000] .....     {number}: {name}: {place['_return' if name.endswith('_return') else '']} {told}\n"
+            text += (
+                f"              sh-{thread}     [000] .....     {number}: {name}:"
+                f" {place['_return' if name.endswith('_return') else '']} {told}\n"
+            )
         return text
 
     def test_written_by_hand(self):
@@ -184,10 +212,18 @@ class Ftrace(Converted):
             self.lines("7 freeze sb=0x1 who=1", "7 freeze_return ret=0", "8 drop mnt=0x5 sb=0x1", "8 drop_return ret=9", "9 drop_write mnt=0x6 sb=0x1",
                        "9 drop_write_return ret=0"),
             "2 freeze kernel", "2 ok", "0 drop 0 *", "0 ok", "1 dropwrite 1 *", "1 ok")  # fmt: skip
-        self.assertEqual(printed.partition("history")[0], "config 3 1 2 2 8\n0 want 0 0\n0 run\n1 wantwrite 1 0\n1 run\n")
+        self.assertEqual(
+            printed.partition("history")[0],
+            "config 3 1 2 2 8\n0 want 0 0\n0 run\n1 wantwrite 1 0\n1 run\n",
+        )
 
     def test_one_superblock(self):
-        events = self.lines("7 freeze sb=0x1 who=2", "7 freeze_return ret=-16", "7 thaw sb=0x2 who=2", "7 thaw_return ret=-22")
+        events = self.lines(
+            "7 freeze sb=0x1 who=2",
+            "7 freeze_return ret=-16",
+            "7 thaw sb=0x2 who=2",
+            "7 thaw_return ret=-22",
+        )
         self.expect(events, "0 freeze user", "0 refused 16")
         self.expect(events, "0 thaw user", "0 refused 22", words=("--sb", "0x2"))
 
@@ -197,12 +233,21 @@ class Ftrace(Converted):
 
     def test_what_is_no_trace(self):
         self.expect_refused("what\n", "line 1: 'what' is no event of tools/trace-gates")
-        self.expect_refused("CPU:1 [LOST 5 EVENTS]\n", "line 1: events were lost; a larger buffer_size_kb keeps more")
-        self.expect_refused(self.lines("7 write sb=0x1"), "no freeze, thaw or remount is recorded, and --sb isn't given")
+        self.expect_refused(
+            "CPU:1 [LOST 5 EVENTS]\n",
+            "line 1: events were lost; a larger buffer_size_kb keeps more",
+        )
+        self.expect_refused(
+            self.lines("7 write sb=0x1"),
+            "no freeze, thaw or remount is recorded, and --sb isn't given",
+        )
         self.expect_refused(self.lines("7 want mnt=0x5 sb=0x1", "7 freeze sb=0x1 who=2", "7 want_return ret=0"),
                             "line 4: want returns within freeze: a return was missed")  # fmt: skip
         older = self.lines("7 thaw sb=0x1 who=2", "7 thaw_return ret=0").splitlines(keepends=True)
-        self.expect_refused(older[0] + older[2] + older[1], "line 3: it is older than the line before: the clock has to be one of all processors")
+        self.expect_refused(
+            older[0] + older[2] + older[1],
+            "line 3: it is older than the line before: the clock has to be one of all processors",
+        )
 
 
 # It has no tests of its own.

@@ -3,10 +3,12 @@
 
     tests/test_fuse.py [--rounds N] [--list | TEST..]
 
-It builds the example over the C library in out/c, which bindings/test.sh installs, and mounts it in folders of its own. Each test has a limit of time,
-at which its daemon is killed. --rounds says how many backups are made under load (6); SEED in the environment picks other random operations. `speed`
-runs only if it is named: what small writes cost with the gates and without them. If nothing can be mounted here, or something is missing that the
-example is built with, one line says so and the exit status is 0. Prints what each test has seen; the exit status is 1 after a fault."""
+It builds the example over the C library in out/c, which bindings/test.sh installs, and mounts it in
+folders of its own. Each test has a limit of time, at which its daemon is killed. --rounds says how
+many backups are made under load (6); SEED in the environment picks other random operations. `speed`
+runs only if it is named: what small writes cost with the gates and without them. If nothing can be
+mounted here, or something is missing that the example is built with, one line says so and the exit
+status is 0. Prints what each test has seen; the exit status is 1 after a fault."""
 
 import argparse
 import ctypes
@@ -31,14 +33,19 @@ def say(text):
 
 
 def why_not_mounted():
-    """Why nothing can be mounted here, or None: the device is opened and, by root, a mount of it is made."""
+    """Why nothing can be mounted here, or None: the device is opened and, by root, a mount of it is
+    made."""
     try:
         device = os.open("/dev/fuse", os.O_RDWR)
     except OSError as error:
         return f"/dev/fuse: {error.strerror}"
     try:
         if os.geteuid() != 0:
-            return None if shutil.which("fusermount3") else "fusermount3 isn't here, and only root mounts without it"
+            return (
+                None
+                if shutil.which("fusermount3")
+                else "fusermount3 isn't here, and only root mounts without it"
+            )
         libc = ctypes.CDLL(None, use_errno=True)
         with tempfile.TemporaryDirectory() as point:
             options = f"fd={device},rootmode=40000,user_id=0,group_id=0"
@@ -55,7 +62,9 @@ def what_is_missing():
     for program in ("gcc", "make", "pkg-config"):
         if not shutil.which(program):
             return f"{program} isn't here"
-    if subprocess.run(["pkg-config", "--atleast-version=3.12", "fuse3"], capture_output=True, check=False).returncode:
+    if subprocess.run(
+        ["pkg-config", "--atleast-version=3.12", "fuse3"], capture_output=True, check=False
+    ).returncode:
         return "libfuse3-dev isn't here, of libfuse 3.12 or later"
     return None
 
@@ -65,7 +74,10 @@ def build():
     programs = f"{ROOT}/out/fuse"
     if not os.path.exists(f"{LIBRARY}/lib/libmntgate.a"):
         subprocess.run([f"{ROOT}/bin/install-c", LIBRARY], check=True)
-    subprocess.run(["make", "-s", "-C", f"{ROOT}/examples/fuse", f"PREFIX={LIBRARY}", f"O={programs}"], check=True)
+    subprocess.run(
+        ["make", "-s", "-C", f"{ROOT}/examples/fuse", f"PREFIX={LIBRARY}", f"O={programs}"],
+        check=True,
+    )
     return programs
 
 

@@ -1,15 +1,20 @@
 #!/usr/bin/env -S python3 -B
-"""Tests the page of the manual, man/mntgate.1, against the command line in crates/command_line, the repository and the built program.
+"""Tests the page of the manual, man/mntgate.1, against the command line in crates/command_line, the
+repository and the built program.
 
     tests/test_manual.py [--text] [PROGRAM]
 
-With no PROGRAM it takes crates/mntgate/out/mntgate. With --text it runs no command. Four things are tested:
+With no PROGRAM it takes crates/mntgate/out/mntgate. With --text it runs no command. Four things are
+tested:
 
-Commands   The section COMMANDS has the commands, their arguments and the help of each, in their order, and nothing else does but `help`.
-Synopsis   The section SYNOPSIS has the same commands in the same order, each with its words, and with all of its options or `[OPTIONS]`.
+Commands   The section COMMANDS has the commands, their arguments and the help of each, in their
+           order, and nothing else does but `help`.
+Synopsis   The section SYNOPSIS has the same commands in the same order, each with its words, and
+           with all of its options or `[OPTIONS]`.
 Paths      Each word that begins with a folder of the repository is a path there.
-Examples   Each command `mntgate ..` in bold of the sections DESCRIPTION and EXAMPLES runs beside the repository, with status 0. It prints the
-           lines that stand between .EX and .EE behind it, if there are any; a line `...` stands for any lines.
+Examples   Each command `mntgate ..` in bold of the sections DESCRIPTION and EXAMPLES runs beside
+           the repository, with status 0. It prints the lines that stand between .EX and .EE behind
+           it, if there are any; a line `...` stands for any lines.
 
 Prints what is wrong; the exit status is 1 then."""
 
@@ -29,7 +34,8 @@ COMMAND = re.compile(r"^\.B (mntgate .*)$|\\fB(mntgate .*?)\\fR")
 
 
 class Argument(NamedTuple):
-    """An argument of a command: its name, its kind, what help calls its value, if it has one, and its help."""
+    """An argument of a command: its name, its kind, what help calls its value, if it has one, and
+    its help."""
 
     name: str
     kind: str
@@ -79,17 +85,28 @@ def commands_of_the_program():
     source = text_of("crates/command_line/src/arguments.rt")
     names = dict(re.findall(rf"^pub\(crate\) const (\w+): &str = {TEXT};", source, re.M))
     table = re.search(r"^const SUBCOMMANDS.*?^\];", source, re.M | re.S)[0]
-    argument = rf"name: (?:{TEXT}|(\w+)),\s*kind: ArgumentKind::(\w+)(?:\({TEXT}.*?\))?,\s*help: {TEXT},"
-    for name, about, arguments in re.findall(rf"name: {TEXT},\s*about: {TEXT},\s*arguments: &\[(.*?)\],\n    \}}", table, re.S):
+    argument = (
+        rf"name: (?:{TEXT}|(\w+)),\s*kind: ArgumentKind::(\w+)(?:\({TEXT}.*?\))?,\s*help: {TEXT},"
+    )
+    for name, about, arguments in re.findall(
+        rf"name: {TEXT},\s*about: {TEXT},\s*arguments: &\[(.*?)\],\n    \}}", table, re.S
+    ):
         found = re.findall(argument, arguments)
-        yield name, about, [Argument(text or names[constant], kind, value, told) for text, constant, kind, value, told in found]
+        yield name, about, [
+            Argument(text or names[constant], kind, value, told)
+            for text, constant, kind, value, told in found
+        ]
 
 
 def section(page, name):
     """The lines of a section of the page, each with its number."""
     lines = page.splitlines()
     begins = lines.index(f".SH {name}") + 1
-    ends = next(at for at in range(begins, len(lines) + 1) if at == len(lines) or lines[at].startswith(".SH "))
+    ends = next(
+        at
+        for at in range(begins, len(lines) + 1)
+        if at == len(lines) or lines[at].startswith(".SH ")
+    )
     return list(enumerate(lines[begins:ends], begins + 1))
 
 
@@ -104,7 +121,9 @@ def command_section_faults(page, commands):
     wanted += [".TP", f".B {HELP[0]}", HELP[1]]
     came = [plain(line) for _, line in section(page, "COMMANDS")]
     if len(wanted) < 20 or wanted != came:
-        yield "\n".join(difflib.unified_diff(wanted, came, "crates/command_line", PAGE, lineterm=""))
+        yield "\n".join(
+            difflib.unified_diff(wanted, came, "crates/command_line", PAGE, lineterm="")
+        )
 
 
 def synopsis_faults(page, commands):
@@ -113,11 +132,16 @@ def synopsis_faults(page, commands):
     shown = re.findall(r"^\.B mntgate (\S+)\n(.*)$", text, re.M)
     usages = {name: arguments for name, _, arguments in commands}
     if [name for name, _ in shown] != [*usages, HELP[0]]:
-        yield f"{PAGE}: SYNOPSIS has the commands {[name for name, _ in shown]}, the command line {[*usages, HELP[0]]}"
+        yield (
+            f"{PAGE}: SYNOPSIS has the commands {[name for name, _ in shown]}, the command line"
+            f" {[*usages, HELP[0]]}"
+        )
         return
     for name, words in shown[:-1]:
         came = sorted(re.findall(r"--[a-z-]+(?: [A-Z]+)?|[A-Z]+", words.replace("[OPTIONS]", "")))
-        wanted = sorted(it.usage() for it in usages[name] if not (it.is_option() and "[OPTIONS]" in words))
+        wanted = sorted(
+            it.usage() for it in usages[name] if not (it.is_option() and "[OPTIONS]" in words)
+        )
         if came != wanted:
             yield f"{PAGE}: SYNOPSIS has {came} of `{name}`, the command line {wanted}"
 
@@ -131,7 +155,8 @@ def path_faults(page):
 
 
 def examples(page):
-    """The commands that the page shows, each with its line and the lines that it should print, or None if none are shown."""
+    """The commands that the page shows, each with its line and the lines that it should print, or
+    None if none are shown."""
     for name in ("DESCRIPTION", "EXAMPLES"):
         shown = None
         for number, line in section(page, name):
@@ -154,7 +179,10 @@ def example_faults(page, program):
     """The commands of the page that don't run, or print something else; and how many there are."""
     with tempfile.TemporaryDirectory() as folder:
         make_folder(folder, program)
-        faults = [command_fault(f"{PAGE}:{number}", command, wanted, folder) for number, command, wanted in examples(page)]
+        faults = [
+            command_fault(f"{PAGE}:{number}", command, wanted, folder)
+            for number, command, wanted in examples(page)
+        ]
     return [fault for fault in faults if fault], len(faults)
 
 
@@ -163,12 +191,18 @@ def main(words):
     text_alone = "--text" in words
     program = next((word for word in words if word != "--text"), PROGRAM)
     page, commands = text_of(PAGE), list(commands_of_the_program())
-    faults = [*command_section_faults(page, commands), *synopsis_faults(page, commands), *path_faults(page)]
+    faults = [
+        *command_section_faults(page, commands),
+        *synopsis_faults(page, commands),
+        *path_faults(page),
+    ]
     if text_alone:
         return verdict(faults, f"{PAGE} says what the command line has")
     expect_program(program, "test_manual")
     ended, count = example_faults(page, program)
-    return verdict([*faults, *ended], f"{PAGE} says what the command line has, and its {count} commands run")
+    return verdict(
+        [*faults, *ended], f"{PAGE} says what the command line has, and its {count} commands run"
+    )
 
 
 if __name__ == "__main__":

@@ -3,9 +3,10 @@
 
     tests/test_meetings.py
 
-By its meetings the contracts of crates/example_first know what the other task holds. When it runs they do nothing that shows. So a copy of the crates
-is made, each line of `two_tasks.rt` goes that is a meeting, and the program is built of that without a proof and run: about a minute. It has to print
-what crates/example_first/stdout has. Prints what is wrong; the exit status is 1 then."""
+By its meetings the contracts of crates/example_first know what the other task holds. When it runs
+they do nothing that shows. So a copy of the crates is made, each line of `two_tasks.rt` goes that
+is a meeting, and the program is built of that without a proof and run: about a minute. It has to
+print what crates/example_first/stdout has. Prints what is wrong; the exit status is 1 then."""
 
 import os
 import shutil
@@ -33,16 +34,28 @@ def main():
     with open(f"{ROOT}/{CRATE}/stdout", encoding="utf-8") as it:
         wanted = it.read()
     with tempfile.TemporaryDirectory() as root:
-        shutil.copytree(f"{ROOT}/crates", f"{root}/crates", ignore=shutil.ignore_patterns("out", "must-fail"))
+        shutil.copytree(
+            f"{ROOT}/crates", f"{root}/crates", ignore=shutil.ignore_patterns("out", "must-fail")
+        )
         for name in ("crates.txt", "HANDLES"):
             shutil.copy(f"{ROOT}/{name}", root)
         count = without_meetings(root)
         if count != MEETINGS:
             print(f"{SOURCE}: {count} lines are meetings, and not {MEETINGS}")
             return 1
-        ran = subprocess.run(["rt", "try"], cwd=f"{root}/{CRATE}", stdin=subprocess.DEVNULL, capture_output=True, text=True, check=False)
+        ran = subprocess.run(
+            ["rt", "try"],
+            cwd=f"{root}/{CRATE}",
+            stdin=subprocess.DEVNULL,
+            capture_output=True,
+            text=True,
+            check=False,
+        )
     if ran.returncode or ran.stdout != wanted:
-        print(f"{CRATE} without its meetings: status {ran.returncode}\n{ran.stdout}{ran.stderr}", end="")
+        print(
+            f"{CRATE} without its meetings: status {ran.returncode}\n{ran.stdout}{ran.stderr}",
+            end="",
+        )
         return 1
     return 0
 

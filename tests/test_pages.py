@@ -1,23 +1,32 @@
 #!/usr/bin/env -S python3 -B
-"""Tests the pages README.md, CONTRIBUTING.md, docs/**/*.md and examples/**/*.md against the repository and the built program.
+"""Tests the pages README.md, CONTRIBUTING.md, bench/*.md, docs/**/*.md and examples/**/*.md
+against the repository and the built program.
 
     tests/test_pages.py [--links] [PROGRAM]
     tests/test_pages.py --in FOLDER PAGE..
 
-With no PROGRAM it takes crates/mntgate/out/mntgate. With --links it runs no command. With --in it runs the commands of these pages in that folder, which
-has its own bin/mntgate, and tests nothing else. Five things are tested:
+With no PROGRAM it takes crates/mntgate/out/mntgate. With --links it runs no command. With --in it
+runs the commands of these pages in that folder, which has its own bin/mntgate, and tests nothing
+else. Five things are tested:
 
-Links      A link to a file names one that exists, and its #heading one that the file has. Links to other hosts are not followed.
-Paths      A path in backticks that begins with a folder of the repository exists. One with NAME, `..`, `<` or /out is skipped.
-Commands   A block that begins with ```console is run. A line `$ COMMAND` is a command for bash, lines `> ` behind it continue it, and all other
-           lines are what it prints, standard error included. A line `...` stands for any lines. All commands of a page run in one folder, in
-           which bin/mntgate is the program and all else of the repository has its place, so that a page may write files there. A command whose
-           status isn't 0 has to say so: `$ COMMAND; echo $?`.
-Quotes     A block that begins with ```LANGUAGE FILE has lines of that file, in their order and with none left out; their common indent may
-           differ. A line `...` stands for any lines of the file. FILE is relative to the repository's top.
-Pictures   Those of the pages are what the program makes (tests/pictures.py), and each that a page shows is there.
+Links      A link to a file names one that exists, and its #heading one that the file has. Links to
+           other hosts are not followed.
+Paths      A path in backticks that begins with a folder of the repository exists. One with NAME,
+           `..`, `<` or /out is skipped.
+Commands   A block that begins with ```console is run. A line `$ COMMAND` is a command for bash,
+           lines `> ` behind it continue it, and all other lines are what it prints, standard error
+           included. A line `...` stands for any lines. All commands of a page run in one folder, in
+           which bin/mntgate is the program and all else of the repository has its place, so that a
+           page may write files there. A command whose status isn't 0 has to say so: `$ COMMAND;
+           echo $?`.
+Quotes     A block that begins with ```LANGUAGE FILE has lines of that file, in their order and with
+           none left out; their common indent may differ. A line `...` stands for any lines of the
+           file. FILE is relative to the repository's top.
+Pictures   Those of the pages are what the program makes (tests/pictures.py), and each that a page
+           shows is there.
 
-And each docs/NAME.md that a file of the repository mentions exists. Prints what is wrong, by page and line; the exit status is 1 then."""
+And each docs/NAME.md that a file of the repository mentions exists. Prints what is wrong, by page
+and line; the exit status is 1 then."""
 
 import glob
 import os
@@ -27,7 +36,16 @@ import tempfile
 import textwrap
 from typing import NamedTuple
 
-from consoles import FOLDERS, PROGRAM, ROOT, command_fault, expect_program, is_missing, make_folder, parts_of
+from consoles import (
+    FOLDERS,
+    PROGRAM,
+    ROOT,
+    command_fault,
+    expect_program,
+    is_missing,
+    make_folder,
+    parts_of,
+)
 from pictures import picture_faults
 from verdicts import verdict
 
@@ -75,7 +93,11 @@ def read_page(path):
 
 def pages():
     """All pages."""
-    found = [path for pattern in ("*.md", "docs/**/*.md", "examples/**/*.md") for path in glob.glob(pattern, root_dir=ROOT, recursive=True)]
+    found = [
+        path
+        for pattern in ("*.md", "bench/*.md", "docs/**/*.md", "examples/**/*.md")
+        for path in glob.glob(pattern, root_dir=ROOT, recursive=True)
+    ]
     return [read_page(path) for path in sorted(found)]
 
 
@@ -98,7 +120,11 @@ def link_faults(page, by_path):
             if "://" in target or target.startswith("mailto:"):
                 continue
             name, _, anchor = target.partition("#")
-            path = os.path.normpath(os.path.join(os.path.dirname(page.path), name)) if name else page.path
+            path = (
+                os.path.normpath(os.path.join(os.path.dirname(page.path), name))
+                if name
+                else page.path
+            )
             if not os.path.exists(f"{ROOT}/{path}"):
                 yield f"{page.path}:{number}: no file {path}"
             elif anchor and path in by_path and anchor not in anchors(by_path[path]):
@@ -118,7 +144,11 @@ def mention_faults():
     """The pages that a file mentions and that are not there."""
     for folder in (*FOLDERS, "."):
         for place, folders, names in os.walk(f"{ROOT}/{folder}"):
-            folders[:] = [] if folder == "." else [name for name in folders if name not in ("out", "__pycache__", ".git")]
+            folders[:] = (
+                []
+                if folder == "."
+                else [name for name in folders if name not in ("out", "__pycache__", ".git")]
+            )
             for path in (os.path.join(place, name) for name in names):
                 try:
                     with open(path, encoding="utf-8") as it:
@@ -177,10 +207,17 @@ def quote_faults(page):
         for part in parts_of(block.lines):
             wanted = textwrap.dedent("\n".join(part)).strip("\n").splitlines()
             size = len(wanted)
-            found = (k for k in range(at, len(file) - size + 1) if textwrap.dedent("\n".join(file[k : k + size])).splitlines() == wanted)
+            found = (
+                k
+                for k in range(at, len(file) - size + 1)
+                if textwrap.dedent("\n".join(file[k : k + size])).splitlines() == wanted
+            )
             at = next(found, None)
             if at is None:
-                faults.append(f"{page.path}:{block.line}: {words[1]} doesn't have the lines from {wanted[0].strip()!r} on")
+                faults.append(
+                    f"{page.path}:{block.line}: {words[1]} doesn't have the lines from"
+                    f" {wanted[0].strip()!r} on"
+                )
                 break
             at += size
     return faults, count
@@ -192,7 +229,9 @@ def type_in(folder, paths):
     for path in paths:
         ended, count = faults_in(folder, read_page(path))
         faults, commands = faults + ended, commands + count
-    return verdict(faults, f"{' and '.join(paths)}: {commands} commands print what they say in {folder}")
+    return verdict(
+        faults, f"{' and '.join(paths)}: {commands} commands print what they say in {folder}"
+    )
 
 
 def main(words):
@@ -217,7 +256,13 @@ def main(words):
         faults += picture_faults(program)
     if faults:
         faults.append(f"{len(faults)} places of the pages are wrong")
-    return verdict(faults, f"{len(every)} pages: their links lead somewhere, {commands} commands print what they say, {quotes} quotes stand in the code")
+    return verdict(
+        faults,
+        (
+            f"{len(every)} pages: their links lead somewhere, {commands} commands print what they"
+            f" say, {quotes} quotes stand in the code"
+        ),
+    )
 
 
 if __name__ == "__main__":

@@ -3,10 +3,12 @@
 
     tests/test_steps.py [--all | WORD..]
 
-A block of the page that begins with ```text and a line `$ bin/without ..` has what this command prints: a line `...` stands for any lines. Each names a
-mutant and a race that exist. Those whose command has one of the words are run; with --all all of them, and each builds its mutant, if that isn't
-kept: about a minute. What bin/without refuses is tried in any case, and that the mutants of docs/steps fit their crates: CI builds none of those.
-Prints what is wrong; the exit status is 1 then."""
+A block of the page that begins with ```text and a line `$ bin/without ..` has what this command
+prints: a line `...` stands for any lines. Each names a mutant and a race that exist. Those whose
+command has one of the words are run; with --all all of them, and each builds its mutant, if that
+isn't kept: about a minute. What bin/without refuses is tried in any case, and that the mutants of
+docs/steps fit their crates: CI builds none of those. Prints what is wrong; the exit status is 1
+then."""
 
 import difflib
 import glob
@@ -23,9 +25,15 @@ RACE = "examples/races/steps/want-change.race"
 # Arguments, and what they are refused with: a part of standard error.
 REFUSED = [
     (["sums_before_hold"], "a mutant and a race are needed"),
-    (["sums_befor_hold", RACE], "no mutant sums_befor_hold; the nearest: mount_counts/sums_before_hold"),
+    (
+        ["sums_befor_hold", RACE],
+        "no mutant sums_befor_hold; the nearest: mount_counts/sums_before_hold",
+    ),
     (["zzz", RACE], "no mutant zzz; ls {crates,docs/steps}/*/must-fail lists all"),
-    (["mntgate_c/a_hook_is_told_as_an_errno", RACE], "mntgate doesn't stand on that crate, so no race shows it"),
+    (
+        ["mntgate_c/a_hook_is_told_as_an_errno", RACE],
+        "mntgate doesn't stand on that crate, so no race shows it",
+    ),
     (["sums_before_hold", "no.race"], "no race no.race"),
     (["--limit", "10", "sums_before_hold", RACE], f"{RACE}: more than 10 states"),
 ]
@@ -33,7 +41,14 @@ REFUSED = [
 
 def run(words):
     """Runs bin/without."""
-    return subprocess.run([f"{ROOT}/bin/without", *words], cwd=ROOT, stdin=subprocess.DEVNULL, capture_output=True, text=True, check=False)
+    return subprocess.run(
+        [f"{ROOT}/bin/without", *words],
+        cwd=ROOT,
+        stdin=subprocess.DEVNULL,
+        capture_output=True,
+        text=True,
+        check=False,
+    )
 
 
 def refusals():
@@ -41,7 +56,10 @@ def refusals():
     for words, why in REFUSED:
         ran = run(words)
         if ran.returncode != 2 or ran.stdout or why not in ran.stderr:
-            yield f"bin/without {' '.join(words)}: status {ran.returncode}, and not 2 with: {why}\n{ran.stdout}{ran.stderr}"
+            yield (
+                f"bin/without {' '.join(words)}: status {ran.returncode}, and not 2 with:"
+                f" {why}\n{ran.stdout}{ran.stderr}"
+            )
 
 
 def unfit():
@@ -61,7 +79,11 @@ def unfit():
 
 def mutants(name):
     """The files of the mutants of this name."""
-    return [path for where in ("crates", "docs/steps") for path in glob.glob(f"{ROOT}/{where}/*/must-fail/{name}.edit")]
+    return [
+        path
+        for where in ("crates", "docs/steps")
+        for path in glob.glob(f"{ROOT}/{where}/*/must-fail/{name}.edit")
+    ]
 
 
 def commands():
@@ -78,7 +100,9 @@ def fault(number, words, wanted):
     came = ran.stdout.splitlines()
     if ran.returncode == 2 or not fits(wanted, came):
         changed = difflib.unified_diff(wanted, came, "the page", "bin/without", lineterm="", n=1)
-        return "\n".join([f"{PAGE}:{number}: $ bin/without {' '.join(words)}", *changed, ran.stderr])
+        return "\n".join(
+            [f"{PAGE}:{number}: $ bin/without {' '.join(words)}", *changed, ran.stderr]
+        )
     return None
 
 
@@ -89,9 +113,17 @@ def main(asked):
     for number, (*_, mutant, race), _ in every:
         if len(mutants(mutant)) != 1 or not os.path.exists(f"{ROOT}/{race}"):
             faults.append(f"{PAGE}:{number}: no mutant {mutant}, or no race {race}")
-    chosen = [it for it in every if "--all" in asked or any(word in " ".join(it[1]) for word in asked)]
+    chosen = [
+        it for it in every if "--all" in asked or any(word in " ".join(it[1]) for word in asked)
+    ]
     faults += filter(None, (fault(*it) for it in chosen))
-    return verdict(faults, f"bin/without refuses what it should, and {len(chosen)} of {len(every)} blocks of {PAGE} are what it prints")
+    return verdict(
+        faults,
+        (
+            f"bin/without refuses what it should, and {len(chosen)} of {len(every)} blocks of"
+            f" {PAGE} are what it prints"
+        ),
+    )
 
 
 if __name__ == "__main__":

@@ -1,4 +1,5 @@
-"""What the converters in this folder share: a history that is put together line by line, and the numbers of its tasks."""
+"""What the converters in this folder share: a history that is put together line by line, and the
+numbers of its tasks."""
 
 import sys
 
@@ -52,13 +53,18 @@ class History:
 
     def print(self):
         """Prints the history."""
-        for line in [f"config {max(self.tasks, 1)} 1 {self.mounts} 2 8", *self.set_up, "history", *self.lines]:
+        for line in [
+            f"config {max(self.tasks, 1)} 1 {self.mounts} 2 8",
+            *self.set_up,
+            "history",
+            *self.lines,
+        ]:
             print(line)
 
 
 class Access:
-    """A file that is open for writing: a task of its own has its access at the mount, from its open to its last close, whoever closes it. In the kernel
-    the access is the file's, too."""
+    """A file that is open for writing: a task of its own has its access at the mount, from its open
+    to its last close, whoever closes it. In the kernel the access is the file's, too."""
 
     def __init__(self, history, mount):
         self.history, self.mount = history, mount

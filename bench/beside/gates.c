@@ -1,9 +1,11 @@
-/* Pairs of taking and giving back by the proved gates through C, beside what else guards a reader in C.
+/* Pairs of taking and giving back by the proved gates through C, beside what else guards a reader
+ * in C.
  *
  *     gates WHAT SIZE COUNT
  *
- * WHAT is mount, level, write-access, pthread_rwlock or urcu, with SIZE threads that do COUNT pairs each; or freeze, with one task among SIZE tasks
- * and processors that freezes and thaws COUNT times; or snapshot, with one task that takes COUNT of them, each of SIZE nodes. Prints how many
+ * WHAT is mount, level, write-access, pthread_rwlock or urcu, with SIZE threads that do COUNT pairs
+ * each; or freeze, with one task among SIZE tasks and processors that freezes and thaws COUNT
+ * times; or snapshot, with one task that takes COUNT of them, each of SIZE nodes. Prints how many
  * nanoseconds that took. */
 #define _GNU_SOURCE
 #include <pthread.h>
@@ -148,7 +150,8 @@ static long long threads(unsigned size)
 		if (pthread_create(&ids[i], NULL, run, &jobs[i]))
 			exit(1);
 	}
-	/* from the first thread's start to the last one's end: the main thread may be scheduled late */
+	/* from the first thread's start to the last one's end: the main thread may be scheduled
+	 * late */
 	for (unsigned i = 0; i < size; i++) {
 		pthread_join(ids[i], NULL);
 		begun = i == 0 || jobs[i].begun < begun ? jobs[i].begun : begun;
@@ -164,7 +167,13 @@ int main(int count, char **words)
 	static const struct {
 		const char *name;
 		void (*body)(struct job *job);
-	} bodies[] = { { "mount", mount_pairs }, { "level", level_pairs }, { "write-access", write_pairs }, { "pthread_rwlock", rwlock_pairs }, { "urcu", urcu_pairs } };
+	} bodies[] = {
+		{ "mount", mount_pairs },
+		{ "level", level_pairs },
+		{ "write-access", write_pairs },
+		{ "pthread_rwlock", rwlock_pairs },
+		{ "urcu", urcu_pairs },
+	};
 	unsigned size;
 
 	if (count != 4)

@@ -1,6 +1,7 @@
-/* The gates of a small file system, for Spin, written by hand: one mount, and a node beside the root. One statement is one event on one word, or the
- * beginning of a call. A section word is kept by its parity, and what a grace period found first by whether it is there still, as mntgate's searches
- * keep them. TASKS, CPUS and CALLS are of the model that includes this. */
+/* The gates of a small file system, for Spin, written by hand: one mount, and a node beside the
+ * root. One statement is one event on one word, or the beginning of a call. A section word is kept
+ * by its parity, and what a grace period found first by whether it is there still, as mntgate's
+ * searches keep them. TASKS, CPUS and CALLS are of the model that includes this. */
 byte umount;
 byte stage;
 byte holders;
@@ -18,7 +19,8 @@ bit inside[TASKS];
 
 /* What a freeze or a remount has read: each holds `umount`, or is the only freeze. */
 byte awaited;                          /* the task at whose section its grace period is */
-byte first;                            /* what it found there: 0 nothing yet, 1 what is there still, 2 what has gone */
+byte first;                            /* what it found there: 0 nothing yet, 1 what is there
+                                          still, 2 what has gone */
 byte summed;                           /* how many words */
 short total;
 
@@ -36,12 +38,14 @@ inline leave_section(me) {
 inline await_sections() {
   do
   :: atomic { (inside[awaited] == 0 || first == 2) && awaited + 1 < TASKS -> first = 0; awaited++ }
-  :: atomic { (inside[awaited] == 0 || first == 2) && awaited + 1 == TASKS -> first = 0; awaited = 0; break }
+  :: atomic { (inside[awaited] == 0 || first == 2) && awaited + 1 == TASKS ->
+       first = 0; awaited = 0; break }
   :: atomic { inside[awaited] == 1 && first == 0 -> first = 1 }
   od
 }
 
-/* A level is closed: rcu_sync_enter, `block`, and the sum of its counts, which is read again until it is 0. */
+/* A level is closed: rcu_sync_enter, `block`, and the sum of its counts, which is read again until
+ * it is 0. */
 inline down_write(level) {
   if
   :: gp_state[level] == 0 ->
@@ -56,8 +60,10 @@ inline down_write(level) {
   block[level] = 1;
   do
   :: atomic { summed + 1 < CPUS -> total = total + level_count[level * CPUS + summed]; summed++ }
-  :: atomic { summed + 1 == CPUS && total + level_count[level * CPUS + summed] == 0 -> summed = 0; total = 0; break }
-  :: atomic { summed + 1 == CPUS && total + level_count[level * CPUS + summed] != 0 -> summed = 0; total = 0 }
+  :: atomic { summed + 1 == CPUS && total + level_count[level * CPUS + summed] == 0 ->
+       summed = 0; total = 0; break }
+  :: atomic { summed + 1 == CPUS && total + level_count[level * CPUS + summed] != 0 ->
+       summed = 0; total = 0 }
   od
 }
 
@@ -201,11 +207,13 @@ inline remount_ro(me, a) {
         flags = flags | 2;
         do
         :: atomic { summed + 1 < CPUS -> total = total + mount_count[summed]; summed++ }
-        :: atomic { summed + 1 == CPUS && total + mount_count[summed] != 0 -> summed = 0; total = 0 };
+        :: atomic { summed + 1 == CPUS && total + mount_count[summed] != 0 ->
+             summed = 0; total = 0 };
            flags = flags & 253;
            UNLOCK(a, 2);
            break
-        :: atomic { summed + 1 == CPUS && total + mount_count[summed] == 0 -> summed = 0; total = 0 };
+        :: atomic { summed + 1 == CPUS && total + mount_count[summed] == 0 ->
+             summed = 0; total = 0 };
            removed == 0;
            remount = 1;
            flags = flags & 253;

@@ -1,4 +1,5 @@
-/* bench/races/three-tasks.race: two backups, three writes and two remounts there and back, on two processors. */
+/* bench/races/three-tasks.race: two backups, three writes and two remounts there and back, on two
+ * processors. */
 #define TASKS 3
 #define CPUS 2
 #define CALLS 16

@@ -6,6 +6,7 @@
  */
 #include <linux/fs.h>
 #include <linux/mutex.h>
+#include <linux/rwsem.h>
 #include <linux/spinlock.h>
 
 #include "inner.h"
@@ -21,7 +22,7 @@ static unsigned int users;
 static const struct super_operations *own;
 static struct super_operations changed;
 
-void begin_failing(struct failing *failing, u16 hook, u16 error)
+void gates_begin_failing(struct gates_failing *failing, u16 hook, u16 error)
 {
 	failing->caller = current;
 	failing->hook = hook;
@@ -31,7 +32,7 @@ void begin_failing(struct failing *failing, u16 hook, u16 error)
 	spin_unlock(&failings_lock);
 }
 
-void end_failing(struct failing *failing)
+void gates_end_failing(struct gates_failing *failing)
 {
 	spin_lock(&failings_lock);
 	list_del(&failing->list);
@@ -41,7 +42,7 @@ void end_failing(struct failing *failing)
 /* The error by which this part has to fail in the caller's call, or 0. */
 static int error_of(u16 hook)
 {
-	struct failing *failing;
+	struct gates_failing *failing;
 	int error = 0;
 
 	spin_lock(&failings_lock);
@@ -73,8 +74,20 @@ static int unfreeze_fs(struct super_block *sb)
 	return error ? error : own->unfreeze_fs(sb);
 }
 
+/*
+ * These parts are called with s_umount held. So nobody is inside one of them
+ * while a superblock gets other operations.
+ */
+static void set_operations(struct super_block *sb, const struct super_operations *operations)
+{
+	down_write(&sb->s_umount);
+	/* Whoever finds a table without the lock has to find it whole. */
+	smp_store_release(&sb->s_op, operations);
+	up_write(&sb->s_umount);
+}
+
 /* Gives the superblock operations that may fail. There is one at a time. */
-int take_hooks(struct super_block *sb)
+int gates_take_hooks(struct super_block *sb)
 {
 	int error = 0;
 
@@ -91,21 +104,17 @@ int take_hooks(struct super_block *sb)
 			changed.freeze_fs = freeze_fs;
 		if (own->unfreeze_fs)
 			changed.unfreeze_fs = unfreeze_fs;
-		/* Whoever finds ours has to find them whole. */
-		smp_store_release(&sb->s_op, &changed);
+		set_operations(sb, &changed);
 	}
 	mutex_unlock(&hooks_lock);
 	return error;
 }
 
-/*
- * Gives the superblock its own operations back. Whoever is in one of ours
- * stays in this module's code, so a test ends before the module is unloaded.
- */
-void give_hooks(struct super_block *sb)
+/* Gives the superblock its own operations back, behind the last user. */
+void gates_give_hooks(void)
 {
 	mutex_lock(&hooks_lock);
 	if (!--users)
-		WRITE_ONCE(sb->s_op, own);
+		set_operations(tested, own);
 	mutex_unlock(&hooks_lock);
 }

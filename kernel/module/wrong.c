@@ -4,10 +4,13 @@
  * unless the module is loaded with a parameter that says so.
  */
 #include <linux/atomic.h>
+#include <linux/cache.h>
 #include <linux/delay.h>
 #include <linux/kprobes.h>
 #include <linux/module.h>
 #include <linux/percpu-rwsem.h>
+#include <linux/preempt.h>
+#include <linux/rcu_sync.h>
 #include <linux/string.h>
 
 #include "inner.h"
@@ -25,9 +28,9 @@ module_param(slow, bool, 0444);
 MODULE_PARM_DESC(slow, "a reader of a level waits between its look and its count");
 
 #define EACH 8
-#define WAIT 5 /* milliseconds */
+#define WAIT_MS 5
 
-bool has_to_end_twice(void)
+bool gates_ends_twice(void)
 {
 	static atomic_t ends = ATOMIC_INIT(0);
 
@@ -38,7 +41,7 @@ bool has_to_end_twice(void)
  * The fast path of percpu_down_read, and time inside it. False if @level isn't
  * idle, or the module wasn't loaded as slow; nothing is done then.
  */
-bool start_slowly(struct percpu_rw_semaphore *level)
+bool gates_start_slowly(struct percpu_rw_semaphore *level)
 {
 	bool idle;
 
@@ -47,23 +50,26 @@ bool start_slowly(struct percpu_rw_semaphore *level)
 	preempt_disable();
 	idle = rcu_sync_is_idle(&level->rss);
 	if (idle) {
-		mdelay(WAIT);
+		mdelay(WAIT_MS);
 		this_cpu_inc(*level->read_count);
 	}
 	preempt_enable();
 	return idle;
 }
 
-/* At most so long is rcu_sync_enter, which is what waits for a grace period. */
+/* At most so many bytes has rcu_sync_enter, which is what waits for a grace period. */
 #define ENTER_SIZE 512
-static unsigned long enter;
+static unsigned long enter __ro_after_init;
 
 static noinline void do_nothing(void)
 {
 	barrier();
 }
 
-/* A freeze's synchronize_rcu returns at once. */
+/*
+ * A freeze's synchronize_rcu returns at once. The probe is at its first
+ * instruction, where the stack has the address that it returns to.
+ */
 static int skip_grace_period(struct kprobe *probe, struct pt_regs *regs)
 {
 	unsigned long caller = *(unsigned long *)kernel_stack_pointer(regs);
@@ -74,7 +80,7 @@ static int skip_grace_period(struct kprobe *probe, struct pt_regs *regs)
 	return 1;
 }
 
-/* Only with a second handler may the first one say where to go on. */
+/* With a second handler the probe isn't made a jump, which would skip nothing. */
 static void pass(struct kprobe *probe, struct pt_regs *regs, unsigned long flags)
 {
 }
@@ -84,15 +90,18 @@ static struct kprobe grace_period = {
 	.pre_handler = skip_grace_period,
 	.post_handler = pass,
 };
+
 static bool probed;
 
-int begin_wrong(void)
+int gates_begin_wrong(void)
 {
 	int error;
 
+	if (!*wrong || strcmp(wrong, "ends_twice") == 0)
+		return 0;
 	if (strcmp(wrong, "no_grace_period"))
-		return *wrong && strcmp(wrong, "ends_twice") ? -EINVAL : 0;
-	enter = (unsigned long)address_of("rcu_sync_enter");
+		return -EINVAL;
+	enter = (unsigned long)gates_address_of("rcu_sync_enter");
 	if (!enter)
 		return -ENOENT;
 	error = register_kprobe(&grace_period);
@@ -100,7 +109,7 @@ int begin_wrong(void)
 	return error;
 }
 
-void end_wrong(void)
+void gates_end_wrong(void)
 {
 	if (probed)
 		unregister_kprobe(&grace_period);

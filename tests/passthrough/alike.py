@@ -1,4 +1,5 @@
-"""Random operations over the mount and over a plain directory, with equal results, while it is frozen and thawed; and writers that alarms interrupt."""
+"""Random operations over the mount and over a plain directory, with equal results, while it is
+frozen and thawed; and writers that alarms interrupt."""
 
 import contextlib
 import ctypes
@@ -30,10 +31,12 @@ def rename_with(path, to, flags):
 
 
 def attributes(seen):
-    """What has to be equal of a file's attributes: no directory's size, no time that nobody has set, and none of a FIFO, which the kernel writes to
-    without asking FUSE."""
+    """What has to be equal of a file's attributes: no directory's size, no time that nobody has
+    set, and none of a FIFO, which the kernel writes to without asking FUSE."""
     size = 0 if stat.S_ISDIR(seen.st_mode) else seen.st_size
-    time_set = 0 if seen.st_mtime_ns >= 10**18 or stat.S_ISFIFO(seen.st_mode) else seen.st_mtime_ns
+    time_set = (
+        0 if seen.st_mtime_ns >= 10**18 or stat.S_ISFIFO(seen.st_mode) else seen.st_mtime_ns
+    )
     return seen.st_mode, seen.st_nlink, seen.st_uid, seen.st_gid, size, time_set, seen.st_rdev
 
 
@@ -48,7 +51,8 @@ def one_file(path):
 
 
 class Tree:
-    """A directory in which operations are made by their names, and the files that they have open."""
+    """A directory in which operations are made by their names, and the files that they have
+    open."""
 
     def __init__(self, top):
         self.top, self.files = top, {}
@@ -194,14 +198,31 @@ def pick_folder(chance):
 def pick_open(chance):
     """An open, with any of the flags that change what it does."""
     flags = chance.choice([os.O_RDONLY, os.O_WRONLY, os.O_RDWR, os.O_RDWR])
-    for flag, often in ((os.O_CREAT, 0.8), (os.O_EXCL, 0.1), (os.O_TRUNC, 0.2), (os.O_APPEND, 0.2), (os.O_NOFOLLOW, 0.1), (os.O_NONBLOCK, 1)):
+    for flag, often in (
+        (os.O_CREAT, 0.8),
+        (os.O_EXCL, 0.1),
+        (os.O_TRUNC, 0.2),
+        (os.O_APPEND, 0.2),
+        (os.O_NOFOLLOW, 0.1),
+        (os.O_NONBLOCK, 1),
+    ):
         flags |= flag if chance.random() < often else 0
-    return "open", chance.randrange(SLOTS), pick_path(chance), flags, chance.choice([0o644, 0o600, 0o6755, 0o4755, 0o444])
+    return (
+        "open",
+        chance.randrange(SLOTS),
+        pick_path(chance),
+        flags,
+        chance.choice([0o644, 0o600, 0o6755, 0o4755, 0o444]),
+    )
 
 
 def pick_file_operation(chance):
     """An operation on an open file."""
-    slot, at, size = chance.randrange(SLOTS), chance.choice([0, 1, 100, 4095, 4096, 10000]), chance.choice([0, 1, 512, 4096, 5000, 70000])
+    slot, at, size = (
+        chance.randrange(SLOTS),
+        chance.choice([0, 1, 100, 4095, 4096, 10000]),
+        chance.choice([0, 1, 512, 4096, 5000, 70000]),
+    )
     return chance.choice(
         [
             ("write", slot, bytes([chance.randrange(256)]) * size),
@@ -243,10 +264,21 @@ def pick_path_operation(chance):
             ("stat", folder),
             ("chmod", path, chance.choice([0o600, 0o644, 0o755, 0o2755, 0o4711, 0])),
             ("chmod", folder, chance.choice([0o755, 0o777, 0o2755, 0o1777])),
-            ("chown", path, chance.choice([-1, 0, 1000, NOBODY]), chance.choice([-1, 0, 1000, NOBODY])),
+            (
+                "chown",
+                path,
+                chance.choice([-1, 0, 1000, NOBODY]),
+                chance.choice([-1, 0, 1000, NOBODY]),
+            ),
             ("times", path, chance.randrange(10**8)),
             ("truncate", path, chance.choice([0, 1, 5000])),
-            ("setxattr", path, name, b"v" * chance.choice([0, 1, 300]), chance.choice([0, 0, os.XATTR_CREATE, os.XATTR_REPLACE])),
+            (
+                "setxattr",
+                path,
+                name,
+                b"v" * chance.choice([0, 1, 300]),
+                chance.choice([0, 0, os.XATTR_CREATE, os.XATTR_REPLACE]),
+            ),
             ("getxattr", path, name),
             ("listxattr", path),
             ("removexattr", path, name),
@@ -259,17 +291,26 @@ def pick_path_operation(chance):
 
 
 def compare(above, plain, seed):
-    """Makes operations in both, and compares each result and at last both trees. A fault, or None."""
+    """Makes operations in both, and compares each result and at last both trees. A fault, or
+    None."""
     chance = random.Random(seed)
     for number in range(OPERATIONS):
-        operation = chance.choices([pick_open, pick_file_operation, pick_path_operation], [3, 6, 6])[0](chance)
+        operation = chance.choices(
+            [pick_open, pick_file_operation, pick_path_operation], [3, 6, 6]
+        )[0](chance)
         results = [tree.do(*operation) for tree in (above, plain)]
         if results[0] != results[1]:
-            return f"seed {seed}, operation {number}, {str(operation)[:200]}: {str(results[0])[:200]}, and in a plain directory {str(results[1])[:200]}"
+            return (
+                f"seed {seed}, operation {number}, {str(operation)[:200]}: {str(results[0])[:200]},"
+                f" and in a plain directory {str(results[1])[:200]}"
+            )
     one, two = above.whole(), plain.whole()
     for path in sorted(one.keys() | two.keys()):
         if one.get(path) != two.get(path):
-            return f"seed {seed}, at the end, {path}: {str(one.get(path))[:200]}, and in a plain directory {str(two.get(path))[:200]}"
+            return (
+                f"seed {seed}, at the end, {path}: {str(one.get(path))[:200]}, and in a plain"
+                f" directory {str(two.get(path))[:200]}"
+            )
     return None
 
 
@@ -324,7 +365,8 @@ class Freezes(threading.Thread):
 
 
 def same_as_a_directory(programs):
-    """Random operations have the results that they have in a plain directory, for root and for another user, while it is frozen and thawed."""
+    """Random operations have the results that they have in a plain directory, for root and for
+    another user, while it is frozen and thawed."""
     done = 0
     for user in [0, NOBODY] if os.geteuid() == 0 else [0]:
         with mounted(programs) as mount:
@@ -346,7 +388,8 @@ class Alarm(Exception):
 
 
 def interrupted_writer(folder, seconds):
-    """Appends records and makes names, while a timer's signals come at odd moments. Each change is made whole, or not at all."""
+    """Appends records and makes names, while a timer's signals come at odd moments. Each change is
+    made whole, or not at all."""
     armed = [False]
 
     def ring(*_):
@@ -387,10 +430,14 @@ def sizes_below(mount):
 
 
 def storm(programs):
-    """Writers whose waits signals interrupt, killed ones among them, while it is frozen as fast as it goes. Nothing changes while it is frozen."""
+    """Writers whose waits signals interrupt, killed ones among them, while it is frozen as fast as
+    it goes. Nothing changes while it is frozen."""
     freezes, seconds = 0, 3
     with mounted(programs, "--workers", "4") as mount:
-        writers = [Child(lambda number=number: interrupted_writer(f"{mount.point}/{number}", seconds)) for number in range(16)]
+        writers = [
+            Child(lambda number=number: interrupted_writer(f"{mount.point}/{number}", seconds))
+            for number in range(16)
+        ]
         victims = []
         end = time.monotonic() + seconds
         while time.monotonic() < end:
@@ -407,7 +454,10 @@ def storm(programs):
         for process in victims:
             want(process.ended() in ("SIGKILL", 0), "a process that was killed goes on")
         until(lambda: mount.control.count("waiting") == 0, "something waits after the last thaw")
-        return f"{freezes} freezes, {mount.control.count('waited')} changes waited, {mount.control.count('given up')} were given up"
+        return (
+            f"{freezes} freezes, {mount.control.count('waited')} changes waited,"
+            f" {mount.control.count('given up')} were given up"
+        )
 
 
 TESTS = [same_as_a_directory, storm]

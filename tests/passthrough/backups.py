@@ -17,13 +17,21 @@ from passthrough.mounts import Fault, mounted, want
 rounds = 6
 UNGATED_ROUNDS = 12
 ROOT = os.path.dirname(os.path.dirname(os.path.dirname(os.path.realpath(__file__))))
-GIT = {"GIT_AUTHOR_NAME": "a", "GIT_AUTHOR_EMAIL": "a@b", "GIT_COMMITTER_NAME": "a", "GIT_COMMITTER_EMAIL": "a@b", "GIT_CONFIG_GLOBAL": "/dev/null"}
+GIT = {
+    "GIT_AUTHOR_NAME": "a",
+    "GIT_AUTHOR_EMAIL": "a@b",
+    "GIT_COMMITTER_NAME": "a",
+    "GIT_COMMITTER_EMAIL": "a@b",
+    "GIT_CONFIG_GLOBAL": "/dev/null",
+}
 GIT |= {"GIT_CONFIG_COUNT": "1", "GIT_CONFIG_KEY_0": "safe.directory", "GIT_CONFIG_VALUE_0": "*"}
 
 
 def command(*words, folder=None):
     """Runs a program, which succeeds, and gives what it has printed."""
-    ran = subprocess.run(words, cwd=folder, env={**os.environ, **GIT}, capture_output=True, text=True, check=False)
+    ran = subprocess.run(
+        words, cwd=folder, env={**os.environ, **GIT}, capture_output=True, text=True, check=False
+    )
     want(ran.returncode == 0, f"{' '.join(words)[:80]}: {ran.stdout}{ran.stderr}")
     return ran.stdout
 
@@ -42,13 +50,22 @@ def whole(top):
             elif stat.S_ISLNK(seen.st_mode):
                 data = os.readlink(path).encode()
             size = 0 if stat.S_ISDIR(seen.st_mode) else seen.st_size
-            found[os.path.relpath(path, top)] = seen.st_mode, seen.st_uid, seen.st_gid, size, seen.st_mtime_ns, hashlib.sha256(data).digest()
+            found[os.path.relpath(path, top)] = (
+                seen.st_mode,
+                seen.st_uid,
+                seen.st_gid,
+                size,
+                seen.st_mtime_ns,
+                hashlib.sha256(data).digest(),
+            )
     return found
 
 
 def first_difference(one, two):
     """The first path at which two such sums differ, or None."""
-    return next((path for path in sorted(one.keys() | two.keys()) if one.get(path) != two.get(path)), None)
+    return next(
+        (path for path in sorted(one.keys() | two.keys()) if one.get(path) != two.get(path)), None
+    )
 
 
 class Load(threading.Thread):
@@ -86,9 +103,24 @@ class Tar(Load):
 
     def begin(self):
         self.archive = f"{os.path.dirname(os.path.dirname(self.folder))}/archive.tar"
-        command("tar", "-C", ROOT, "--exclude=out", "-cf", self.archive, "docs", "bindings", "tests", "examples")
+        command(
+            "tar",
+            "-C",
+            ROOT,
+            "--exclude=out",
+            "-cf",
+            self.archive,
+            "docs",
+            "bindings",
+            "tests",
+            "examples",
+        )
         with tarfile.open(self.archive) as archive:
-            self.sums = {one.name: hashlib.sha256(archive.extractfile(one).read()).digest() for one in archive if one.isfile()}
+            self.sums = {
+                one.name: hashlib.sha256(archive.extractfile(one).read()).digest()
+                for one in archive
+                if one.isfile()
+            }
 
     def step(self):
         folder = f"{self.folder}/unpacked"
@@ -97,7 +129,9 @@ class Tar(Load):
         command("chmod", "-R", "go-rwx", folder)
         for name, sum_of in self.sums.items():
             with open(f"{folder}/{name}", "rb") as file:
-                want(hashlib.sha256(file.read()).digest() == sum_of, f"{name} isn't as it was packed")
+                want(
+                    hashlib.sha256(file.read()).digest() == sum_of, f"{name} isn't as it was packed"
+                )
             want(os.stat(f"{folder}/{name}").st_mode & 0o077 == 0, f"the mode of {name}")
         shutil.rmtree(folder)
 
@@ -110,7 +144,9 @@ class Git(Load):
 
     def step(self):
         for number in range(20):
-            with open(f"{self.folder}/{(self.steps * 7 + number) % 60}", "w", encoding="utf-8") as file:
+            with open(
+                f"{self.folder}/{(self.steps * 7 + number) % 60}", "w", encoding="utf-8"
+            ) as file:
                 file.write(f"{self.steps} {number}\n" * 50)
         command("git", "add", ".", folder=self.folder)
         command("git", "commit", "-q", "-m", str(self.steps), folder=self.folder)
@@ -133,12 +169,15 @@ class Git(Load):
 
 
 class Sqlite(Load):
-    """A database in WAL mode, in which each transaction adds a row to two tables, and takes an old one away."""
+    """A database in WAL mode, in which each transaction adds a row to two tables, and takes an old
+    one away."""
 
     ROWS = 500
 
     def begin(self):
-        self.database = sqlite3.connect(f"{self.folder}/database", timeout=60, check_same_thread=False, isolation_level=None)
+        self.database = sqlite3.connect(
+            f"{self.folder}/database", timeout=60, check_same_thread=False, isolation_level=None
+        )
         want(self.database.execute("pragma journal_mode=wal").fetchone() == ("wal",), "no WAL mode")
         self.database.execute("pragma wal_autocheckpoint=100")
         self.database.execute("create table if not exists one(x integer primary key, y blob)")
@@ -152,7 +191,10 @@ class Sqlite(Load):
             self.database.execute(f"delete from {name} where x = ?", (self.steps - self.ROWS,))
         self.database.execute("commit")
         if self.steps % 100 == 99:
-            want(self.database.execute("pragma integrity_check").fetchone() == ("ok",), "integrity_check")
+            want(
+                self.database.execute("pragma integrity_check").fetchone() == ("ok",),
+                "integrity_check",
+            )
 
     def end(self):
         self.database.close()
@@ -164,8 +206,17 @@ class Sqlite(Load):
         try:
             database = sqlite3.connect(f"{copy}/database")
             said = database.execute("pragma integrity_check").fetchone()[0]
-            if said == "ok" and len(database.execute("select * from sqlite_schema where type='table'").fetchall()) == 2:
-                counts = [database.execute(f"select count(*), max(x) from {name}").fetchone() for name in ("one", "two")]
+            if (
+                said == "ok"
+                and len(
+                    database.execute("select * from sqlite_schema where type='table'").fetchall()
+                )
+                == 2
+            ):
+                counts = [
+                    database.execute(f"select count(*), max(x) from {name}").fetchone()
+                    for name in ("one", "two")
+                ]
                 said = "ok" if counts[0] == counts[1] else f"two tables have {counts}"
             database.close()
         except sqlite3.Error as error:
@@ -184,19 +235,31 @@ class Make(Load):
                 file.write(f"int f{number}(int x) {{ return x * {number}; }}\n")
         names = range(self.FILES)
         with open(f"{self.folder}/main.c", "w", encoding="utf-8") as file:
-            file.write("#include <stdio.h>\n" + "".join(f"int f{number}(int);\n" for number in names))
-            file.write(f'int main(void) {{ printf("%d\\n", {" + ".join(f"f{number}(1)" for number in names)}); return 0; }}\n')
+            file.write(
+                "#include <stdio.h>\n" + "".join(f"int f{number}(int);\n" for number in names)
+            )
+            file.write(
+                'int main(void) { printf("%d\\n",'
+                f' {" + ".join(f"f{number}(1)" for number in names)}); return 0; }}\n'
+            )
         with open(f"{self.folder}/Makefile", "w", encoding="utf-8") as file:
-            file.write("OBJECTS = $(patsubst %.c,%.o,$(wildcard *.c))\nprogram: $(OBJECTS)\n\tgcc -o $@ $(OBJECTS)\nclean:\n\trm -f program *.o\n")
+            file.write(
+                "OBJECTS = $(patsubst %.c,%.o,$(wildcard *.c))\nprogram: $(OBJECTS)\n\tgcc -o $@"
+                " $(OBJECTS)\nclean:\n\trm -f program *.o\n"
+            )
 
     def step(self):
         command("make", "-s", "-j2", "program", folder=self.folder)
-        want(command(f"{self.folder}/program") == f"{sum(range(self.FILES))}\n", "what the program prints")
+        want(
+            command(f"{self.folder}/program") == f"{sum(range(self.FILES))}\n",
+            "what the program prints",
+        )
         command("make", "-s", "clean", folder=self.folder)
 
 
 class Ledger(Load):
-    """Writes each record to one file and then to another, so the second is never ahead, nor behind by more than one."""
+    """Writes each record to one file and then to another, so the second is never ahead, nor behind
+    by more than one."""
 
     RECORD = struct.Struct("<Q56x")
 
@@ -204,7 +267,9 @@ class Ledger(Load):
         self.files = []
         for name in ("first", "second"):
             os.mkdir(f"{self.folder}/{name}")
-            self.files.append(os.open(f"{self.folder}/{name}/log", os.O_CREAT | os.O_WRONLY | os.O_APPEND))
+            self.files.append(
+                os.open(f"{self.folder}/{name}/log", os.O_CREAT | os.O_WRONLY | os.O_APPEND)
+            )
 
     def step(self):
         for file in self.files:
@@ -221,13 +286,17 @@ class Ledger(Load):
             sizes = [os.path.getsize(f"{copy}/{name}/log") for name in ("first", "second")]
         except FileNotFoundError:
             return None
-        if any(size % cls.RECORD.size for size in sizes) or not 0 <= sizes[0] - sizes[1] <= cls.RECORD.size:
+        if (
+            any(size % cls.RECORD.size for size in sizes)
+            or not 0 <= sizes[0] - sizes[1] <= cls.RECORD.size
+        ):
             return f"logs of {sizes[0]} and {sizes[1]} bytes"
         return None
 
 
 class Mapped(Load):
-    """Stores a number into a mapping, and then writes it to a file: what is in the file was in the mapping before."""
+    """Stores a number into a mapping, and then writes it to a file: what is in the file was in the
+    mapping before."""
 
     NUMBER = struct.Struct("<Q")
 
@@ -252,14 +321,20 @@ class Mapped(Load):
     @classmethod
     def why_torn(cls, copy):
         try:
-            with open(f"{copy}/mapped", "rb") as mapped_file, open(f"{copy}/mark", "rb") as mark_file:
+            with open(f"{copy}/mapped", "rb") as mapped_file, open(
+                f"{copy}/mark", "rb"
+            ) as mark_file:
                 mapped_bytes, mark_bytes = mapped_file.read(8), mark_file.read(8)
         except FileNotFoundError:
             return None
         if len(mapped_bytes) < 8 or len(mark_bytes) < 8:
             return None
         values = [cls.NUMBER.unpack(part)[0] for part in (mapped_bytes, mark_bytes)]
-        return None if values[0] >= values[1] else f"{values[1]} was written, and the mapping has {values[0]}"
+        return (
+            None
+            if values[0] >= values[1]
+            else f"{values[1]} was written, and the mapping has {values[0]}"
+        )
 
 
 LOADS = {"tar": Tar, "git": Git, "make": Make}
@@ -292,7 +367,8 @@ def torn_parts(loads, copy):
 
 
 def copy_frozen(mount, copy):
-    """A backup: freezes, copies and thaws. Whether nothing has changed meanwhile, and the copy is the same."""
+    """A backup: freezes, copies and thaws. Whether nothing has changed meanwhile, and the copy is
+    the same."""
     mount.control.do("freeze")
     before = whole(mount.source)
     command("cp", "-a", mount.source, copy)
@@ -303,7 +379,8 @@ def copy_frozen(mount, copy):
 
 
 def backups_under_load(programs):
-    """Backups of a mount at work: nothing changes while it is frozen, and each copy is consistent."""
+    """Backups of a mount at work: nothing changes while it is frozen, and each copy is
+    consistent."""
     most_waiting = 0
     with mounted(programs) as mount:
         mount.limit(120 + 20 * rounds)
@@ -320,7 +397,10 @@ def backups_under_load(programs):
             shutil.rmtree(copy)
             time.sleep(0.3)
         end_loads(loads)
-        steps = ", ".join([f"{name} {load.steps}" for name, load in loads.items()] + [f"no {name} here" for name in LOADS if name not in loads])
+        steps = ", ".join(
+            [f"{name} {load.steps}" for name, load in loads.items()]
+            + [f"no {name} here" for name in LOADS if name not in loads]
+        )
     return f"{rounds} backups, none torn; up to {most_waiting} changes waited; steps: {steps}"
 
 

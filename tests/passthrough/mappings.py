@@ -12,7 +12,8 @@ import time
 from passthrough.mounts import PATIENCE, Child, Control, Fault, mounted, until, want
 
 PAGE = mmap.PAGESIZE
-# Every other page is stored into, so each is written back by a request of its own: more than the kernel sends unasked before the first is answered.
+# Every other page is stored into, so each is written back by a request of its own: more than the
+# kernel sends unasked before the first is answered.
 PAGES = 128
 SIZE = 2 * PAGES * PAGE
 
@@ -49,7 +50,10 @@ class Mapper:
 
     def is_done(self, patience):
         """Whether what was asked is done within some seconds."""
-        return bool(select.select([self.socket], [], [], patience)[0]) and len(self.socket.recv(4)) == 4
+        return (
+            bool(select.select([self.socket], [], [], patience)[0])
+            and len(self.socket.recv(4)) == 4
+        )
 
     def do(self, value):
         """Does it."""
@@ -96,7 +100,13 @@ def stores_before_freeze(programs):
             value = b"%04d" % number
             mapper.do(value)
             mount.control.do("freeze")
-            want(values(below) == {value}, f"stored before freeze {number + 1}, but not below: {value}, and there is {sorted(values(below))}")
+            want(
+                values(below) == {value},
+                (
+                    f"stored before freeze {number + 1}, but not below: {value}, and there is"
+                    f" {sorted(values(below))}"
+                ),
+            )
             mount.control.do("thaw")
         mapper.end()
         want(mapper.has_gone(PATIENCE), "the mapping's process goes on")
@@ -119,17 +129,23 @@ def stores_while_frozen(programs):
         reader = Child(lambda: open(f"{mount.point}/large", "rb").read())
         want(reader.ended(10) == 0, "a read hangs beside pages that wait")
         mount.control.do("thaw")
-        want(mapper.is_done(PATIENCE) and values(below) == {b"new "}, "stored while it was frozen, after the thaw")
+        want(
+            mapper.is_done(PATIENCE) and values(below) == {b"new "},
+            "stored while it was frozen, after the thaw",
+        )
         mapper.end()
         want(mapper.has_gone(PATIENCE), "the mapping's process goes on")
     return f"{PAGES} pages waited"
 
 
 def freeze_that_fails(programs):
-    """If pages can't be written back in time a freeze is refused, what waited goes on, and the next freeze is as good as any."""
+    """If pages can't be written back in time a freeze is refused, what waited goes on, and the next
+    freeze is as good as any."""
     with mounted(programs) as mount:
         above, below = make_file(mount)
-        with open(f"/proc/{mount.daemon.pid}/task/{mount.daemon.pid}/children", encoding="ascii") as file:
+        with open(
+            f"/proc/{mount.daemon.pid}/task/{mount.daemon.pid}/children", encoding="ascii"
+        ) as file:
             process = int(file.read())
         os.kill(process, signal.SIGSTOP)
         control = Control(mount.socket)
@@ -138,7 +154,10 @@ def freeze_that_fails(programs):
         writer = Child(lambda: os.mkdir(f"{mount.point}/new"))
         want(writer.ended(0.5) is None, "a change passes while a freeze is under way")
         said = control.socket.recv(256).decode()
-        want(os.strerror(errno.ETIMEDOUT) in said and writer.ended() == 0, f"a freeze without a write-back: {said}")
+        want(
+            os.strerror(errno.ETIMEDOUT) in said and writer.ended() == 0,
+            f"a freeze without a write-back: {said}",
+        )
         os.kill(process, signal.SIGCONT)
         mapper = Mapper(above)
         mapper.do(b"next")
@@ -152,7 +171,8 @@ def freeze_that_fails(programs):
 
 
 def mapper_is_killed(programs):
-    """A mapping's process that is killed while it is frozen ends with the thaw, and its stores come below."""
+    """A mapping's process that is killed while it is frozen ends with the thaw, and its stores come
+    below."""
     with mounted(programs) as mount:
         above, below = make_file(mount)
         mapper = Mapper(above)
@@ -160,14 +180,18 @@ def mapper_is_killed(programs):
         mount.control.do("freeze")
         mapper.do(b"2nd ")
         mapper.end(signal.SIGKILL)
-        want(not mapper.has_gone(0.3) and values(below) == {b"1st "}, "the process ends while it is frozen")
+        want(
+            not mapper.has_gone(0.3) and values(below) == {b"1st "},
+            "the process ends while it is frozen",
+        )
         mount.control.do("thaw")
         want(mapper.has_gone(PATIENCE) and values(below) == {b"2nd "}, "the process after the thaw")
     return "ends with the thaw"
 
 
 def daemon_ends_with_mapping(programs):
-    """SIGTERM while it is thawed loses no store; while it is frozen what was stored since isn't done, and msync fails."""
+    """SIGTERM while it is thawed loses no store; while it is frozen what was stored since isn't
+    done, and msync fails."""
     with mounted(programs) as mount:
         above, below = make_file(mount)
         mapper = Mapper(above)
@@ -210,12 +234,16 @@ def no_mappings(programs):
 
 
 def removed_while_open(programs):
-    """A file that is removed while it is open is read and written until its last close, and waits for a thaw as others do."""
+    """A file that is removed while it is open is read and written until its last close, and waits
+    for a thaw as others do."""
     with mounted(programs) as mount:
         file = os.open(f"{mount.point}/file", os.O_CREAT | os.O_RDWR)
         os.write(file, b"before")
         os.unlink(f"{mount.point}/file")
-        want(os.listdir(mount.source) == [] and os.fstat(file).st_nlink == 0, "the file after its removal")
+        want(
+            os.listdir(mount.source) == [] and os.fstat(file).st_nlink == 0,
+            "the file after its removal",
+        )
         mount.control.do("freeze")
         want(os.pread(file, 9, 0) == b"before", "a read of a removed file while it is frozen")
         writer = Child(lambda: os.pwrite(file, b"behind", 0))
@@ -236,9 +264,21 @@ def direct(programs):
         os.pwritev(file, [memory], 100)
         with open(f"{mount.source}/file", "rb") as below:
             want(below.read() == bytes(100) + b"x" * PAGE, "what was written with O_DIRECT")
-        want(os.preadv(file, [memory], 50) == PAGE and memory[:60] == bytes(50) + b"x" * 10, "what is read with O_DIRECT")
+        want(
+            os.preadv(file, [memory], 50) == PAGE and memory[:60] == bytes(50) + b"x" * 10,
+            "what is read with O_DIRECT",
+        )
         os.close(file)
     return "written and read"
 
 
-TESTS = [stores_before_freeze, stores_while_frozen, freeze_that_fails, mapper_is_killed, daemon_ends_with_mapping, no_mappings, removed_while_open, direct]
+TESTS = [
+    stores_before_freeze,
+    stores_while_frozen,
+    freeze_that_fails,
+    mapper_is_killed,
+    daemon_ends_with_mapping,
+    no_mappings,
+    removed_while_open,
+    direct,
+]

@@ -11,7 +11,8 @@ import tempfile
 import threading
 import time
 
-# Seconds after which something is taken to hang. The daemon of a mount is then killed, which ends whoever waits for it.
+# Seconds after which something is taken to hang. The daemon of a mount is then killed, which ends
+# whoever waits for it.
 PATIENCE = 30
 MOUNT_PATIENCE = 60
 
@@ -74,17 +75,26 @@ class Mount:
         self.programs = programs
         self.folder = tempfile.mkdtemp(prefix="mntgate-fuse-")
         os.chmod(self.folder, 0o755)
-        self.source, self.point, self.socket = (f"{self.folder}/{name}" for name in ("source", "mounted", "socket"))
+        self.source, self.point, self.socket = (
+            f"{self.folder}/{name}" for name in ("source", "mounted", "socket")
+        )
         self.source = source or self.source
         os.makedirs(self.source, exist_ok=True)
         os.mkdir(self.point)
-        self.daemon = subprocess.Popen([f"{programs}/passthrough", *words, self.source, self.point, self.socket], stderr=subprocess.PIPE, text=True)
+        self.daemon = subprocess.Popen(
+            [f"{programs}/passthrough", *words, self.source, self.point, self.socket],
+            stderr=subprocess.PIPE,
+            text=True,
+        )
         self.timer = self.control = None
         self.limit(MOUNT_PATIENCE)
 
     def begin(self):
         """Waits until it is mounted."""
-        until(lambda: os.path.ismount(self.point) or self.daemon.poll() is not None, "nothing is mounted")
+        until(
+            lambda: os.path.ismount(self.point) or self.daemon.poll() is not None,
+            "nothing is mounted",
+        )
         if self.daemon.poll() is not None:
             raise Fault(f"passthrough has ended: {self.daemon.stderr.read()}")
         self.control = Control(self.socket)
@@ -99,12 +109,20 @@ class Mount:
 
     def gatectl(self, *words):
         """Runs gatectl."""
-        return subprocess.run([f"{self.programs}/gatectl", self.socket, *words], capture_output=True, text=True, timeout=PATIENCE, check=False)
+        return subprocess.run(
+            [f"{self.programs}/gatectl", self.socket, *words],
+            capture_output=True,
+            text=True,
+            timeout=PATIENCE,
+            check=False,
+        )
 
     def unmount(self, *words):
         """Unmounts it as its user does."""
         command = ["umount", *words] if os.geteuid() == 0 else ["fusermount3", "-u"]
-        return subprocess.run([*command, self.point], capture_output=True, text=True, timeout=PATIENCE, check=False)
+        return subprocess.run(
+            [*command, self.point], capture_output=True, text=True, timeout=PATIENCE, check=False
+        )
 
     def has_ended(self):
         """Waits for the end of the daemon, which is clean, and gives what it has said."""
@@ -112,8 +130,14 @@ class Mount:
             _, said = self.daemon.communicate(timeout=PATIENCE)
         except subprocess.TimeoutExpired:
             raise Fault("the daemon goes on") from None
-        want(self.daemon.returncode == 0 and "all counts together 0" in said, f"the daemon's status is {self.daemon.returncode}: {said}")
-        want(not os.path.ismount(self.point) and not os.path.exists(self.socket), "something is left of the mount")
+        want(
+            self.daemon.returncode == 0 and "all counts together 0" in said,
+            f"the daemon's status is {self.daemon.returncode}: {said}",
+        )
+        want(
+            not os.path.ismount(self.point) and not os.path.exists(self.socket),
+            "something is left of the mount",
+        )
         return said
 
     def end(self):
@@ -175,7 +199,9 @@ class Child:
             pid, status = os.waitpid(self.pid, os.WNOHANG)
             if pid:
                 code = os.waitstatus_to_exitcode(status)
-                self.how = signal.Signals(-code).name if code < 0 else errno.errorcode.get(code, code)
+                self.how = (
+                    signal.Signals(-code).name if code < 0 else errno.errorcode.get(code, code)
+                )
             elif time.monotonic() >= end:
                 break
             else:

@@ -1,4 +1,5 @@
-"""Changes that wait, and how a wait ends: by a thaw, a signal, the end of the daemon; and the commands."""
+"""Changes that wait, and how a wait ends: by a thaw, a signal, the end of the daemon; and the
+commands."""
 
 import errno
 import itertools
@@ -19,7 +20,10 @@ def start_writers(mount):
     for number in range(WRITERS):
         os.close(os.open(f"{mount.point}/{number}", os.O_CREAT | os.O_WRONLY))
     mount.control.do("freeze")
-    writers = [Child(lambda number=number: put(f"{mount.point}/{number}", BYTES)) for number in range(WRITERS)]
+    writers = [
+        Child(lambda number=number: put(f"{mount.point}/{number}", BYTES))
+        for number in range(WRITERS)
+    ]
     until(lambda: mount.control.count("waiting") == WRITERS, "not all writers wait")
     return writers
 
@@ -35,20 +39,27 @@ def bytes_below(mount):
 
 
 def thaw_comes_through(programs):
-    """40 writers wait, and one worker is enough for reads and a thaw. All writers are done after it."""
+    """40 writers wait, and one worker is enough for reads and a thaw. All writers are done after
+    it."""
     with mounted(programs, "--workers", "1") as mount:
         os.mkdir(f"{mount.point}/other")
         with open(f"{mount.point}/other/file", "w", encoding="utf-8") as file:
             file.write("read me")
         writers = start_writers(mount)
         with open(f"{mount.point}/other/file", encoding="utf-8") as file:
-            want(file.read() == "read me" and os.listdir(f"{mount.point}/other") == ["file"], "a read while it is frozen")
+            want(
+                file.read() == "read me" and os.listdir(f"{mount.point}/other") == ["file"],
+                "a read while it is frozen",
+            )
         want(bytes_below(mount) == 0, "bytes below while it is frozen")
         began = time.monotonic()
         ran = mount.gatectl("thaw")
         took = time.monotonic() - began
         want(ran.returncode == 0, ran.stderr)
-        want(ends_of(writers) == ["0"] and bytes_below(mount) == WRITERS * len(BYTES), "the writers after the thaw")
+        want(
+            ends_of(writers) == ["0"] and bytes_below(mount) == WRITERS * len(BYTES),
+            "the writers after the thaw",
+        )
         return f"{WRITERS} writers waited, the thaw took {took * 1000:.0f} ms"
 
 
@@ -105,7 +116,10 @@ def state_below(mount):
 
 def start_changes(mount, changes):
     """A process for each change."""
-    return {name: Child(lambda change=change, name=name: change(f"{mount.point}/{name}")) for name, change in changes.items()}
+    return {
+        name: Child(lambda change=change, name=name: change(f"{mount.point}/{name}"))
+        for name, change in changes.items()
+    }
 
 
 def ends_of_changes(mount, changes):
@@ -115,11 +129,14 @@ def ends_of_changes(mount, changes):
 
 def below(state, mount, name):
     """The part of such a state in a folder."""
-    return {path: seen for path, seen in state.items() if path.startswith(f"{mount.source}/{name}/")}
+    return {
+        path: seen for path, seen in state.items() if path.startswith(f"{mount.source}/{name}/")
+    }
 
 
 def each_change_waits(programs):
-    """Each kind of change is refused while it is read-only, waits while it is frozen, and is made after that."""
+    """Each kind of change is refused while it is read-only, waits while it is frozen, and is made
+    after that."""
     with mounted(programs) as mount:
         changes = changes_here(mount.source)
         for name in changes:
@@ -136,10 +153,15 @@ def each_change_waits(programs):
         mount.control.do("rw")
         mount.control.do("freeze")
         children = start_changes(mount, changes)
-        while sum(child.ended(0) is None for child in children.values()) > mount.control.count("waiting"):
+        while sum(child.ended(0) is None for child in children.values()) > mount.control.count(
+            "waiting"
+        ):
             time.sleep(0.01)
         passed = [name for name, child in children.items() if child.ended(0) is not None]
-        want(not passed and state_below(mount) == before, f"while it is frozen these don't wait: {passed}")
+        want(
+            not passed and state_below(mount) == before,
+            f"while it is frozen these don't wait: {passed}",
+        )
         mount.control.do("thaw")
         for name, child in children.items():
             want(child.ended() == 0, f"{name} has failed after the thaw")
@@ -150,7 +172,8 @@ def each_change_waits(programs):
 
 
 def each_thaw_lets_pass(programs):
-    """A change that waits for one freeze is made before the next one, which comes at once after the thaw."""
+    """A change that waits for one freeze is made before the next one, which comes at once after the
+    thaw."""
     times = 30
     with mounted(programs) as mount:
 
@@ -165,7 +188,10 @@ def each_thaw_lets_pass(programs):
             made = len(os.listdir(mount.source))
             mount.control.do("thaw")
             mount.control.do("freeze")
-            want(len(os.listdir(mount.source)) > made, f"the change that waited for freeze {number + 1} isn't made before the next one")
+            want(
+                len(os.listdir(mount.source)) > made,
+                f"the change that waited for freeze {number + 1} isn't made before the next one",
+            )
         os.kill(writer.pid, signal.SIGKILL)
         want(writer.ended() == "SIGKILL", "the writer goes on")
         mount.control.do("thaw")
@@ -173,7 +199,8 @@ def each_thaw_lets_pass(programs):
 
 
 def freeze_gives_up(programs):
-    """A change hangs below, so that a freeze gives up after five seconds. Then others go on, and a later freeze is done."""
+    """A change hangs below, so that a freeze gives up after five seconds. Then others go on, and a
+    later freeze is done."""
     with mounted(programs) as lower:
         os.mkdir(f"{lower.point}/source")
         with mounted(programs, source=f"{lower.point}/source") as mount:
@@ -184,13 +211,26 @@ def freeze_gives_up(programs):
             began = time.monotonic()
             refused = mount.gatectl("freeze")
             took = time.monotonic() - began
-            want(refused.returncode == 1 and os.strerror(errno.ETIMEDOUT) in refused.stderr and 4 < took < 10, f"a freeze beside a change that hangs: {refused.stderr}")
-            want("thawed" in mount.control.ask("status"), "it is frozen after a freeze that gave up")
+            want(
+                refused.returncode == 1
+                and os.strerror(errno.ETIMEDOUT) in refused.stderr
+                and 4 < took < 10,
+                f"a freeze beside a change that hangs: {refused.stderr}",
+            )
+            want(
+                "thawed" in mount.control.ask("status"), "it is frozen after a freeze that gave up"
+            )
             later = Child(lambda: os.mkdir(f"{mount.point}/later"))
-            until(lambda: lower.control.count("waiting") == 2, "a change after the freeze doesn't come below")
+            until(
+                lambda: lower.control.count("waiting") == 2,
+                "a change after the freeze doesn't come below",
+            )
             lower.control.do("thaw")
             want(writer.ended() == 0 and later.ended() == 0, "the changes after the thaw below")
-            until(lambda: mount.control.ask("freeze").startswith("ok"), "a freeze with no change under way")
+            until(
+                lambda: mount.control.ask("freeze").startswith("ok"),
+                "a freeze with no change under way",
+            )
             mount.control.do("thaw")
     return f"after {took:.1f} s"
 
@@ -208,7 +248,10 @@ def signals_end_waits(programs):
         patient = Child(wait_patiently)
         until(lambda: mount.control.count("waiting") == WRITERS + 1, "the patient one doesn't wait")
         os.kill(patient.pid, signal.SIGUSR1)
-        want(patient.ended(0.5) is None and mount.control.count("given up") == 0, "a signal that isn't fatal ends a wait")
+        want(
+            patient.ended(0.5) is None and mount.control.count("given up") == 0,
+            "a signal that isn't fatal ends a wait",
+        )
         os.kill(patient.pid, signal.SIGTERM)
         want(patient.ended() == "SIGTERM", "a fatal signal after another one")
         for number, writer in enumerate(writers):
@@ -238,7 +281,10 @@ def unmounted_while_frozen(programs):
     """An unmount while it is frozen ends it, at once or once the last writer has gone."""
     with mounted(programs) as mount:
         mount.control.do("freeze")
-        want(mount.unmount().returncode == 0 and "while frozen" in mount.has_ended(), "the unmount while it is frozen")
+        want(
+            mount.unmount().returncode == 0 and "while frozen" in mount.has_ended(),
+            "the unmount while it is frozen",
+        )
     with mounted(programs) as mount:
         writers = start_writers(mount)
         want(mount.unmount().returncode != 0, "an unmount while writers wait")
@@ -253,18 +299,32 @@ def unmounted_while_frozen(programs):
 
 
 def read_only(programs):
-    """Read-only: refused while a file is open for writing, or while it is frozen; then changes are refused."""
+    """Read-only: refused while a file is open for writing, or while it is frozen; then changes are
+    refused."""
     with mounted(programs) as mount:
         file = os.open(f"{mount.point}/file", os.O_CREAT | os.O_WRONLY)
         busy = mount.gatectl("ro")
-        want(busy.returncode == 1 and os.strerror(errno.EBUSY) in busy.stderr, "ro with a file open for writing")
+        want(
+            busy.returncode == 1 and os.strerror(errno.EBUSY) in busy.stderr,
+            "ro with a file open for writing",
+        )
         os.close(file)
         mount.control.do("freeze")
-        want("refused" in mount.control.ask("ro") and "refused" in mount.control.ask("freeze"), "ro, or a second freeze, while it is frozen")
+        want(
+            "refused" in mount.control.ask("ro") and "refused" in mount.control.ask("freeze"),
+            "ro, or a second freeze, while it is frozen",
+        )
         mount.control.do("thaw")
-        want("refused" in mount.control.ask("thaw") and "refused" in mount.control.ask("nonsense"), "a thaw of what isn't frozen")
+        want(
+            "refused" in mount.control.ask("thaw") and "refused" in mount.control.ask("nonsense"),
+            "a thaw of what isn't frozen",
+        )
         until(lambda: mount.control.ask("ro").startswith("ok"), "the file is open for ever")
-        for change in (lambda: os.mkdir(f"{mount.point}/new"), lambda: put(f"{mount.point}/file", b"x"), lambda: os.chmod(f"{mount.point}/file", 0)):
+        for change in (
+            lambda: os.mkdir(f"{mount.point}/new"),
+            lambda: put(f"{mount.point}/file", b"x"),
+            lambda: os.chmod(f"{mount.point}/file", 0),
+        ):
             want(Child(change).ended() == "EROFS", "a change while it is read-only")
         want(os.listdir(mount.point) == ["file"], "a read while it is read-only")
         mount.control.do("rw")
@@ -285,12 +345,32 @@ def during(programs):
     """gatectl during: the command's status, and a thaw however it or gatectl ends."""
     with mounted(programs) as mount:
         point, gatectl = mount.point, [f"{programs}/gatectl", mount.socket]
-        want(mount.gatectl("during", "sh", "-c", f"'{gatectl[0]}' '{gatectl[1]}' status | grep -q frozen && exit 7").returncode == 7, "the status of a command")
-        want(mount.gatectl("during", "sh", "-c", "kill -TERM $$").returncode == 128 + signal.SIGTERM, "a command that a signal ends")
-        want(mount.gatectl("during", "/nonexistent").returncode == 127, "a command that isn't there")
+        want(
+            mount.gatectl(
+                "during",
+                "sh",
+                "-c",
+                f"'{gatectl[0]}' '{gatectl[1]}' status | grep -q frozen && exit 7",
+            ).returncode
+            == 7,
+            "the status of a command",
+        )
+        want(
+            mount.gatectl("during", "sh", "-c", "kill -TERM $$").returncode == 128 + signal.SIGTERM,
+            "a command that a signal ends",
+        )
+        want(
+            mount.gatectl("during", "/nonexistent").returncode == 127, "a command that isn't there"
+        )
         os.mkdir(f"{point}/thawed")
-        want(mount.gatectl("during", *gatectl, "thaw").returncode == 125, "a command during which somebody thaws")
-        want(mount.gatectl("during", *gatectl, "during", "true").returncode == 125, "a second freeze during a command")
+        want(
+            mount.gatectl("during", *gatectl, "thaw").returncode == 125,
+            "a command during which somebody thaws",
+        )
+        want(
+            mount.gatectl("during", *gatectl, "during", "true").returncode == 125,
+            "a second freeze during a command",
+        )
         os.mkdir(f"{point}/thawed again")
         process = subprocess.Popen([*gatectl, "during", "sleep", "1000"])
         until(lambda: "frozen" in mount.control.ask("status"), "it isn't frozen")
@@ -307,12 +387,36 @@ def refused_beginnings(programs):
     """What can't be mounted: it says why, and leaves no socket."""
     with tempfile.TemporaryDirectory() as folder:
         none, path = f"{folder}/none", f"{folder}/socket"
-        for words in ([none, folder, path], [folder, none, path], [folder, folder, f"{none}/socket"], [folder], ["--workers", "0", folder, folder, path]):
-            ran = subprocess.run([f"{programs}/passthrough", *words], capture_output=True, text=True, timeout=20, check=False)
-            want(ran.returncode in (1, 2) and ran.stderr, f"{words}: status {ran.returncode}, and it says {ran.stderr}")
-            want(not os.path.exists(path) and not os.path.ismount(folder), f"{words}: something is left")
+        for words in (
+            [none, folder, path],
+            [folder, none, path],
+            [folder, folder, f"{none}/socket"],
+            [folder],
+            ["--workers", "0", folder, folder, path],
+        ):
+            ran = subprocess.run(
+                [f"{programs}/passthrough", *words],
+                capture_output=True,
+                text=True,
+                timeout=20,
+                check=False,
+            )
+            want(
+                ran.returncode in (1, 2) and ran.stderr,
+                f"{words}: status {ran.returncode}, and it says {ran.stderr}",
+            )
+            want(
+                not os.path.exists(path) and not os.path.ismount(folder),
+                f"{words}: something is left",
+            )
         for words in ([path, "status"], [path], [path, "melt"]):
-            ran = subprocess.run([f"{programs}/gatectl", *words], capture_output=True, text=True, timeout=20, check=False)
+            ran = subprocess.run(
+                [f"{programs}/gatectl", *words],
+                capture_output=True,
+                text=True,
+                timeout=20,
+                check=False,
+            )
             want(ran.returncode == 2 and ran.stderr, f"gatectl {words}: status {ran.returncode}")
     return "with a reason, and nothing is left"
 
@@ -330,4 +434,16 @@ def silent_clients(programs):
     return "40 of them"
 
 
-TESTS = [each_change_waits, thaw_comes_through, each_thaw_lets_pass, freeze_gives_up, signals_end_waits, daemon_ends_while_frozen, unmounted_while_frozen, read_only, during, silent_clients, refused_beginnings]
+TESTS = [
+    each_change_waits,
+    thaw_comes_through,
+    each_thaw_lets_pass,
+    freeze_gives_up,
+    signals_end_waits,
+    daemon_ends_while_frozen,
+    unmounted_while_frozen,
+    read_only,
+    during,
+    silent_clients,
+    refused_beginnings,
+]

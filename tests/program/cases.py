@@ -3,19 +3,23 @@ r"""The cases of tests/cases/*.txt, and texts as they are wanted.
 In a file of cases an empty line stands behind each case. The marks before its lines are
 
     #         a remark
-    @ NAME    a file that lies where the command lines of all cases run, with the '<' lines of this case
-    $ WORDS   a command line; several of a case have the same input, and end the same; a plain replay has one with --over-gates beside it
+    @ NAME    a file that lies where the command lines of all cases run, with the '<' lines of this
+              case
+    $ WORDS   a command line; several of a case have the same input, and end the same; a plain
+              replay has one with --over-gates beside it
     < LINE    a line of standard input
     << TEXT   a part of it that isn't a whole line: \n, \t, \r, \\ and \xff stand for one byte each
     <* N TEXT such a part, so many times
     <| LINE   one of several lines, of which each stands here once, for a run of its own
     > LINE    a line of standard output
     ! LINE    a line of standard error
-    >~ LINE   a pattern of a line of standard output, and !~ of standard error: '#' stands for a number, '*' at the end for the rest of the line,
-              and '...' alone for all lines that follow
+    >~ LINE   a pattern of a line of standard output, and !~ of standard error: '#' stands for a
+              number, '*' at the end for the rest of the line, and '...' alone for all lines
+              that follow
     = STATUS  the exit status, where it isn't 0
 
-How '<' and '>' lines stand among each other makes no difference. In schedules a '>' line stands behind the line that prints it."""
+How '<' and '>' lines stand among each other makes no difference. In schedules a '>' line stands
+behind the line that prints it."""
 
 import codecs
 import difflib
@@ -50,7 +54,9 @@ def changes(wanted, came):
     """The lines that differ, and some beside them."""
     came = came.decode("utf-8", "backslashreplace").splitlines(keepends=True)
     lines = difflib.unified_diff(wanted.splitlines(keepends=True), came, "wanted", "came")
-    return [line if line.endswith("\n") else f"{line}\n\\ no newline at the end\n" for line in lines]
+    return [
+        line if line.endswith("\n") else f"{line}\n\\ no newline at the end\n" for line in lines
+    ]
 
 
 def exactly(text):
@@ -68,7 +74,10 @@ def expression_of(pattern):
 
 def wanted_of(lines):
     """That of these lines, each with whether it is a pattern."""
-    parts = [expression_of(line) if is_pattern else re.escape(f"{line}\n".encode()) for line, is_pattern in lines]
+    parts = [
+        expression_of(line) if is_pattern else re.escape(f"{line}\n".encode())
+        for line, is_pattern in lines
+    ]
     return Wanted("".join(f"{line}\n" for line, _ in lines), b"".join(parts))
 
 
@@ -77,7 +86,8 @@ ANYTHING = wanted_of([("...", True)])
 
 
 class Case(NamedTuple):
-    """A case: where it stands, the file that it is, or its command lines; what is on standard input, one after the other; and how each ends."""
+    """A case: where it stands, the file that it is, or its command lines; what is on standard
+    input, one after the other; and how each ends."""
 
     place: str
     names: list
@@ -130,11 +140,21 @@ def read_case(place, lines):
     statuses = [int(text) for mark, text in parts if mark == "="]
     names, words = ([text for mark, text in parts if mark == wanted] for wanted in "@$")
     if parts and (len(names) + bool(words) != 1 or len(statuses) > 1):
-        raise Unreadable(f"{place}: a case has command lines and one status at most, or is one file")
+        raise Unreadable(
+            f"{place}: a case has command lines and one status at most, or is one file"
+        )
     if PLAIN in words and OVER_GATES not in words:
-        raise Unreadable(f"{place}: a plain replay is done over the gates of threads, too: no contract says that this prints the same")
-    printed, told = (wanted_of([(text, mark[1:] == "~") for mark, text in parts if mark[0] == wanted]) for wanted in ">!")
-    return Case(place, names, words, inputs_of(parts), sum(statuses), printed, told) if parts else None
+        raise Unreadable(
+            f"{place}: a plain replay is done over the gates of threads, too: no contract says that"
+            " this prints the same"
+        )
+    printed, told = (
+        wanted_of([(text, mark[1:] == "~") for mark, text in parts if mark[0] == wanted])
+        for wanted in ">!"
+    )
+    return (
+        Case(place, names, words, inputs_of(parts), sum(statuses), printed, told) if parts else None
+    )
 
 
 def read_cases():

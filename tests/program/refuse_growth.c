@@ -1,7 +1,9 @@
-/* Counts the growths of memory of the program that it is loaded into by LD_PRELOAD, and refuses one of them. A growth is a call for memory from within
- * the program itself: what the C library asks for of its own, as to start a thread, is none.
+/* Counts the growths of memory of the program that it is loaded into by LD_PRELOAD, and refuses one
+ * of them. A growth is a call for memory from within the program itself: what the C library asks
+ * for of its own, as to start a thread, is none.
  *
- *     GROWTHS=FILE        eight bytes, in which the growths are counted: a number of this machine. It is right also if the program is killed.
+ *     GROWTHS=FILE        eight bytes, in which the growths are counted: a number of this machine.
+ *                         It is right also if the program is killed.
  *     REFUSED_GROWTH=N    the growth that is refused, from 1 on; none without it
  */
 #define _GNU_SOURCE

@@ -1,8 +1,11 @@
-/* Counts the threads that the program starts into which it is loaded by LD_PRELOAD, and refuses one of them. Each other one begins late, so that a
- * program that doesn't wait for its threads tells what it has to tell before they have begun.
+/* Counts the threads that the program starts into which it is loaded by LD_PRELOAD, and refuses one
+ * of them. Each other one begins late, so that a program that doesn't wait for its threads tells
+ * what it has to tell before they have begun.
  *
- *     THREADS=FILE        three counts, of eight bytes each, numbers of this machine: the threads that were asked for, with the refused one; those that had
- *                         begun when the program first wrote to standard error; and those that had ended a while after that at the latest.
+ *     THREADS=FILE        three counts, of eight bytes each, numbers of this machine: the threads
+ *                         that were asked for, with the refused one; those that had begun when the
+ *                         program first wrote to standard error; and those that had ended a while
+ *                         after that at the latest.
  *     REFUSED_THREAD=N    the thread that is refused, from 1 on; none without it
  */
 #define _GNU_SOURCE
@@ -16,7 +19,8 @@
 #include <sys/mman.h>
 #include <unistd.h>
 
-/* How late a thread begins, in microseconds; and how long it may take to end where the program goes on, in the same. */
+/* How late a thread begins, in microseconds; and how long it may take to end where the program goes
+ * on, in the same. */
 enum { LATE = 50000, WHILE = 5000000, LOOK = 1000 };
 
 struct counts {
@@ -48,7 +52,8 @@ static void *run(void *given)
 	return answer;
 }
 
-int pthread_create(pthread_t *thread, const pthread_attr_t *attributes, void *(*start)(void *), void *given)
+int pthread_create(pthread_t *thread, const pthread_attr_t *attributes, void *(*start)(void *),
+		   void *given)
 {
 	struct work *work;
 
@@ -68,7 +73,9 @@ ssize_t write(int file, const void *bytes, size_t size)
 {
 	if (file == STDERR_FILENO && !atomic_exchange(&told, 1)) {
 		atomic_store(&counts->begun_when_told, atomic_load(&begun));
-		for (int waited = 0; waited < WHILE && atomic_load(&counts->ended) < atomic_load(&begun); waited += LOOK)
+		for (int waited = 0;
+		     waited < WHILE && atomic_load(&counts->ended) < atomic_load(&begun);
+		     waited += LOOK)
 			usleep(LOOK);
 	}
 	return write_out(file, bytes, size);

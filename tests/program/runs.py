@@ -1,5 +1,5 @@
-"""The program as it was built, run in the ways in which it is tested: over bytes, in pieces, by turns, at a terminal, and with reads and writes that
-fail or end short."""
+"""The program as it was built, run in the ways in which it is tested: over bytes, in pieces, by
+turns, at a terminal, and with reads and writes that fail or end short."""
 
 import contextlib
 import fcntl
@@ -22,9 +22,11 @@ from program.cases import ROOT
 
 # The program as two compilers make it.
 BUILT = [f"{ROOT}/crates/mntgate/out/mntgate", f"{ROOT}/crates/mntgate/out/mntgate.by-rattle"]
-# Seconds after which a command line is taken to go on for ever. The longest one takes under a second where it has a processor.
+# Seconds after which a command line is taken to go on for ever. The longest one takes under a
+# second where it has a processor.
 PATIENCE = 60
-# A limit of time of a socket, which is never reached: but a read or a write that waits there is interrupted where its process is stopped and goes on.
+# A limit of time of a socket, which is never reached: but a read or a write that waits there is
+# interrupted where its process is stopped and goes on.
 LIMIT = struct.pack("ll", 1000, 0)
 
 
@@ -44,10 +46,18 @@ class Program:
 
     @contextlib.contextmanager
     def started(self, words, **streams):
-        """It, started. Where it goes on for too long it is killed, which makes its exit status -9. A write beyond the limit of a file's size fails, and
-        ends nothing, as Python ignores the signal of that and leaves it so."""
+        """It, started. Where it goes on for too long it is killed, which makes its exit status -9.
+        A write beyond the limit of a file's size fails, and ends nothing, as Python ignores the
+        signal of that and leaves it so."""
         words = ["mntgate", *words]
-        with subprocess.Popen(words, executable=self.path, cwd=self.folder, stderr=streams.pop("stderr", PIPE), restore_signals=False, **streams) as process:
+        with subprocess.Popen(
+            words,
+            executable=self.path,
+            cwd=self.folder,
+            stderr=streams.pop("stderr", PIPE),
+            restore_signals=False,
+            **streams,
+        ) as process:
             timer = threading.Timer(PATIENCE, process.kill)
             timer.start()
             try:
@@ -76,7 +86,8 @@ class Program:
             return self.run(words, given, stdout=full)
 
     def run_cut(self, words, given):
-        """Runs it over these bytes, behind which a read fails: the other end of its socket was closed with something in it that was never read."""
+        """Runs it over these bytes, behind which a read fails: the other end of its socket was
+        closed with something in it that was never read."""
         ours, theirs = socket.socketpair()
         with ours, theirs:
             theirs.sendall(b"never read")
@@ -85,9 +96,12 @@ class Program:
             return self.run(words, stdin=theirs)
 
     def run_in_pieces(self, words, pieces, limit=None):
-        """Runs it over these pieces, of which each read gives one; its standard output takes as many bytes as the limit says, if there is one."""
+        """Runs it over these pieces, of which each read gives one; its standard output takes as
+        many bytes as the limit says, if there is one."""
         ours, theirs = socket.socketpair(socket.AF_UNIX, socket.SOCK_SEQPACKET)
-        with tempfile.TemporaryFile() as output, ours, theirs, self.started(words, stdin=theirs, stdout=output) as process:
+        with tempfile.TemporaryFile() as output, ours, theirs, self.started(
+            words, stdin=theirs, stdout=output
+        ) as process:
             theirs.close()
             # It hasn't written yet, as nothing was given to it.
             if limit is not None:
@@ -114,7 +128,8 @@ class Program:
         return Ended(process.returncode, printed, told)
 
     def run_held_up(self, words, given):
-        """Runs it over these bytes with a standard output that takes nothing, where its first write waits, and is interrupted."""
+        """Runs it over these bytes with a standard output that takes nothing, where its first write
+        waits, and is interrupted."""
         ours, theirs = socket.socketpair()
         with ours, theirs, source_of(given) as source:
             theirs.setblocking(False)
@@ -132,8 +147,8 @@ class Program:
         return Ended(process.returncode, printed, told)
 
     def run_stopped(self, words, given):
-        """Runs it over these bytes with a pipe of 4,096 bytes for its output, where each write that waits is interrupted, and so ends with a part of
-        its bytes written."""
+        """Runs it over these bytes with a pipe of 4,096 bytes for its output, where each write that
+        waits is interrupted, and so ends with a part of its bytes written."""
         ours, theirs = os.pipe()
         fcntl.fcntl(theirs, fcntl.F_SETPIPE_SZ, 4096)
         with os.fdopen(ours, "rb", 0) as pipe, source_of(given) as source:
@@ -147,7 +162,8 @@ class Program:
         return Ended(process.returncode, printed, told)
 
     def run_answering(self, words, lines):
-        """Runs it by turns: gives it a line, and the next one when it has printed what belongs to the one before."""
+        """Runs it by turns: gives it a line, and the next one when it has printed what belongs to
+        the one before."""
         printed = b""
         with self.started(words, stdin=PIPE, stdout=PIPE) as process:
             with contextlib.suppress(BrokenPipeError):
@@ -159,7 +175,8 @@ class Program:
             return Ended(process.wait(), printed, process.stderr.read())
 
     def run_typed(self, words, given, types):
-        """Runs it with a terminal for standard error and, where a person types, for standard input too."""
+        """Runs it with a terminal for standard error and, where a person types, for standard input
+        too."""
         ours, theirs = pty.openpty()
         quiet = termios.tcgetattr(theirs)
         quiet[1] &= ~termios.OPOST
@@ -179,7 +196,8 @@ class Program:
 
 
 def built_programs(paths):
-    """These programs; those of the repository, where none is named: the second, where it is there. Ends the test where there is no such program."""
+    """These programs; those of the repository, where none is named: the second, where it is there.
+    Ends the test where there is no such program."""
     paths = paths or [path for path in BUILT if path == BUILT[0] or os.path.exists(path)]
     for path in paths:
         if not os.access(path, os.X_OK):
@@ -196,7 +214,8 @@ def source_of(given):
 
 
 def wait_until(process, states):
-    """Waits until a process is in one of these states, and says in which: S, it waits; T, it is stopped; Z, it has ended."""
+    """Waits until a process is in one of these states, and says in which: S, it waits; T, it is
+    stopped; Z, it has ended."""
     while True:
         with open(f"/proc/{process.pid}/stat", encoding="utf-8") as stat:
             state = stat.read().rpartition(")")[2].split()[0]
@@ -206,7 +225,8 @@ def wait_until(process, states):
 
 
 def is_stopped(process):
-    """Whether a process waited and was stopped for a moment: not where it has ended. (By `os.kill`, as `process.kill` forgets one that has ended.)"""
+    """Whether a process waited and was stopped for a moment: not where it has ended. (By `os.kill`,
+    as `process.kill` forgets one that has ended.)"""
     if wait_until(process, "SZ") == "Z":
         return False
     os.kill(process.pid, signal.SIGSTOP)

@@ -47,5 +47,9 @@ def tracked(*folders):
 
 def files_below(folder):
     """Returns the paths below a folder, links too, sorted and relative to it."""
-    found = [os.path.join(at, name) for at, folders, names in os.walk(folder) for name in names + [it for it in folders if os.path.islink(f"{at}/{it}")]]
+    found = [
+        os.path.join(at, name)
+        for at, folders, names in os.walk(folder)
+        for name in names + [it for it in folders if os.path.islink(f"{at}/{it}")]
+    ]
     return sorted(os.path.relpath(path, folder) for path in found)

@@ -9,8 +9,9 @@ from files import ROOT, read, said, stop, text
 
 
 def verdicts_in(log):
-    """Returns the last line of the prover on each crate, by name; or that an earlier run on this machine proved the same files, which `rt ci` then
-    doesn't prove again. Behind `rt: ok` the log has the line on the archive."""
+    """Returns the last line of the prover on each crate, by name; or that an earlier run on this
+    machine proved the same files, which `rt ci` then doesn't prove again. Behind `rt: ok` the log
+    has the line on the archive."""
     verdicts, name = {}, None
     for line in log.splitlines():
         if line.startswith("== "):
@@ -26,7 +27,13 @@ def verdicts_in(log):
 
 def tools():
     """Returns a line for each tool whose version decides the bytes of a release."""
-    asked = (("gcc", "--version"), ("ld", "--version"), ("dpkg-deb", "--version"), ("cmark-gfm", "--version"), ("python3", "--version"))
+    asked = (
+        ("gcc", "--version"),
+        ("ld", "--version"),
+        ("dpkg-deb", "--version"),
+        ("cmark-gfm", "--version"),
+        ("python3", "--version"),
+    )
     return [said(*words).splitlines()[0] for words in asked]
 
 
@@ -36,19 +43,31 @@ def kit_of():
 
 
 def evidence(log, epoch, built):
-    """Returns the text of PROOF.txt. Stops unless the log has a proof of each crate, by one kit, and ends with no failure."""
+    """Returns the text of PROOF.txt. Stops unless the log has a proof of each crate, by one kit,
+    and ends with no failure."""
     verdicts = verdicts_in(log)
     crates = re.findall(r"^([a-z_]+)[^:#\n]*:", text("crates.txt"), re.M) + ["libmntgate_c.a"]
-    if missing := [crate for crate in crates if not verdicts.get(crate, "").startswith(("logic=proved", "kept: "))]:
+    if missing := [
+        crate
+        for crate in crates
+        if not verdicts.get(crate, "").startswith(("logic=proved", "kept: "))
+    ]:
         stop(f"the log has no proof of {' '.join(missing)}")
-    ends = re.findall(r"^rt: ok; .*", log, re.M)[-1:] + re.findall(r"^\d+ passed, 0 failed$", log, re.M)[-1:]
+    ends = (
+        re.findall(r"^rt: ok; .*", log, re.M)[-1:]
+        + re.findall(r"^\d+ passed, 0 failed$", log, re.M)[-1:]
+    )
     if len(ends) != 2:
         stop("the log doesn't end with 'N passed, 0 failed'")
     kit = kit_of()
-    if {line.split("sum=")[1].split()[0] for line in verdicts.values() if "sum=" in line} != {kit.split()[-1]}:
+    if {line.split("sum=")[1].split()[0] for line in verdicts.values() if "sum=" in line} != {
+        kit.split()[-1]
+    }:
         stop(f"the log is of another logic than {kit}, which README.md names")
     commit = said("git", "-C", ROOT, "rev-parse", "HEAD")
-    sums = [f"{hashlib.sha256(read(path)).hexdigest()}  {os.path.relpath(path, ROOT)}" for path in built]
+    sums = [
+        f"{hashlib.sha256(read(path)).hexdigest()}  {os.path.relpath(path, ROOT)}" for path in built
+    ]
     fits = {f"commit {commit}", *sums} <= set(log.splitlines())
     width = max(map(len, crates))
     lines = [
@@ -59,13 +78,26 @@ def evidence(log, epoch, built):
         "What .ci/run said at its end:",
         *ends,
         "",
-        "Its verdict on each crate. The words behind it are explained in docs/testing.md, \"What a verdict says\".",
+        (
+            'Its verdict on each crate. The words behind it are explained in docs/testing.md, "What'
+            ' a verdict says".'
+        ),
         *(f"{crate:{width}} {verdicts[crate]}" for crate in crates),
         "",
-        "SHA-256 of what it built. The release has them stripped. The program's --version has this commit and kit, and nothing else in it is changed.",
+        (
+            "SHA-256 of what it built. The release has them stripped. The program's --version has"
+            " this commit and kit, and nothing else in it is changed."
+        ),
         "The library is linked with the kit's lines of C:",
         *sums,
-        "The output of .ci/run names this commit and these sums." if fits else "The output of .ci/run names another commit or other sums: that it is of these is the word of whoever made the release.",
+        (
+            "The output of .ci/run names this commit and these sums."
+            if fits
+            else (
+                "The output of .ci/run names another commit or other sums: that it is of these is"
+                " the word of whoever made the release."
+            )
+        ),
         "",
         "Made with:",
         *tools(),

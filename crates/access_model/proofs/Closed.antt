@@ -165,7 +165,7 @@ module _ (l : Limits) (s : State) (t : ℕ) (k : NobodyHoldsClosed l s) where
   step (Open n) may = same_files _ _
   step (Close n) may = same_files _ _
 
--- after a legal history nobody holds what is closed
+-- after an allowed trace nobody holds what is closed
 pub closed : (l : Limits) (h : List Done) → IsLegal l h → NobodyHoldsClosed l (end_of h)
 closed l [] legal = record {
   mounts = λ t m lt lm c. refl;

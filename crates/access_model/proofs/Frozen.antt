@@ -215,7 +215,7 @@ none_holds : (h : Holder) → held_by nobody h ≡ true → ⊥
 none_holds Kernel own = false≢true own
 none_holds User own = false≢true own
 
--- after a legal history what is frozen is shut
+-- after an allowed trace what is frozen is shut
 pub frozen_shut : (l : Limits) (h : List Done) → IsLegal l h → FrozenIsShut l (end_of h)
 frozen_shut l [] legal = record {
   shut = λ e. absurd (omega (arith, e));

@@ -1,4 +1,4 @@
--- What comes after an event, with other phases.
+-- What comes after a step, with other phases.
 use Rattle.access_model.specs.declared.replies.Next.{Next, TheVariants.{Go, Wait, Done}}
 
 -- the same, with what a function gives in the place of its phase

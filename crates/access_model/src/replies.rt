@@ -1,4 +1,4 @@
-//! How an operation ends, and what comes after an event.
+//! How an operation ends, and what comes after a step.
 
 ghost use Rattle.std.specs.Prelude.{◌≡◌};
 ghost use Rattle.access_model.specs.Replies.{map_next};
@@ -19,19 +19,19 @@ pub enum Reply {
     Tree,
 }
 
-/// What comes after an event: another phase, the same or another phase after a look in vain, or the end.
+/// What comes after a step: another phase, the same or another phase after a look in vain, or the end.
 #[derive(Clone, Copy)]
 pub enum Next<P> {
     /// The operation goes on with this phase.
     Go(P),
-    /// The event found that the task has to look or try again, with this phase.
+    /// The step found that the task has to look or try again, with this phase.
     Wait(P),
     /// The operation has ended.
     Done(Result<Reply, GateError>),
 }
 
 impl<P> Next<P> {
-    /// Replaces the phase by what this function gives for it. So what comes after an event of a layer becomes what comes after it in an
+    /// Replaces the phase by what this function gives for it. So what comes after a step of a layer becomes what comes after it in an
     /// operation that the layer is a part of.
     #[inline(always)]
     pub fn map<Q, F: FnOnce(P) -> Q>(self, to: F) -> Next<Q>
@@ -46,7 +46,7 @@ impl<P> Next<P> {
     }
 }
 
-/// What comes after an event of a layer, with the action that it adds, as what comes after it in an operation that the layer is a part of.
+/// What comes after a step of a layer, with the action that it adds, as what comes after it in an operation that the layer is a part of.
 #[inline(always)]
 pub fn map_after<P, Q, F: FnOnce(P) -> Q>(
     after: (Next<P>, Option<Action>),

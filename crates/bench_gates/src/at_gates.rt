@@ -17,13 +17,13 @@ use vfs_gates::{Config, GateError, Gates, Holder, Kind, Task};
 pub(crate) enum Round {
     /// An access at mount 0, taken and given back.
     Mount,
-    /// A place inside level 1, likewise.
+    /// A place inside level 1, taken and given back.
     Level,
     /// Write access: both.
     WriteAccess,
     /// A freeze and its thaw, by one task. The levels stay on their slow path.
     Freeze,
-    /// The same, and the callbacks of the levels. Each freeze and each callback waits for a grace period at each level.
+    /// A freeze and its thaw, and the callbacks of the levels. Each freeze and each callback waits for a grace period at each level.
     FreezeAndCallbacks,
     /// A remount to read-only and one back, by one task.
     Remounts,
@@ -49,7 +49,7 @@ fn want_and_drop(task: &mut Task, gates: &Gates, count: u32) -> bool
     true
 }
 
-/// Goes inside level 1 and leaves it, likewise.
+/// Goes inside level 1 and leaves it, so often, on the processor with the task's own number, and says whether each call was done.
 fn start_and_end(task: &mut Task, gates: &Gates, count: u32) -> bool
     requires { IsFrom task.old gates.now }
 {
@@ -62,7 +62,8 @@ fn start_and_end(task: &mut Task, gates: &Gates, count: u32) -> bool
     true
 }
 
-/// Takes write access at mount 0 and gives it back, likewise.
+/// Takes write access at mount 0 and gives it back, so often, on the processor with the task's own number, and says whether each call was
+/// done.
 fn want_and_drop_write<R: Wait>(task: &mut Task, rt: &R, gates: &Gates, count: u32) -> bool
     requires { IsFrom task.old gates.now }
 {
@@ -85,7 +86,7 @@ fn freeze_and_thaw<R: Wait>(task: &mut Task, rt: &R, gates: &Gates) -> bool
     frozen.is_ok() && task.thaw(rt, gates, Holder::User, &mut ()).is_ok()
 }
 
-/// Runs the callbacks of the three levels, likewise.
+/// Runs the callbacks of the three levels, and says whether each call was done.
 fn call_back<R: Wait>(task: &mut Task, rt: &R, gates: &Gates) -> bool
     requires { IsFrom task.old gates.now }
     ensures { IsFrom task.new gates.now }
@@ -123,7 +124,7 @@ fn remounts<R: Wait>(task: &mut Task, rt: &R, gates: &Gates, count: u32) -> bool
     true
 }
 
-/// Freezes, and takes so many snapshots, likewise.
+/// Freezes, and takes so many snapshots, and says whether each call was done.
 fn snapshots<R: Wait>(task: &mut Task, rt: &R, gates: &Gates, count: u32) -> bool
     requires { IsFrom task.old gates.now }
 {
@@ -138,7 +139,7 @@ fn snapshots<R: Wait>(task: &mut Task, rt: &R, gates: &Gates, count: u32) -> boo
     true
 }
 
-/// Makes a file, and opens and closes it so often, likewise.
+/// Makes a file, and opens and closes it so often, and says whether each call was done.
 fn open_and_close<R: Wait>(task: &mut Task, rt: &R, gates: &Gates, count: u32) -> bool
     requires { IsFrom task.old gates.now }
 {
@@ -242,7 +243,7 @@ fn time_tasks<R: Threads + Wait + Clock + Sync>(
     Ok(took?)
 }
 
-/// The same of the first task and of those that are split off from it, so many in all.
+/// Times the first task and those that are split off from it, so many in all.
 fn time_first<R: Threads + Wait + Clock + Sync>(
     rt: &R,
     alloc: Global,

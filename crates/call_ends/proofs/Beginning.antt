@@ -10,7 +10,7 @@ use Rattle.mount_counts.specs.declared.remounts.{Remount.{Remount}, RemountStep.
 use Rattle.percpu_rwsem.specs.declared.callbacks.{Callback.{Callback}, CallbackStep.{CallbackStep, TheVariants.{Claims}}}
 use Rattle.percpu_rwsem.specs.declared.transitions.Transition.TheVariants.{Loads}
 use Rattle.gate_steps.specs.{Seating.{DealtNumbers}, call_events.{GhostAgrees.{GhostAgrees}, Turns.{StateAgrees, state_at}}}
-use Rattle.call_lines.specs.{CallingBack.{calling_at}, Closings.{standing}, Remounting.{remounting_at}, Reopenings.{thaw_at}}
+use Rattle.call_ends.specs.{CallingBack.{calling_at}, Closings.{standing}, Remounting.{remounting_at}, Reopenings.{thaw_at}}
 
 -- where one that may wait begins
 abbrev IsFirst : Phase → Type 0

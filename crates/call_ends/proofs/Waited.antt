@@ -1,4 +1,4 @@
--- How many events came to a wait, one after the other.
+-- How many steps came to a wait, one after the other.
 use Rattle.std.proofs.Common.{◌≡◌, ℕ, ◌+◌, ◌-◌, ◌^◌, min, arith, ap, sym, subst, ◌∙◌}
 use Rattle.std.specs.Prelude.{Some, None, Result}
 use Rattle.atomic_table.specs.Seated.{TableId}

@@ -1,25 +1,25 @@
-//! Operations done to their end, event after event, each in the form of its own kind, with nothing written down in between.
+//! Operations done to their end, step after step, each in the form of its own kind, with nothing written down in between.
 
 ghost use Rattle.std.specs.Prelude.{◌≡◌, Some, None};
 ghost use Rattle.access_model.specs.Replies.{map_next};
 ghost use Rattle.access_model.specs.declared.replies.Next.TheVariants.{Done, Go};
 ghost use Rattle.gate_world.specs.declared.operations.Op.{Op as OpType};
 ghost use Rattle.gate_world.specs.declared.work.Phase.TheVariants.{Callbacks, Freezes, Remounts, Thaws};
-ghost use Rattle.call_lines.specs.CallingBack.{of_callback};
-ghost use Rattle.call_lines.specs.Closings.{of_freeze};
+ghost use Rattle.call_ends.specs.CallingBack.{of_callback};
+ghost use Rattle.call_ends.specs.Closings.{of_freeze};
 ghost use Rattle.gate_steps.specs.call_events.Led.{Led, LedAsking, Stands, StaysSeated, seated_at};
-ghost use Rattle.call_lines.specs.Remounting.{of_remount};
-ghost use Rattle.call_lines.specs.Reopenings.{of_thaw};
+ghost use Rattle.call_ends.specs.Remounting.{of_remount};
+ghost use Rattle.call_ends.specs.Reopenings.{of_thaw};
 ghost use Rattle.gate_steps.specs.call_events.SeatedTasks.{SeatedTask};
 ghost use Rattle.gate_steps.specs.call_events.Runs.{Called, OpUnderWay, IsTrying};
 ghost use Rattle.gate_steps.specs.call_events.Asking.{CalledAsking, OpUnderWayAsking, OpAfterStepAsking};
 
 use crate::backoff::Backoff;
+use crate::callbacks::{callback_first, run_callback};
+use crate::freeze_lines::{close_second, end_freeze, freeze_first, freeze_locked, go_on_level};
+use crate::remount_lines::{remount_first, remount_locked};
+use crate::thaw_lines::{reopen_all, thaw_first, thaw_locked};
 use access_model::{GateError, Next, Reply};
-use call_lines::{
-    callback_first, close_second, end_freeze, freeze_first, freeze_locked, go_on_level,
-    remount_first, remount_locked, reopen_all, run_callback, thaw_first, thaw_locked,
-};
 use freeze_levels::{Freeze, FreezeStep, HookCall, Thaw, ThawStep};
 use gate_steps::call_events::{GateWords, GhostSeat, StepResult, TimedHooks, do_event, step_once};
 use gate_transitions::PendingOp;
@@ -36,7 +36,7 @@ pub trait Waiting: PendingOp {
     ghost use Rattle.gate_steps.specs.call_events.Asking.{call_at};
     ghost use Rattle.gate_steps.specs.call_events.Led.{LedAsking, Stands};
 
-    /// The hook whose answer the next event reads, with what it is asked.
+    /// The hook whose answer the next step reads, with what it is asked.
     fn asks(&self) -> Option<HookCall>
         ensures { result ≡ call_at (Self.as_phase self.now) };
 
@@ -54,7 +54,7 @@ pub trait Waiting: PendingOp {
         ensures { LedAsking H.answers gates.now (Some op) (Go (Self.as_phase self)) accesses.now seat.old hooks.old
             (map_next Self.as_phase result) accesses.now seat.new hooks.new };
 
-    /// Does the steps that come next and stand in a line, likewise; none where the operation stands at none of these.
+    /// Does the steps that come next and stand in a line, up to what stands in their way; none where the operation stands at none of these.
     fn run_fast_path<H: TimedHooks>(
         self,
         gates: &GateWords,
@@ -328,7 +328,7 @@ fn go_on_in_line<P: Waiting, H: TimedHooks>(
     }
 }
 
-/// Does the events of an operation that has a most number of them and asks no hook, from its first to its reply.
+/// Does the steps of an operation that has a most number of them and asks no hook, from its first to its reply.
 #[inline(never)]
 pub fn run_to_reply<P: PendingOp>(
     gates: &GateWords,
@@ -360,10 +360,10 @@ pub fn run_to_reply<P: PendingOp>(
     }
 }
 
-/// Goes on with an operation to its reply, however long it has to wait. A hook of the file system is asked once, right before the event that
-/// reads its answer. After an event that found what the operation waits for it pauses, and the longer the more often one did (`Backoff`): so a
-/// freeze that has found somebody pauses first, and asks then whether to wait. A wait may take several events before it looks again, so none of
-/// these makes the pauses short again. It tells how many events did.
+/// Goes on with an operation to its reply, however long it has to wait. A hook of the file system is asked once, right before the step that
+/// reads its answer. After a step that found what the operation waits for it pauses, and the longer the more often one did (`Backoff`): so a
+/// freeze that has found somebody pauses first, and asks then whether to wait. A wait may take several steps before it looks again, so none of
+/// these makes the pauses short again. It tells how many steps did.
 #[cold]
 #[inline(never)]
 fn step_waiting<R: Wait, H: TimedHooks, P: Waiting>(
@@ -400,7 +400,7 @@ fn step_waiting<R: Wait, H: TimedHooks, P: Waiting>(
     unreachable!()
 }
 
-/// Does the events of an operation from its first to its reply, however long it has to wait, and tells how many events found what it waits for.
+/// Does the steps of an operation from its first to its reply, however long it has to wait, and tells how many steps found what it waits for.
 /// Where its line leads to the reply, nothing of it is written to memory.
 #[inline(always)]
 pub fn wait_for_reply<R: Wait, H: TimedHooks, P: Waiting>(

@@ -49,7 +49,7 @@ pub(crate) const PATIENCE: &str = "patience";
 /// The flag of a run that tells what its tasks met.
 pub(crate) const DETAILS: &str = "details";
 
-/// The flags of what is told of the outcomes of a race.
+/// The flags of what is printed of the outcomes of a race.
 pub(crate) const SCHEDULES: &str = "schedules";
 
 pub(crate) const MODEL: &str = "model";

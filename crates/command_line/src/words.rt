@@ -93,7 +93,7 @@ pub struct Explain<'a> {
     pub refusal: Option<&'a str>,
 }
 
-/// In which form a schedule of each outcome is told, if it is.
+/// In which form a schedule of each outcome is printed, if it is.
 #[derive(Clone, Copy)]
 pub enum ScheduleForm {
     Untold,
@@ -103,7 +103,7 @@ pub enum ScheduleForm {
     Columns,
 }
 
-/// In which form the outcomes of a race are told.
+/// In which form the outcomes of a race are printed.
 #[derive(Clone, Copy)]
 pub enum OutcomeForm {
     /// A line for each.
@@ -114,7 +114,7 @@ pub enum OutcomeForm {
     Html,
 }
 
-/// How the outcomes of a race are told.
+/// How the outcomes of a race are printed.
 #[derive(Clone, Copy)]
 pub struct Outcomes<'a> {
     /// The file that has it; standard input, where none is named.
@@ -122,7 +122,7 @@ pub struct Outcomes<'a> {
     pub form: OutcomeForm,
     pub style: Style,
     pub schedules: ScheduleForm,
-    /// Whether the final model is told.
+    /// Whether the final model is printed.
     pub model: bool,
     /// Whether outcomes with other final models are told apart.
     pub ends: bool,
@@ -135,7 +135,7 @@ pub struct Outcomes<'a> {
 }
 
 impl Outcomes<'_> {
-    /// Whether something is told that may name words of the gates: more than a line for each outcome.
+    /// Whether something is printed that may name words of the gates: more than a line for each outcome.
     fn names_words(&self) -> bool {
         self.save.is_some()
             || !matches!(
@@ -178,12 +178,12 @@ pub enum ProgramRequest<'a> {
     Misused,
 }
 
-/// What the words ask for. A fault of theirs, and the help that they wish for, is told on the writer, and where it can't be, they ask for
+/// What the words ask for. A fault of theirs, and the help that they wish for, is printed on the writer, and where it can't be, they ask for
 /// nothing all the same.
 ///
 /// # Errors
 ///
-/// `AllocError` where there was no memory to read them; then nothing is told.
+/// `AllocError` where there was no memory to read them; then nothing is printed.
 pub fn read_words<'a, E: Write>(
     alloc: Global,
     words: &'a [String],
@@ -200,7 +200,7 @@ pub fn read_words<'a, E: Write>(
 }
 
 /// What a command line asks for that the parser has an answer to itself: the version; else nothing, and the fault, or the help that is wished
-/// for, is told.
+/// for, is printed.
 fn answer_of<'a, E: Write>(
     alloc: Global,
     error: &Error,
@@ -469,7 +469,7 @@ fn listing_of(outcomes: &ArgMatches<'_>) -> Option<OutcomeForm> {
     }
 }
 
-/// How outcomes are to be told, in this form.
+/// How outcomes are to be printed, in this form.
 fn outcomes_of<'a>(outcomes: &ArgMatches<'a>, form: OutcomeForm, style: Style) -> Outcomes<'a> {
     let schedules = if outcomes.get_flag(COLUMNS) {
         ScheduleForm::Columns

@@ -22,6 +22,6 @@ taken_of words processors = if nat_lt (length words) processors then More (sum_o
 abbrev pub ahead : ℕ → (ℕ → ℕ) → ℕ → ℕ
 ahead processors count k = total processors (λ p. if nat_le k p then count p else 0)
 
--- the lead of a sum of which k words are read: what was read, and the present values of the words to come
+-- the value that a partial sum leads to, with k words read: what was read, and the present values of the words to come
 abbrev pub lead : ℕ → (ℕ → ℕ) → ℕ → ℕ → ℕ
 lead processors count k sum = (sum + ahead processors count k) % 18446744073709551616

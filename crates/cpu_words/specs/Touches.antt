@@ -1,4 +1,4 @@
--- What an event does to its word.
+-- What a step does to its word.
 use Rattle.std.specs.Prelude.{ℕ, ◌+◌, ◌-◌, ◌%◌, ◌==◌, if◌then◌else◌, bit_and, bit_or}
 use Rattle.cpu_words.specs.declared.{names.WordName.{WordName}, events.Touch.{Touch}}
 use Rattle.cpu_words.specs.declared.events.{Touch.TheVariants.{Load, Store, Add, Sub, Or, And, Swap, Cas}, Event.{Event}}
@@ -22,7 +22,7 @@ left (And bits) found = bit_and found bits
 left (Swap new) found = new
 left (Cas expect put) found = if found == expect then put else found
 
--- what an event says that it found in a word: a store says what it wrote
+-- what a step says that it found in a word: a store says what it wrote
 abbrev pub found_by : Touch → ℕ → ℕ
 found_by Load value = value
 found_by (Store new) value = new
@@ -33,6 +33,6 @@ found_by (And bits) value = value
 found_by (Swap new) value = value
 found_by (Cas expect put) value = value
 
--- the event of a touch on a word that held this value
+-- the step of a touch on a word that held this value
 abbrev pub event_of : WordName → Touch → ℕ → Event
 event_of word touch value = record { word = word; touch = touch; found = found_by touch value; left = left touch value }

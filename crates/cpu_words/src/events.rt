@@ -1,11 +1,11 @@
-//! What one event does to its word.
+//! What one step does to its word.
 
 ghost use Rattle.std.specs.Prelude.{◌≡◌};
 ghost use Rattle.cpu_words.specs.Touches.{left, event_of};
 
 use crate::names::WordName;
 
-/// What an event does to its word.
+/// What a step does to its word.
 #[derive(Clone, Copy)]
 pub enum Touch {
     Load,
@@ -19,7 +19,7 @@ pub enum Touch {
     Cas { expect: u64, put: u64 },
 }
 
-/// An event that has happened: one atomic step on one word. `found` is the value before it, but for a store, which finds
+/// A step that was done: one atomic touch of one word. `found` is the value before it, but for a store, which finds
 /// nothing, the value that it wrote; `left` is the value after it.
 #[derive(Clone, Copy)]
 pub struct Event {
@@ -47,7 +47,7 @@ impl Touch {
         }
     }
 
-    /// The event of this touch on a word that held this value.
+    /// The step of this touch on a word that held this value.
     #[inline(always)]
     pub fn event(self, word: WordName, value: u64) -> Event
         ensures { result ≡ event_of word self value }

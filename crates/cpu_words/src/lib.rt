@@ -1,5 +1,5 @@
-//! The words of the gates, what one event does to a word, and sums over processors. Every word is a `u64` in memory, and
-//! one event is one load, store, addition, subtraction, or, and, swap or compare-exchange of one word.
+//! The words of the gates, what one step does to a word, and sums over processors. Every word is a `u64` in memory, and
+//! one step is one load, store, addition, subtraction, or, and, swap or compare-exchange of one word.
 #![tactic(auto)]
 
 pub mod events;

@@ -158,7 +158,7 @@ fn put_head(text: &mut Text, faulty: Faulty<'_>, place: Option<Place<'_>>) {
     }
 }
 
-/// Whether a fault is that of one word, which is told with it.
+/// Whether a fault is that of one word, which is printed with it.
 fn is_of_word(fault: &str) -> bool {
     matches!(
         fault,

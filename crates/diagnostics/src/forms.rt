@@ -4,13 +4,13 @@ use crate::texts::Text;
 use schedule_lines::words::word_count;
 use schedule_text::Verb;
 
-/// A word, and what is told of it.
+/// A word, and what is printed of it.
 pub(crate) type Form = (&'static str, &'static str);
 
 /// The form of a configuration.
 pub(crate) const CONFIG: &str = "config TASKS CPUS MOUNTS NODES CAPACITY";
 
-/// The least and the most that numbers of a configuration may be, in their order, with how they are told.
+/// The least and the most that numbers of a configuration may be, in their order, with how they are printed.
 pub(crate) static LIMITS: [(u32, u32, &str); 4] = [
     (1, 64, "TASKS is 1 to 64"),
     (1, 64, "CPUS is 1 to 64"),
@@ -50,7 +50,7 @@ pub(crate) static TYPED: [Form; 5] = [
 const HELP: &str =
     "a line is 'words', 'tree', 'model' or 'T COMMAND', as '0 want 0 0' and then '0 run'; docs/schedules.md has them all; Ctrl-D ends it";
 
-/// What is told of the arguments of forms of which one of some words stands there.
+/// What is printed of the arguments of forms of which one of some words stands there.
 pub(crate) static CHOICES: [Form; 5] = [
     ("ro|rw", "ro|rw is expected"),
     ("[kernel|user]", "kernel|user is expected"),
@@ -65,7 +65,7 @@ pub(crate) static CHOICES: [Form; 5] = [
     ),
 ];
 
-/// Returns what is told of a word in some forms.
+/// Returns what is printed of a word in some forms.
 pub(crate) fn told_of(forms: &[Form], word: &[u8]) -> Option<&'static str> {
     for (name, text) in forms {
         if name.as_bytes() == word {

@@ -223,7 +223,7 @@ fn tell_near(help: &mut Text, name: &str) {
     help.put("?");
 }
 
-/// Returns what is told of a word that stands where a command has to, and that only a race knows, or only in another place.
+/// Returns what is printed of a word that stands where a command has to, and that only a race knows, or only in another place.
 fn misplaced(word: &[u8], is_race: bool) -> Option<&'static str> {
     let is_hook = word == b"hook".as_slice();
     let is_prefix = word == b"if".as_slice() || word == b"retry".as_slice();

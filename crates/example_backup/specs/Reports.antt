@@ -39,7 +39,7 @@ pub record HasAllWrites (told : Report) (views : ℕ → View) : Type 0 where
   pub last_is : own_number left.items ≡ told.last
   pub last_ends : views told.last ≡ own_view left.items
 
--- In the closed gates' world the writer was granted an access for each write that is told, and the backup made all copies told, each from no action; and
+-- In the closed gates' state the writer was granted an access for each write that is told, and the backup made all copies told, each from no action; and
 -- the last copy, where it is told whether it was torn, was made there and has all writes told.
 pub record ReportIsTrue (told : Report) (closed : ClosedState) : Type 0 where
   pub ended : Ended closed.config closed.words

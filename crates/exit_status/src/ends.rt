@@ -29,7 +29,7 @@ pub enum ProgramEnding {
     Passed,
     /// Each file says what it prints.
     Blessed,
-    /// All outcomes of a race are told.
+    /// All outcomes of a race are printed.
     Listed,
     /// Some execution has the whole history.
     Possible,
@@ -93,7 +93,7 @@ pub fn why_told<D: Display + Drop, E: Write>(why: D, errors: &mut E) -> ProgramE
     ProgramEnding::Refused
 }
 
-/// A text in which each control character is told by its number, so that none of them moves a terminal's cursor.
+/// A text in which each control character is printed by its number, so that none of them moves a terminal's cursor.
 #[derive(Clone, Copy)]
 pub struct Printable<'a>(pub &'a str);
 
@@ -110,7 +110,7 @@ impl fmt::Display for Printable<'_> {
     }
 }
 
-/// The name by which what is read is told: that of its file, in printable characters, or `''` where that has none; `<stdin>` if no file is named, or `-`.
+/// The name by which what is read is printed: that of its file, in printable characters, or `''` where that has none; `<stdin>` if no file is named, or `-`.
 #[derive(Clone, Copy)]
 pub struct SourceName<'a>(pub Option<&'a str>);
 

@@ -32,7 +32,7 @@ pub fn is_input(file: Option<&str>) -> bool
 ///
 /// # Errors
 ///
-/// How the program ends if they can't be read, or are more than the longest schedule has, which is told. Then no more than one of these is read.
+/// How the program ends if they can't be read, or are more than the longest schedule has, which is printed. Then no more than one of these is read.
 pub fn read_bytes<R: Files + Alloc<A = Global>, I: Read, E: Write>(
     rt: &R,
     alloc: Global,

@@ -60,7 +60,7 @@ pub fn write_file<R: Files + Alloc<A = Global>>(
 ///
 /// # Errors
 ///
-/// What it is told of by if it is a folder, a pipe, a device or a socket.
+/// What it is called if it is a folder, a pipe, a device or a socket.
 pub fn expect_file(found: &Metadata) -> io::Result<()> {
     if found.is_file() {
         Ok(())

@@ -1,4 +1,4 @@
-//! The events of a change of a mount, in a line: its beginning, the sum of the mount's counts, its end.
+//! The steps of a change of a mount, in a line: its beginning, the sum of the mount's counts, its end.
 
 ghost use Rattle.std.specs.Prelude.{None};
 ghost use Rattle.access_model.specs.declared.replies.Next.TheVariants.{Go};
@@ -45,7 +45,7 @@ impl Checkpointed for Change {
     }
 }
 
-/// The events up to the one that holds writers off, or up to what stands in its way. What comes after the last of them.
+/// The steps up to the one that holds writers off, or up to what stands in its way. What comes after the last of them.
 #[inline]
 fn begin_change(
     gates: &GateWords,
@@ -81,7 +81,7 @@ fn add_counts(
     next
 }
 
-/// The events after the sum: the mount is shut, where it was 0, and writers are let in again; or the mount is opened. Then `umount` is
+/// The steps after the sum: the mount is shut, where it was 0, and writers are let in again; or the mount is opened. Then `umount` is
 /// given back. What comes after the last of them.
 #[inline]
 fn end_change(

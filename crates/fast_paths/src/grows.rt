@@ -1,4 +1,4 @@
-//! The events of a grow of a file, in a line.
+//! The steps of a grow of a file, in a line.
 
 ghost use Rattle.access_model.specs.declared.replies.Next.TheVariants.{Go};
 ghost use Rattle.gate_world.specs.declared.work.Phase.TheVariants.{Trees};
@@ -34,7 +34,7 @@ impl Checkpointed for Grow {
     }
 }
 
-/// The four events of a grow that nobody is before. What comes after the last of them.
+/// The four steps of a grow that nobody is before. What comes after the last of them.
 #[inline]
 fn grow_in_line(
     gates: &GateWords,

@@ -1,4 +1,4 @@
-//! Operations whose usual events are known ahead: they are done in a straight line of code, and nothing is written down in between.
+//! Operations whose usual steps are known ahead: they are done in a straight line of code, and nothing is written down in between.
 #![tactic(auto)]
 
 mod changes;

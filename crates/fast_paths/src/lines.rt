@@ -1,4 +1,4 @@
-//! What a line is made of: events, each done only where the operation stands at a place.
+//! What a line is made of: steps, each done only where the operation stands at a place.
 
 ghost use Rattle.std.specs.Prelude.{None};
 ghost use Rattle.access_model.specs.Replies.{map_next};
@@ -9,13 +9,13 @@ use gate_steps::call_events::{GateWords, GhostSeat, step_once};
 use gate_transitions::PendingOp;
 use gate_world::{Accesses, Op};
 
-/// An operation under way, in a form of its own, whose usual events stand in a line.
+/// An operation under way, in a form of its own, whose usual steps stand in a line.
 pub trait FastPath: PendingOp {
     ghost use Rattle.access_model.specs.Replies.{map_next};
     ghost use Rattle.access_model.specs.declared.replies.Next.TheVariants.{Go};
     ghost use Rattle.gate_steps.specs.call_events.Led.{Led, Stands};
 
-    /// The events up to the operation's usual end; where one of them finds something else, the events up to it. What comes after the
+    /// The steps up to the operation's usual end; where one of them finds something else, the steps up to it. What comes after the
     /// last of them.
     fn run_fast_path(
         self,
@@ -41,7 +41,7 @@ pub(crate) trait Checkpointed: PendingOp {
         ensures { call_at (Self.as_phase self.now) ≡ None };
 }
 
-/// The event that comes next, where the operation stands at this place; else nothing. What comes after it.
+/// The step that comes next, where the operation stands at this place; else nothing. What comes after it.
 #[inline(always)]
 pub(crate) fn step_if_at<P: Checkpointed>(
     gates: &GateWords,

@@ -19,8 +19,8 @@ impl Checkpointed for Want {
     }
 }
 
-/// The last three events of a want that finds nothing in its way, in a line: whether the mount may be written. What comes after the last
-/// of them. They are a function of their own since the compiler takes no hint for one that five events stand in, and calls it.
+/// The last three steps of a want that finds nothing in its way, in a line: whether the mount may be written. What comes after the last
+/// of them. They are a function of their own since the compiler takes no hint for one that five steps stand in, and calls it.
 #[inline]
 fn ask_in_line(
     gates: &GateWords,

@@ -47,7 +47,7 @@ impl Checkpointed for WritePhase {
     }
 }
 
-/// The events of a taking of write access at its mount, in a line. What comes after the last of them.
+/// The steps of a taking of write access at its mount, in a line. What comes after the last of them.
 #[inline(always)]
 fn want_then(
     gates: &GateWords,
@@ -139,7 +139,7 @@ fn taking_at(mount: u8, cpu: u8, task: u8, step: DownReadStep) -> WritePhase
     WritePhase::Takes { mount, read }
 }
 
-/// Leaves in `rest` what comes after the load of a sync word that isn't idle. It stands apart, so that the usual events are one straight
+/// Leaves in `rest` what comes after the load of a sync word that isn't idle. It stands apart, so that the usual steps are one straight
 /// line of instructions.
 #[cold]
 #[inline(never)]
@@ -158,7 +158,7 @@ fn is_granted(next: Next<WritePhase>) -> bool
     matches!(next, Next::Done(Ok(Reply::Unit)))
 }
 
-/// The events of a taking of write access that begins, in a line. Whether it is done. Where it isn't, what comes after the last of them is
+/// The steps of a taking of write access that begins, in a line. Whether it is done. Where it isn't, what comes after the last of them is
 /// left in `rest`: so the usual answer is one bit. It is handed numbers, which go into registers, and neither a phase nor an operation: an
 /// atomic addition waits for each store to memory before it.
 #[inline(never)]
@@ -197,7 +197,7 @@ fn take_write(
     false
 }
 
-/// The two events of a return of write access, likewise.
+/// The two steps of a return of write access. What comes after the last one.
 #[inline]
 fn give_in_line(
     gates: &GateWords,
@@ -215,7 +215,7 @@ fn give_in_line(
     step_if_at(gates, seat, accesses, next, WritePlace::Leaves)
 }
 
-/// Does the next event of a taking or a return that has gone on. What comes after it. It stands apart, so that one that begins is small enough
+/// Does the next step of a taking or a return that has gone on. What comes after it. It stands apart, so that one that begins is small enough
 /// to be put in line.
 #[cold]
 #[inline(never)]

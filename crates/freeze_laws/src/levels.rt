@@ -10,7 +10,7 @@ ghost use Rattle.freeze_laws.specs.levels.Laws.{FastFindsOpen, StaysSlow, Graces
 ghost use Rattle.freeze_laws.specs.levels.Numbers.{TransitionsAreAlwaysDefined};
 ghost use Rattle.freeze_laws.specs.levels.Operations.{DownReadsAreThere, DownWritesAreThere, UpWritesAreThere, CallbacksAreThere};
 
-/// What holds at a level holds at its beginning, and each event there keeps it; a writer that has entered is the only one, and finds
+/// What holds at a level holds at its beginning, and each step there keeps it; a writer that has entered is the only one, and finds
 /// what it needs. Does nothing: its contract is the law.
 pub fn events_keep_the_level()
     ensures opens { (tasks : ℕ) → SyncLevelHolds tasks opening }
@@ -19,7 +19,7 @@ pub fn events_keep_the_level()
     ensures finds { WritersFind }
 {}
 
-/// Each event of a down-read, a down-write, an up-write or a callback is one of those that keep the level. (An up-read's only event is on a
+/// Each step of a down-read, a down-write, an up-write or a callback is one of those that keep the level. (An up-read's only step is on a
 /// count.) Does nothing: its contract is the law.
 pub fn operations_are_events_of_their_level()
     ensures down_reads { DownReadsAreThere }
@@ -35,7 +35,7 @@ pub fn a_loaded_word_has_its_transition()
 {}
 
 /// A phase makes its transition by a compare-exchange that finds the number loaded: then it puts the transition of that number, and every
-/// other event of it leaves the number as it was. Does nothing: its contract is the law.
+/// other step of it leaves the number as it was. Does nothing: its contract is the law.
 pub fn an_exchange_makes_its_transition()
     ensures { ExchangesMakeTransitions }
 {}

@@ -14,12 +14,12 @@ pub fn a_moment_stays()
         (a : Done) → WasFrozenWith nodes tree done (a ∷ log) }
 {}
 
-/// What is fully frozen after a legal history has no dirty node. Does nothing: its contract is the law.
+/// What is fully frozen after an allowed trace has no dirty node. Does nothing: its contract is the law.
 pub fn what_is_frozen_is_clean()
     ensures { (l : Limits) (log : List Done) → IsLegal l log → (end_of log).stage ≡ 4 → IsClean l (end_of log) }
 {}
 
-/// At a moment of a legal history its first actions are a legal history too, which cuts each own list at what its number had done, and
+/// At a moment of an allowed trace its first actions are an allowed trace too, which cuts each own list at what its number had done, and
 /// no node of the tree was dirty. Does nothing: its contract is the law.
 pub fn what_a_moment_tells()
     ensures { (l : Limits) (tree : ℕ → Option NodeInfo) (done : List (ℕ × ℕ)) (lists : ℕ → List Action) (log : List Done) →

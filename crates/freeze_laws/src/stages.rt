@@ -8,13 +8,13 @@ ghost use Rattle.freeze_laws.specs.stages.Laws.{FreezeIsUnderWay, FreezeKeepsOth
 ghost use Rattle.freeze_laws.specs.stages.Laws.{PositionsTellTheLevels, FrozenAsAWhole, NobodyAtStageFour, OpenElsewhere, LevelsPassInOrder};
 ghost use Rattle.freeze_laws.specs.stages.Laws.{FreezeAndThawHappen};
 
-/// What holds of the stage and of the marks holds at the beginning, and each event keeps it. Does nothing: its contract is the law.
+/// What holds of the stage and of the marks holds at the beginning, and each step keeps it. Does nothing: its contract is the law.
 pub fn each_event_keeps_the_stages()
     ensures begins { (tasks nodes : ℕ) → Holds tasks nodes opening }
     ensures keeps { EventsKeep }
 {}
 
-/// The action of each event is allowed, and has the effect that is shown after it; an event without one changes nothing of it. Does
+/// The action of each step is allowed, and has the effect that is shown after it; a step without one changes nothing of it. Does
 /// nothing: its contract is the law.
 pub fn each_action_is_allowed()
     ensures allowed { ActionsAreAllowed }
@@ -40,7 +40,7 @@ pub fn positions_tell_the_levels()
     ensures order { LevelsPassInOrder }
 {}
 
-/// A whole freeze and a whole thaw happen, each event as it is asked for. Does nothing: its contract is the law.
+/// A whole freeze and a whole thaw happen, each step as it is asked for. Does nothing: its contract is the law.
 pub fn a_freeze_and_a_thaw_happen()
     ensures { FreezeAndThawHappen }
 {}

@@ -1,4 +1,4 @@
--- The order of events of a freeze of the superblock: which word an event touches and how, and what comes after it. Three events are decided
+-- The order of steps of a freeze of the superblock: which word a step touches and how, and what comes after it. Three steps are decided
 -- by the answer of the file system.
 use Rattle.std.specs.Prelude.{ℕ, ◌+◌, ◌-◌, ◌==◌, if◌then◌else◌, true, Option, Some, None, Ok, Err}
 use Rattle.access_model.specs.declared.actions.{Action.{Action, TheVariants.{Stage as StageAction, Hold}}, Holders.{Holders}}
@@ -80,7 +80,7 @@ abbrev pub closing_waits : DownWrite → DownWriteStep → FreezeStep
 closing_waits d (Sums sum) = Waits d
 closing_waits d step = Closes d
 
--- what comes after an event of the closing of a level
+-- what comes after a step of the closing of a level
 abbrev pub after_closing : Freeze → ℕ → Next DownWrite → Next Freeze
 after_closing x level (Go d) = Go (at_freeze x (Closes d))
 after_closing x level (Wait d) = Wait (at_freeze x (closing_waits d d.step))
@@ -96,7 +96,7 @@ after_clearing x (Done answer) = Go (at_freeze x SetsFs)
 abbrev pub freeze_fails : ℕ → ℕ → FreezeStep
 freeze_fails level code = if level == 0 then Releases (Err (Hook code)) else Reopens (reopening level) code
 
--- what comes after an event of the reopening of a level: after the last one the level below it is reopened
+-- what comes after a step of the reopening of a level: after the last one the level below it is reopened
 abbrev pub after_reopening : Freeze → ℕ → ℕ → Next UpWrite → Next Freeze
 after_reopening x level code (Go u) = Go (at_freeze x (Reopens u code))
 after_reopening x level code (Wait u) = Wait (at_freeze x (Reopens u code))
@@ -106,7 +106,7 @@ after_reopening x level code (Done answer) = Go (at_freeze x (freeze_fails (leve
 abbrev pub freeze_undone : ℕ → ℕ → FreezeStep
 freeze_undone level code = if level == 1 then LocksToUndo code else GivesUp level code
 
--- what comes after an event by which the rcu_sync of a level that is given up is left
+-- what comes after a step by which the rcu_sync of a level that is given up is left
 abbrev pub after_undoing : Freeze → ℕ → ℕ → TransitionNext → Next Freeze
 after_undoing x level code (More transition) = Go (at_freeze x (Undoes level transition code))
 after_undoing x level code Undefined = Go (at_freeze x (Undoes level Loads code))
@@ -134,16 +134,16 @@ found_holders x held = if held_by held x.holder then Releases (Err Busy) else Ho
 abbrev pub held_now : Freeze → Next Freeze × Option Action
 held_now x = (Go (at_freeze x (Releases (Ok UnitReply))), Some (Hold x.holder))
 
--- an event of the closing of a level, which found this
+-- a step of the closing of a level, which found this
 abbrev pub freeze_closed : Freeze → DownWrite → ℕ → Next Freeze × Option Action
 freeze_closed x d found = (after_closing x d.level (down_write_after d d.step found).0, (down_write_after d d.step found).1)
 
--- the first event of another sum, or the one by which the level is given up: nobody has passed it, so that it is no action
+-- the first step of another sum, or the one by which the level is given up: nobody has passed it, so that it is no action
 abbrev pub freeze_waited : Freeze → DownWrite → ℕ → HookAnswer → Next Freeze × Option Action
 freeze_waited x d found (Ok answer) = freeze_closed x d found
 freeze_waited x d found (Err code) = (Go (at_freeze x (Undoes d.level Loads code)), None)
 
--- what comes after each event of a freeze, in its own phases
+-- what comes after each step of a freeze, in its own phases
 abbrev pub freeze_after : Freeze → FreezeStep → ℕ → HookAnswer → Next Freeze × Option Action
 freeze_after x Locks found hook = (freeze_locked x Locks found LoadsStage, None)
 freeze_after x LoadsStage found hook = (

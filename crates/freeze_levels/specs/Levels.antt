@@ -1,4 +1,4 @@
--- A level that a freeze closes, and one that a failed freeze or a thaw reopens, before its first event.
+-- A level that a freeze closes, and one that a failed freeze or a thaw reopens, before its first step.
 use Rattle.std.specs.Prelude.{ℕ}
 use Rattle.percpu_rwsem.specs.declared.{transitions.Transition.TheVariants.{Loads}, writers.DownWrite.{DownWrite}}
 use Rattle.percpu_rwsem.specs.declared.writers.{DownWriteStep.TheVariants.{Enters}, UpWrite.{UpWrite}}

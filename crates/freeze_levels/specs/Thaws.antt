@@ -1,4 +1,4 @@
--- The order of events of a thaw of the superblock: which word an event touches and how, and what comes after it. One event is decided by
+-- The order of steps of a thaw of the superblock: which word a step touches and how, and what comes after it. One step is decided by
 -- the answer of the file system.
 use Rattle.std.specs.Prelude.{ℕ, ◌+◌, ◌-◌, ◌==◌, if◌then◌else◌, false, Option, Some, None, Ok, Err}
 use Rattle.access_model.specs.declared.actions.{Action.{Action, TheVariants.{Stage as StageAction, Leave}}, Holders.{Holders}}
@@ -42,7 +42,7 @@ at_thaw x step = record x { step = step }
 abbrev pub thaw_opens : ℕ → ThawStep
 thaw_opens level = if level == 0 then Releases (Ok UnitReply) else Reopens (reopening level)
 
--- what comes after an event of the reopening of a level: after the last one the level below it is reopened
+-- what comes after a step of the reopening of a level: after the last one the level below it is reopened
 abbrev pub after_opening : Thaw → ℕ → Next UpWrite → Next Thaw
 after_opening x level (Go u) = Go (at_thaw x (Reopens u))
 after_opening x level (Wait u) = Wait (at_thaw x (Reopens u))
@@ -63,7 +63,7 @@ abbrev pub thawed : Thaw → HookAnswer → Next Thaw × Option Action
 thawed x (Ok answer) = thaw_leaves x SetsUnfrozen
 thawed x (Err code) = (Done (Err (Hook code)), None)
 
--- what comes after each event of a thaw, in its own phases
+-- what comes after each step of a thaw, in its own phases
 abbrev pub thaw_after : Thaw → ThawStep → ℕ → HookAnswer → Next Thaw × Option Action
 thaw_after x Locks found hook = (if found == 0 then Go (at_thaw x LoadsStage) else Wait (at_thaw x Locks), None)
 thaw_after x LoadsStage found hook = (

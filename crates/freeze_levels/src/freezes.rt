@@ -1,4 +1,4 @@
-//! The order of events of a freeze of the superblock.
+//! The order of steps of a freeze of the superblock.
 
 ghost use Rattle.std.specs.Prelude.{◌≡◌, Ok};
 ghost use Rattle.access_model.specs.declared.replies.Next.TheVariants.{Go};
@@ -36,7 +36,7 @@ use cpu_words::{Touch, WordName};
 use node_words::ClearMarks;
 use percpu_rwsem::{DownWrite, DownWriteStep, SyncWord, Transition, TransitionNext, UpWrite};
 
-/// What the next event of a freeze is (`freeze_super`).
+/// What the next step of a freeze is (`freeze_super`).
 #[derive(Clone, Copy, PartialEq, Eq)]
 pub enum FreezeStep {
     /// Takes `umount` where it is free.
@@ -104,7 +104,7 @@ pub struct Freeze {
 }
 
 impl Freeze {
-    /// A freeze before its first event, among so many tasks, processors and nodes.
+    /// A freeze before its first step, among so many tasks, processors and nodes.
     #[inline(always)]
     pub fn new(holder: Holder, task: u8, tasks: u8, processors: u8, nodes: u8) -> Freeze
         ensures { result ≡ record { holder = holder; task = task; tasks = tasks; processors = processors; nodes = nodes; step = Locks } }
@@ -119,7 +119,7 @@ impl Freeze {
         }
     }
 
-    /// The hook whose answer the next event reads.
+    /// The hook whose answer the next step reads.
     #[inline(always)]
     pub fn wants_hook(self) -> Option<HookKind>
         ensures { result ≡ freeze_hook self.step }
@@ -132,7 +132,7 @@ impl Freeze {
         }
     }
 
-    /// The word and the touch of the next event, where the file system answers this. An event that the answer doesn't decide
+    /// The word and the touch of the next step, where the file system answers this. A step that the answer doesn't decide
     /// ignores it.
     #[inline(always)]
     pub fn next(self, hook: Result<(), u16>) -> (WordName, Touch)
@@ -178,7 +178,7 @@ impl Freeze {
         }
     }
 
-    /// The same freeze, with this step to come.
+    /// Returns the freeze with this step to come.
     #[inline(always)]
     fn at(self, step: FreezeStep) -> Freeze
         ensures { result ≡ at_freeze self step }
@@ -206,7 +206,7 @@ impl Freeze {
         FreezeStep::Closes(closing(level, self.tasks, self.processors))
     }
 
-    /// What comes after an event of the closing of a level.
+    /// What comes after a step of the closing of a level.
     #[inline(always)]
     fn after_closing(self, level: u8, next: Next<DownWrite>) -> Next<Freeze>
         ensures { result ≡ after_closing self level next }
@@ -218,7 +218,7 @@ impl Freeze {
         }
     }
 
-    /// What comes after an event by which the `rcu_sync` of a level that is given up is left.
+    /// What comes after a step by which the `rcu_sync` of a level that is given up is left.
     fn after_undoing(self, level: u8, code: u16, next: TransitionNext) -> Next<Freeze>
         ensures { result ≡ after_undoing self level code next }
     {
@@ -250,7 +250,7 @@ impl Freeze {
         }
     }
 
-    /// What comes after an event of the reopening of a level.
+    /// What comes after a step of the reopening of a level.
     #[inline(always)]
     fn after_reopening(self, level: u8, code: u16, next: Next<UpWrite>) -> Next<Freeze>
         ensures { result ≡ after_reopening self level code next }
@@ -311,7 +311,7 @@ impl Freeze {
         }
     }
 
-    /// What comes after an event of this down-write, which found this, and the action that the event adds.
+    /// What comes after a step of this down-write, which found this, and the action that the step adds.
     #[inline(always)]
     fn after_write(self, write: DownWrite, found: u64) -> (Next<Freeze>, Option<Action>)
         ensures { result ≡ freeze_closed self write found }
@@ -320,7 +320,7 @@ impl Freeze {
         (self.after_closing(write.level, next), action)
     }
 
-    /// What comes after the event that `keep_waiting` decides: another sum has begun, or the level is given up.
+    /// What comes after the step that `keep_waiting` decides: another sum has begun, or the level is given up.
     fn waited(
         self,
         write: DownWrite,
@@ -342,8 +342,8 @@ impl Freeze {
         }
     }
 
-    /// What comes after the event, which found this, where the file system answers this, and the action that the event adds. A freeze is
-    /// mostly down-writes, whose loads stand in rows: so these are put in line, and all other events are a call.
+    /// What comes after the step, which found this, where the file system answers this, and the action that the step adds. A freeze is
+    /// mostly down-writes, whose loads stand in rows: so these are put in line, and all other steps are a call.
     #[inline(always)]
     pub fn after(self, found: u64, hook: Result<(), u16>) -> (Next<Freeze>, Option<Action>)
         ensures { result ≡ freeze_after self self.step found hook }
@@ -354,7 +354,7 @@ impl Freeze {
         }
     }
 
-    /// The same, of any step.
+    /// Returns what comes after any step, and the action that the step adds.
     #[inline(never)]
     fn after_any(self, found: u64, hook: Result<(), u16>) -> (Next<Freeze>, Option<Action>)
         ensures { result ≡ freeze_after self self.step found hook }

@@ -5,7 +5,7 @@ ghost use Rattle.std.specs.Prelude.{ℕ};
 ghost use Rattle.freeze_levels.specs.holder_laws.Events.{HoldsAt};
 ghost use Rattle.freeze_levels.specs.holder_laws.Laws.{opening, EventsKeep, HeldExactly, RolesTell};
 
-/// What holds of the holders holds at the beginning, and each event keeps it. Does nothing: its contract is the law.
+/// What holds of the holders holds at the beginning, and each step keeps it. Does nothing: its contract is the law.
 pub fn each_event_keeps_the_holders()
     ensures begins { (tasks : ℕ) → HoldsAt tasks opening }
     ensures keeps { EventsKeep }

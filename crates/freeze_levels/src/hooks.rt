@@ -61,7 +61,7 @@ impl FsHooks for () {
     }
 }
 
-/// Which hook an event reads the answer of.
+/// Which hook a step reads the answer of.
 #[derive(Clone, Copy, PartialEq, Eq, Debug)]
 pub enum HookKind {
     /// `FsHooks::sync`.

@@ -1,4 +1,4 @@
-//! A level that a freeze closes, and one that a failed freeze or a thaw reopens, before its first event.
+//! A level that a freeze closes, and one that a failed freeze or a thaw reopens, before its first step.
 
 ghost use Rattle.std.specs.Prelude.{◌≡◌};
 ghost use Rattle.freeze_levels.specs.Levels.{closing, reopening};

@@ -1,5 +1,5 @@
-//! Freezes and thaws of the superblock, each as an order of events on words, and the file system that they and a remount ask: its
-//! hooks. A phase says which event comes next, and what comes after it.
+//! Freezes and thaws of the superblock, each as an order of steps on words, and the file system that they and a remount ask: its
+//! hooks. A phase says which step comes next, and what comes after it.
 #![tactic(auto)]
 
 ghost use Rattle.freeze_levels.specs.declared.freezes.Freeze.{Freeze as FreezeType};
@@ -19,7 +19,7 @@ pub use hooks::{FsHooks, HookCall, HookKind};
 pub use phases::FreezePhase;
 pub use thaws::{Thaw, ThawStep};
 
-/// An event of a freeze or a thaw that reads no hook's answer is the same whatever a hook answers, and so is what comes after it. Does
+/// A step of a freeze or a thaw that reads no hook's answer is the same whatever a hook answers, and so is what comes after it. Does
 /// nothing: its contract is the law.
 pub fn an_event_ignores_answers_that_it_does_not_read()
     ensures of_freezes { (x : FreezeType) → FreezeIgnoresAnswer x }

@@ -1,4 +1,4 @@
-//! Where a freeze or a thaw stands between two of its events.
+//! Where a freeze or a thaw stands between two of its steps.
 
 ghost use Rattle.std.specs.Prelude.{◌≡◌};
 ghost use Rattle.freeze_levels.specs.Phases.{phase_hook, next, after};
@@ -9,7 +9,7 @@ use crate::thaws::Thaw;
 use access_model::{Action, Next, map_after};
 use cpu_words::{Touch, WordName};
 
-/// Where a freeze or a thaw of the superblock stands between two of its events.
+/// Where a freeze or a thaw of the superblock stands between two of its steps.
 #[derive(Clone, Copy)]
 pub enum FreezePhase {
     /// `freeze_super`.
@@ -19,7 +19,7 @@ pub enum FreezePhase {
 }
 
 impl FreezePhase {
-    /// Returns the hook whose answer the next event reads, if it reads one.
+    /// Returns the hook whose answer the next step reads, if it reads one.
     #[inline(always)]
     pub fn wants_hook(self) -> Option<HookKind>
         ensures { result ≡ phase_hook self }
@@ -30,7 +30,7 @@ impl FreezePhase {
         }
     }
 
-    /// Returns the word and the touch of the next event, given the file system's answer. An event that the answer doesn't decide
+    /// Returns the word and the touch of the next step, given the file system's answer. A step that the answer doesn't decide
     /// ignores it.
     #[inline(always)]
     pub fn next(self, hook: Result<(), u16>) -> (WordName, Touch)
@@ -42,7 +42,7 @@ impl FreezePhase {
         }
     }
 
-    /// Returns what comes after the event, given the value that it found and the file system's answer, and the action that it adds.
+    /// Returns what comes after the step, given the value that it found and the file system's answer, and the action that it adds.
     #[inline(always)]
     pub fn after(self, found: u64, hook: Result<(), u16>) -> (Next<FreezePhase>, Option<Action>)
         ensures { result ≡ after self found hook }

@@ -1,4 +1,4 @@
-//! The order of events of a thaw of the superblock.
+//! The order of steps of a thaw of the superblock.
 
 ghost use Rattle.std.specs.Prelude.{◌≡◌};
 ghost use Rattle.freeze_levels.specs.Thaws.{
@@ -21,7 +21,7 @@ use access_model::{Action, GateError, Holder, Holders, Next, Reply};
 use cpu_words::{Touch, WordName};
 use percpu_rwsem::UpWrite;
 
-/// What the next event of a thaw is (`thaw_super`).
+/// What the next step of a thaw is (`thaw_super`).
 #[derive(Clone, Copy, PartialEq, Eq)]
 pub enum ThawStep {
     /// Takes `umount` where it is free.
@@ -57,7 +57,7 @@ pub struct Thaw {
 }
 
 impl Thaw {
-    /// A thaw before its first event.
+    /// A thaw before its first step.
     #[inline(always)]
     pub fn new(holder: Holder, task: u8) -> Thaw
         ensures { result ≡ record { holder = holder; task = task; step = Locks } }
@@ -69,7 +69,7 @@ impl Thaw {
         }
     }
 
-    /// The hook whose answer the next event reads.
+    /// The hook whose answer the next step reads.
     #[inline(always)]
     pub fn wants_hook(self) -> Option<HookKind>
         ensures { result ≡ thaw_hook self.step }
@@ -80,7 +80,7 @@ impl Thaw {
         }
     }
 
-    /// The word and the touch of the next event, where the file system answers this. An event that the answer doesn't decide
+    /// The word and the touch of the next step, where the file system answers this. A step that the answer doesn't decide
     /// ignores it.
     #[inline(always)]
     pub fn next(self, hook: Result<(), u16>) -> (WordName, Touch)
@@ -111,7 +111,7 @@ impl Thaw {
         }
     }
 
-    /// The same thaw, with this step to come.
+    /// Returns the thaw with this step to come.
     #[inline(always)]
     fn at(self, step: ThawStep) -> Thaw
         ensures { result ≡ at_thaw self step }
@@ -150,7 +150,7 @@ impl Thaw {
         }
     }
 
-    /// What comes after an event of the reopening of a level.
+    /// What comes after a step of the reopening of a level.
     #[inline(always)]
     fn after_opening(self, level: u8, next: Next<UpWrite>) -> Next<Thaw>
         ensures { result ≡ after_opening self level next }
@@ -162,7 +162,7 @@ impl Thaw {
         }
     }
 
-    /// What comes after the event, which found this, where the file system answers this, and the action that the event adds.
+    /// What comes after the step, which found this, where the file system answers this, and the action that the step adds.
     #[inline(always)]
     pub fn after(self, found: u64, hook: Result<(), u16>) -> (Next<Thaw>, Option<Action>)
         ensures { result ≡ thaw_after self self.step found hook }

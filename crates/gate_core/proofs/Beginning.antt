@@ -1,4 +1,4 @@
--- A beginning of the core shows what the entry makes of the world.
+-- A beginning of the core shows what the transition makes of the state.
 use Rattle.std.proofs.{Common.{◌≡◌, ℕ, ◌<◌, Bool, [], ◌∷◌, ◌++◌, length, get_or, sym, ap, ◌∙◌, subst, arith}, Math.ListN.length-set}
 use Rattle.std.proofs.lemmas.{Bool.lt-ltb, List.get_or_default}
 use Rattle.std.specs.Prelude.{is_some, Option, Some, None, Result, Ok, Err, slice_set}
@@ -19,7 +19,7 @@ module _ (memory : Memory) (sound : IsSound memory) (t : ℕ) (lt : t < memory.c
   same_seat : seat_of memory t ≡ seat
   same_seat = get_or_default memory.seats t no_seat seat (omega (arith, sound.seats)) ∙ sym seat_is
 
-  -- the seat where it is read again
+  -- the task's record, where it is read again
   pub seat_again : (again : TaskState) → again ≡ get_or memory.seats t again → seat ≡ again
   seat_again again again_is = seat_is ∙ get_or_default memory.seats t seat again (omega (arith, sound.seats)) ∙ sym again_is
 

@@ -1,4 +1,4 @@
--- One step of the core shows what the entry makes of the world.
+-- One step of the core shows what the transition makes of the state.
 use Rattle.std.proofs.{Common.{◌≡◌, ℕ, ◌<◌, [], ◌∷◌, ◌++◌, length, get_or, refl, sym, ap, ◌∙◌, subst, arith}, Math.ListN.length-set}
 use Rattle.std.proofs.lemmas.{Bool.lt-ltb, List.get_or_default}
 use Rattle.std.specs.Prelude.{Option, Some, slice_index, slice_set}
@@ -24,14 +24,14 @@ module _ (memory : Memory) (sound : IsSound memory) (t : ℕ) (lt : t < memory.c
   abbrev config : Config
   config = memory.config
 
-  -- what the task holds before the event
+  -- what the task holds before the step
   abbrev accesses : Accesses
   accesses = (seat_of memory t).accesses
 
   abbrev held : Holdings
   held = held_in accesses
 
-  -- the word of the event, and what it does to it
+  -- the word of the step, and what it does to it
   abbrev name : WordName
   name = (next_of phase hook).0
 
@@ -42,14 +42,14 @@ module _ (memory : Memory) (sound : IsSound memory) (t : ℕ) (lt : t < memory.c
   abbrev value : ℕ
   value = slice_index memory.words (place name)
 
-  -- what comes after an event on a word of this value
+  -- what comes after a step on a word of this value
   abbrev done_at : ℕ → Next Phase × Option Action
   done_at n = after_of phase (found_by touch n) hook
 
   abbrev done : Next Phase × Option Action
   done = done_at value
 
-  -- the seat and the memory after the event
+  -- the task's record and the memory after the step
   abbrev seat_after : TaskState
   seat_after = record { phase = phase_after done.0; accesses = accesses_after accesses done.1 }
 
@@ -75,7 +75,7 @@ module _ (memory : Memory) (sound : IsSound memory) (t : ℕ) (lt : t < memory.c
   some_seat : t < length memory.seats
   some_seat = omega (arith, sound.seats)
 
-  -- what the seat holds then agrees, where what it held does
+  -- what the record holds then agrees, where what it held does
   held_then : (seen : Holdings) → Agree config held seen → Agree config (task_holdings seat_after) (held_after done.1 seen)
   held_then seen same = agree_after config accesses (sound.mounts t lt) (sound.levels t lt) (sound.files t lt) seen done.1 acts same
 
@@ -86,7 +86,7 @@ module _ (memory : Memory) (sound : IsSound memory) (t : ℕ) (lt : t < memory.c
   phase_shown w shows = sym (shows.phases t lt) ∙ is
 
   module _ (w : World) (shows : Represents memory w) where
-    -- the view after the event
+    -- the view after the step
     abbrev view : View
     view = view_after (w.views t) phase (read w.words name) hook
 
@@ -100,7 +100,7 @@ module _ (memory : Memory) (sound : IsSound memory) (t : ℕ) (lt : t < memory.c
         sym (holdings_of_after (done_at (read w.words name)).1 (w.views t).actions))
         (held_then (held_of (w.views t)) (shows.held t lt))
 
-    -- the words after the event
+    -- the words after the step
     words_after_shown : (n : WordName) → IsWord (extents_kept config) n →
         slice_index memory_after.words (place n) ≡ read (after_step w t phase hook).words n
     words_after_shown n rn =
@@ -131,7 +131,7 @@ module _ (memory : Memory) (sound : IsSound memory) (t : ℕ) (lt : t < memory.c
       fits_agree config t (held_after done.1 held) (task_holdings seat_after) (agree_sym (held_then held agree_self))
       (phase_after done.0) (fits_after config sound.within t held phase (found_by touch value) hook phase_fits)
 
-  -- the memory after the event is sound
+  -- the memory after the step is sound
   pub step_sound : IsSound memory_after
   step_sound = record {
     within = sound.within;
@@ -164,7 +164,7 @@ module _ (memory : Memory) (sound : IsSound memory) (t : ℕ) (lt : t < memory.c
   abbrev its_value : ℕ
   its_value = slice_index memory.words its_place
 
-  -- what comes after the event
+  -- what comes after the step
   abbrev its_done : Next Phase × Option Action
   its_done = after_of phase (found_by (next_of phase hook).1 its_value) hook
 
@@ -204,7 +204,7 @@ module _ (memory : Memory) (sound : IsSound memory) (t : ℕ) (lt : t < memory.c
         seats = slice_set memory.seats t (record { phase = progress.1; accesses = accesses });
       }
 
-      -- the memory that the code leaves is the one after the event
+      -- the memory that the code leaves is the one after the step
       same_memory : left_memory ≡ memory_after memory sound t lt phase its_phase hook
       same_memory =
           let come : progress.1 ≡ phase_after its_done.0 =
@@ -221,7 +221,7 @@ module _ (memory : Memory) (sound : IsSound memory) (t : ℕ) (lt : t < memory.c
       told_phase : phase_in memory t ≡ Some phase
       told_phase = rw (lt-ltb t memory.config.tasks lt) its_phase
 
-      -- and what is said of it after the event
+      -- and what is said of it after the step
       stepped_after : left_memory ≡ stepped memory t hook
       stepped_after = same_memory ∙ sym (ap (stepped_of memory t hook) told_phase)
 
@@ -234,7 +234,7 @@ module _ (memory : Memory) (sound : IsSound memory) (t : ℕ) (lt : t < memory.c
       pub sound_after : IsSound left_memory
       sound_after = subst IsSound (sym same_memory) (step_sound memory sound t lt phase its_phase hook)
 
-      -- and shows what the entry makes of the world
+      -- and shows what the transition makes of the state
       shows_after : (w : World) → Represents memory w → Represents left_memory (happens memory.config w (Steps t hook))
       shows_after w shows =
           subst (λ m. Represents m (happens memory.config w (Steps t hook))) (sym same_memory)

@@ -1,4 +1,4 @@
--- What a driver answers of a word, and what the core shows of a world.
+-- What a driver answers of a word, and what the core shows of a state.
 use Rattle.std.specs.Prelude.{◌≡◌, ℕ, Bool, true, ◌&&◌, List, Option, Some, None, nat_lt, nat_le, if◌then◌else◌, slice_get, slice_index}
 use Rattle.cpu_words.specs.declared.names.{WordName.{WordName}, WordRow.{WordRow}}
 use Rattle.cpu_words.specs.declared.names.WordRow.TheVariants.{OfAll, OfMount, CountOfMount, OfLevel, CountOfLevel, OfTask, OfNode}
@@ -31,7 +31,7 @@ listed_word c words name = where_there c name (slice_get words (place name))
 abbrev pub core_word : Memory → WordName → Option ℕ
 core_word core name = where_there core.config name (Some (slice_index core.words (place name)))
 
--- the core of this lawful configuration shows this world
+-- the core of this lawful configuration shows this state
 pub record CoreShows (core : Memory) (c : Config) (w : World) : Type 0 where
   pub config : core.config ≡ c
   pub within : IsWithin c

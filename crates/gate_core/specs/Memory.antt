@@ -1,4 +1,4 @@
--- The core in memory: a list of words and one seat per task, and the world that they show.
+-- The core in memory: a list of words and one record per task, and the state that they show.
 use Rattle.std.specs.Prelude.{◌≡◌, ℕ, ◌<◌, None, List, [], length, slice_index, slice_index_or}
 use Rattle.cpu_words.specs.{declared.names.WordName.{WordName}, Names.{IsWord, place, words_in_all}, Words.{read}}
 use Rattle.gate_world.specs.{declared.config.Config.{Config}, Configs.{IsWithin, extents_kept}, Holdings.{Agree}, Views.{held_of}}
@@ -11,22 +11,22 @@ pub record Memory : Type 0 where
   pub words : List ℕ
   pub seats : List TaskState
 
--- past the end of the seats there is no task
+-- past the end of the records there is no task
 abbrev pub no_seat : TaskState
 no_seat = record { phase = None; accesses = record { mounts = []; levels = []; files = [] } }
 
--- the seat of a task
+-- the record of a task
 abbrev pub seat_of : Memory → ℕ → TaskState
 seat_of memory t = slice_index_or memory.seats t no_seat
 
--- The memory shows this world: each word that is kept, and each task's phase and what it holds. Lists of actions and events stand in
+-- The memory shows this state: each word that is kept, and each task's phase and what it holds. Lists of actions and steps stand in
 -- no memory.
 pub record Represents (memory : Memory) (w : World) : Type 0 where
   pub words : (name : WordName) → IsWord (extents_kept memory.config) name → slice_index memory.words (place name) ≡ read w.words name
   pub phases : (t : ℕ) → t < memory.config.tasks → (seat_of memory t).phase ≡ (w.views t).phase
   pub held : (t : ℕ) → t < memory.config.tasks → Agree memory.config (task_holdings (seat_of memory t)) (held_of (w.views t))
 
--- The lists have their lengths, each phase fits its task, and the memory is what some schedule makes of the opening.
+-- The lists have their lengths, each phase fits its task, and the memory is what some execution makes of the opening.
 pub record IsSound (memory : Memory) : Type 0 where
   pub within : IsWithin memory.config
   pub words : length memory.words ≡ words_in_all

@@ -33,15 +33,15 @@ begun_of memory t op (Some refused) = memory
 abbrev pub begun : Memory → ℕ → Op → Memory
 begun memory t op = begun_of memory t op (refusal_in memory t op)
 
--- what the word of a phase's next event is
+-- what the word of a phase's next step is
 abbrev pub value_in : Memory → Phase → HookAnswer → ℕ
 value_in memory phase hook = slice_index memory.words (place (next_of phase hook).0)
 
--- what comes after that event, and the action that it adds
+-- what comes after that step, and the action that it adds
 abbrev pub done_in : Memory → Phase → HookAnswer → Next Phase × Option Action
 done_in memory phase hook = after_of phase (found_by (next_of phase hook).1 (value_in memory phase hook)) hook
 
--- the memory after the next event of a task at this phase
+-- the memory after the next step of a task at this phase
 abbrev pub stepped_of : Memory → ℕ → HookAnswer → Option Phase → Memory
 stepped_of memory t hook None = memory
 stepped_of memory t hook (Some phase) = record {
@@ -53,16 +53,16 @@ stepped_of memory t hook (Some phase) = record {
   });
 }
 
--- the memory after a task's next event
+-- the memory after a task's next step
 abbrev pub stepped : Memory → ℕ → HookAnswer → Memory
 stepped memory t hook = stepped_of memory t hook (phase_in memory t)
 
--- how the operation of a task at this phase stands after its next event
+-- how the operation of a task at this phase stands after its next step
 abbrev pub progress_by : Memory → HookAnswer → Option Phase → Progress
 progress_by memory hook None = Idle
 progress_by memory hook (Some phase) = progress_of (done_in memory phase hook).0
 
--- how the operation of a task stands after its next event
+-- how the operation of a task stands after its next step
 abbrev pub progress_in : Memory → ℕ → HookAnswer → Progress
 progress_in memory t hook = progress_by memory hook (phase_in memory t)
 

@@ -5,8 +5,8 @@ use Rattle.gate_world.specs.{Worlds.{World, happens}, declared.entries.Entry.The
 use Rattle.gate_schedules.specs.{Answers.{step_answer}, declared.steps.Step.{Step}}
 use Rattle.gate_core.specs.{Memory.{Memory, Represents}, Moves.{stepped, progress_in}}
 
--- A task's next event makes the second memory of the first: it is that of the task's phase, shows what the entry makes of each world that
--- the first one shows, and is told as it is of that world.
+-- A task's next step makes the second memory of the first: it is that of the task's phase, shows what the transition makes of each state that
+-- the first one shows, and is told as it is of that state.
 pub record IsStep (before after : Memory) (t : ℕ) (hook : HookAnswer) (step : Step) : Type 0 where
   pub config : after.config ≡ before.config
   pub answer : (w : World) → Represents before w → step ≡ step_answer before.config w t hook

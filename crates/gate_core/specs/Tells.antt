@@ -1,4 +1,4 @@
--- A law of drivers, of the core: what it tells of a word is its value in the world which it shows.
+-- A law of drivers, of the core: what it tells of a word is its value in the state which it shows.
 use Rattle.std.specs.{Prelude.{◌≡◌, ℕ, Bool, true, Option, Some, None, if◌then◌else◌, slice_index}, Cmp.Derive.{both_true}}
 use Rattle.std.proofs.{Common.{refl, sym, ap, subst, ◌∙◌}, lemmas.Bool.{lt-ltb, le-leb}, Math.Nat.{le_trans}}
 use Rattle.cpu_words.specs.declared.names.{WordName.{WordName}, WordRow.{WordRow}}

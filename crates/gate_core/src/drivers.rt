@@ -1,4 +1,4 @@
-//! The core as what moves the gates of a schedule.
+//! The core as what moves the gates of an execution.
 
 use crate::machine::Core;
 use access_model::GateError;
@@ -8,7 +8,7 @@ use gate_schedules::{Driver, Step};
 use gate_world::{Config, Op};
 use std::alloc::Global;
 
-/// The core is what moves the gates of a schedule.
+/// The core is what moves the gates of an execution.
 impl Driver for Core {
     ghost use Rattle.std.specs.Prelude.{true};
     ghost use Rattle.gate_core.specs.Drivers.{CoreShows, core_word};

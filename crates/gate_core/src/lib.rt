@@ -1,4 +1,4 @@
-//! The core: all tasks on plain words, moved one event at a time by whoever drives it. A schedule is a list of calls of `begin`
+//! The core: all tasks on plain words, moved one step at a time by whoever drives it. An execution is a list of calls of `begin`
 //! and `step`. What holds of all of them is the contract of `every_schedule`.
 #![tactic(auto)]
 

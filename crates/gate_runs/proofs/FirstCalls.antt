@@ -50,7 +50,7 @@ loaded_so op first last answer Says loads called says =
           (ap (λ (x : Traced). x.event) during.happens.finds) (loads says.1.event says.4);
     }
 
--- The root is a directory in each world, so no load finds it free, or a file.
+-- The root is a directory in each state, so no load finds it free, or a file.
 abbrev SaysNoDirectory : Event → Type 0
 SaysNoDirectory e = (is_load e.touch ≡ true) × (e.word ≡ Node 0) × (((e.found == 0) ≡ true) ⊎ ((kind_in e.found == 1) ≡ true))
 
@@ -160,7 +160,7 @@ not_read_only : (s : State) (m : ℕ) → AllWritable s → IsReadOnly s m → �
 not_read_only s m all (inl flag) = false≢true (sym (all.0 m) ∙ flag)
 not_read_only s m all (inr sealed) = false≢true (sym all.1 ∙ sealed)
 
--- numbers that have done nothing have done nothing in the world in which they have their views
+-- numbers that have done nothing have done nothing in the state in which they have their views
 idle_there : (views : ℕ → View) (items : DealtNumbers) → HaveViews views items → HaveDoneNothing items → (t : ℕ) → 1 ≤ times t items →
     (views t).actions ≡ []
 idle_there views [] have nothing t some = absurd (omega (arith, some))

@@ -5,10 +5,10 @@ use Rattle.run_plans.specs.{declared.counts.{Totals.{Totals}, Details.{Details}}
 use Rattle.gate_runs.specs.{Counts.{CountsRounds, gave_up_told}, Parts.{AllDid, EndsAs}}
 use Rattle.vfs_gates.specs.Ended.{Ended, ClosedState}
 
--- What a run tells of gates that are closed: the blocks that their files have in the end, and that nothing is held. In the world that they
+-- What a run tells of gates that are closed: the blocks that their files have in the end, and that nothing is held. In the state that they
 -- leave, each task has done its part from where it began, and nothing else: the backup all its rounds, each a freeze with a snapshot, a call of the
 -- watch and a thaw, or a freeze that gave up, and then three callbacks; the remounter all rounds of changes; each writer all its rounds, with a call of
--- the watch between each grant and its return. Just what these calls met is told. What froze and what gave up are together the freezes asked for; with
+-- the watch between each grant and its return. Just what these calls met is printed. What froze and what gave up are together the freezes asked for; with
 -- no end to its patience each freeze was granted.
 pub record TellsRun (held : ℕ → ℕ → Type 0) (seen : ℕ → Type 0) (tasks processors rounds freezes : ℕ) (patience : Option ℕ) (totals : Totals)
     (details : Details) (closed : ClosedState) : Type 0 where

@@ -18,7 +18,7 @@ use std::thread::Threads;
 use std::time::Instant;
 
 /// Does the plan (`run_plan`), and writes what was counted: the first so many of the rows. It ends as Ran only where all of the plan was done. A refusal
-/// is told on the writer of faults, and so is a write that fails; where that can't be told it ends the same.
+/// is printed on the writer of faults, and so is a write that fails; where that can't be printed it ends the same.
 pub fn run_told<R: Threads + Wait + Clock + Sync, P: RunObserver + Sync, W: Write, E: Write>(
     rt: &R,
     alloc: Global,

@@ -1,4 +1,4 @@
--- What the core's calls answer, in the world that its memory shows.
+-- What the core's calls answer, in the state that its memory shows.
 use Rattle.std.specs.Prelude.{ℕ, nat_lt, if◌then◌else◌, Option, Some, None, Result}
 use Rattle.access_model.specs.declared.{errors.GateError.{GateError}, replies.Next.{Next, TheVariants.{Go, Wait, Done}}}
 use Rattle.cpu_words.specs.{Touches.{event_of}, Hooks.{HookAnswer}}
@@ -25,7 +25,7 @@ progress_of (Done answer) = Ended answer
 abbrev pub idle_step : Step
 idle_step = record { event = None; action = None; progress = Idle }
 
--- the one event of a phase, the action that it adds, and how the operation stands
+-- the one step of a phase, the action that it adds, and how the operation stands
 abbrev pub phase_step : World → HookAnswer → Option Phase → Step
 phase_step w hook None = idle_step
 phase_step w hook (Some phase) = record {
@@ -38,7 +38,7 @@ phase_step w hook (Some phase) = record {
 abbrev pub step_answer : Config → World → ℕ → HookAnswer → Step
 step_answer c w t hook = if nat_lt t c.tasks then phase_step w hook (w.views t).phase else idle_step
 
--- the hook whose answer the next event of an operation under way reads; an idle task has no next event
+-- the hook whose answer the next step of an operation under way reads; an idle task has no next step
 abbrev pub asked_by : Option Phase → Option HookKind
 asked_by None = None
 asked_by (Some phase) = hook_of phase

@@ -1,4 +1,4 @@
-//! What moves the gates of a schedule.
+//! What moves the gates of an execution.
 
 use crate::steps::Step;
 use access_model::GateError;
@@ -7,7 +7,7 @@ use freeze_levels::HookKind;
 use gate_world::{Config, Op};
 use std::alloc::Global;
 
-/// The gates of a schedule, with all their tasks: the core, which has them on plain words, or those that threads use, driven by one of them.
+/// The gates of an execution, with all their tasks: the core, which has them on plain words, or those that threads use, driven by one of them.
 pub trait Driver: Drop {
     ghost use Rattle.std.specs.Prelude.{◌≡◌, ℕ, true, Bool, Option, Some, Err, IfOk, IfErr, OnOk};
     ghost use Rattle.access_model.specs.declared.errors.GateError.TheVariants.{Invalid, NoMemory};
@@ -20,10 +20,10 @@ pub trait Driver: Drop {
     ghost use Rattle.gate_world.specs.declared.config.Config.{Config as ConfigType};
     ghost use Rattle.cpu_words.specs.declared.names.WordName.{WordName as Name};
 
-    /// Whether it is known which world they show once they are made.
+    /// Whether it is known which state they show once they are made.
     ghost is_known: { Bool };
 
-    /// They are of this configuration and show this world.
+    /// They are of this configuration and show this state.
     ghost shows: { Self → ConfigType → World → Type 0 };
 
     /// Their own value of a word; None where the configuration has no such word.
@@ -42,7 +42,7 @@ pub trait Driver: Drop {
         ensures answer { (c : ConfigType) (w : World) → shows self.old c w → result ≡ begin_answer c w task op }
         ensures shows { (c : ConfigType) (w : World) → shows self.old c w → shows self.new c (happens c w (Begins task op)) };
 
-    /// Does the next event of a task's operation, where a hook of the file system answers this; none of an idle task.
+    /// Does the next step of a task's operation, where a hook of the file system answers this; none of an idle task.
     fn step(&mut self, task: u8, hook: Result<(), u16>) -> Step
         ensures answer { (c : ConfigType) (w : World) → shows self.old c w → result ≡ step_answer c w task hook }
         ensures shows { (c : ConfigType) (w : World) → shows self.old c w → shows self.new c (happens c w (Steps task hook)) };
@@ -55,7 +55,7 @@ pub trait Driver: Drop {
     fn word(&self, name: WordName) -> Option<u64>
         ensures { result ≡ word_of self.now name };
 
-    /// What they answer of a word is its value in the world which they show.
+    /// What they answer of a word is its value in the state which they show.
     ghost tells: { (driver : Self) (c : ConfigType) (w : World) (name : Name) → shows driver c w → IsWord (extents_of c) name →
         word_of driver name ≡ Some (read w.words name) };
 }

@@ -1,4 +1,4 @@
-//! The laws of all operations: each event of each phase keeps the rule, and moves the shown model by its action or not at all; a frozen tree
+//! The laws of all operations: each step of each phase keeps the invariant, and moves the shown state by its action or not at all; a frozen tree
 //! is whole; and who comes to a reply, who is blocked, and by what (`deadlocks`). It has no code: its functions state laws.
 
 pub mod deadlocks;
@@ -14,7 +14,7 @@ ghost use Rattle.gate_world.specs.Rules.{IsGood, StepKeeps};
 ghost use Rattle.gate_world.specs.Work.{hook_of, IgnoresAnswer};
 ghost use Rattle.gate_world.specs.Worlds.{World};
 
-/// Each event of each operation keeps the rule, and moves the shown model by its action or not at all (`keeps`). A snapshot that it completes
+/// Each step of each operation keeps the invariant, and moves the shown state by its action or not at all (`keeps`). A snapshot that it completes
 /// has loaded the present tree, while all is frozen (`completes`). Does nothing: its contract is the law.
 pub fn each_event_keeps_the_rule()
     ensures keeps { (c : Config) → IsWithin c → (w : World) → IsGood c w → (t : ℕ) → t < c.tasks → (hook : HookAnswer) (phase : Phase) →
@@ -23,13 +23,13 @@ pub fn each_event_keeps_the_rule()
         (phase : Phase) → (w.views t).phase ≡ Some phase → CompletesNow c w t hook phase }
 {}
 
-/// An event that reads no hook's answer is the same whatever a hook answers, and so is what comes after it. Does nothing: its contract
+/// A step that reads no hook's answer is the same whatever a hook answers, and so is what comes after it. Does nothing: its contract
 /// is the law.
 pub fn an_event_ignores_answers_that_it_does_not_read()
     ensures { (phase : Phase) → IgnoresAnswer phase (hook_of phase) }
 {}
 
-/// Where the rule holds, a tree that is frozen is sound and clean. Does nothing: its contract is the law.
+/// Where the invariant holds, a tree that is frozen is sound and clean. Does nothing: its contract is the law.
 pub fn a_frozen_tree_is_whole()
     ensures { (c : Config) → IsWithin c → (w : World) → IsGood c w → FrozenTreeIsWhole c w }
 {}

@@ -14,13 +14,13 @@ pub enum Progress {
     Idle,
     /// The operation goes on.
     Going,
-    /// The event was done, and found that the task has to look or try again.
+    /// The step was done, and found that the task has to look or try again.
     Waiting,
     /// The operation has ended with this.
     Done(Result<Reply, GateError>),
 }
 
-/// One step: the event, which is None only for an idle task, the action that the event added, and how the operation stands.
+/// What a step was: its `event`, which is None only for an idle task, the action that it added, and how the operation stands.
 #[derive(Clone, Copy)]
 pub struct Step {
     pub event: Option<Event>,

@@ -1,4 +1,4 @@
-//! The laws of the calls at the tree behind the gates, over its words and the roles of tasks: what each event keeps, which action it is, and
+//! The laws of the calls at the tree behind the gates, over its words and the roles of tasks: what each step keeps, which action it is, and
 //! what justifies a refusal. It has no code: its functions state laws.
 
 ghost use Rattle.std.specs.Prelude.{◌≡◌, ℕ, ◌<◌, Bool};
@@ -28,8 +28,8 @@ ghost use Rattle.gated_tree.specs.Roles.{AreWithin, Bounds, Role, TreeHolds};
 ghost use Rattle.gate_schedules.specs.trees.Ends.{CreateEnds, CreateKnows, GrowEnds, GrowKnows, MarkEnds, MoveEnds, MoveKnows, OpenEnds, Passed, RemoveEnds, RemoveKnows, SeesMore, SnapshotEnds, SnapshotKnows};
 ghost use Rattle.gate_schedules.specs.trees.Steps.{TreeAllowsStep, Notes, StepKeeps, found_at, tree_in};
 
-/// Each event of each call at the tree, among all words, keeps what holds of the tree. Where it adds an action, the shown tree allows that
-/// and moves by just its effect; else the shown tree stays. The word of the event is there. Does nothing: its contract is the law.
+/// Each step of each call at the tree, among all words, keeps what holds of the tree. Where it adds an action, the shown tree allows that
+/// and moves by just its effect; else the shown tree stays. The word of the step is there. Does nothing: its contract is the law.
 pub fn each_call_keeps_the_tree()
     ensures events { (c : Bounds) → AreWithin c → (sealed bare : ℕ) (w : Words) (at : ℕ → Role) → TreeHolds c (tree_in sealed bare w at) →
         (t : ℕ) → t < c.tasks → (phase : TreePhase) (values noted : ℕ → ℕ) (hook : HookAnswer) → at t ≡ phase_role values phase →
@@ -40,8 +40,8 @@ pub fn each_call_keeps_the_tree()
         at t ≡ phase_role values phase → TreePhaseFits c t phase → IsWord e (next phase hook).0 }
 {}
 
-/// What the events of a call have found is known from each event to the next, by any account of which tests they passed. So a call that is
-/// done has added its action and no other, one that is refused has added none, and the refusal has its cause among the events. Does
+/// What the steps of a call have found is known from each step to the next, by any account of which tests they passed. So a call that is
+/// done has added its action and no other, one that is refused has added none, and the refusal has its cause among the steps. Does
 /// nothing: its contract is the law.
 pub fn each_call_ends_honestly()
     ensures create { (seen more : (WordEvent → Bool) → Bool) (x : Create) (step : CreateStep) (value : ℕ) →

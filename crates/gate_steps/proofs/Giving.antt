@@ -39,7 +39,7 @@ times-without_other m n (x ∷ xs) ne =
     (λ no. ap (λ b. times m (cond b (without n xs) (x ∷ without n xs))) (ne_eqb x.number n no) ∙
     ap (λ (k : ℕ). one_if (eqb x.number m) + k) r)
 
--- the entry stands in the list, and is another number's
+-- the transition stands in the list, and is another number's
 abbrev IsAmongOthers : DealtNumbers → ℕ → Numbered → Type 0
 IsAmongOthers l n y = (j : ℕ) × (get_elem? l j ≡ some y) × (y.number ≢ n)
 
@@ -126,7 +126,7 @@ module _ (tasks : ℕ) (views : ℕ → View) (seats : List DealtNumbers) (dealt
               (at_snoc (set seats id (x ∷ without n xs)) (numbered n w ∷ []) m j e);
         }
 
--- the world in which a number's view is renewed
+-- the state in which a number's view is renewed
 abbrev renewed_at : World → ℕ → World
 renewed_at w n = record { words = w.words; views = update w.views n (renewed (w.views n)) }
 
@@ -139,7 +139,7 @@ renewed_knows ws p trace knows o = grind arith
 renewed_role : (p : Option Phase) (trace : List Traced) → tree_role_of (trace_kept p trace) p ≡ tree_role_of trace p
 renewed_role p trace = grind arith
 
--- each part of the rule holds of it: it reads the same of the view, but for the trace of a number that is idle
+-- each conjunct of the invariant holds of it: it reads the same of the view, but for the trace of a number that is idle
 renewed_part : (c : Config) (w : World) → IsGood c w → (n : ℕ) → n < c.tasks → (part : Part) → Holds c (renewed_at w n) part
 renewed_part c w good n lt Known = λ x lx.
     each_updated (λ y (u : View). owns u.phase ≡ 1 → KnowsWords w.words u.trace) w.views n (renewed (w.views n)) x
@@ -161,7 +161,7 @@ renewed_part c w good n lt Sections = left_alone c w n lt Sections w.words (rene
 renewed_part c w good n lt (AtMount m) =
     left_alone c w n lt (AtMount m) w.words (renewed (w.views n)) (refl, refl, refl, refl) refl (good (AtMount m))
 
--- so the rule does
+-- so the invariant does
 renewed_good : (c : Config) (w : World) → IsGood c w → (n : ℕ) → n < c.tasks → IsGood c (renewed_at w n)
 renewed_good c w good n lt = renewed_part c w good n lt
 
@@ -181,7 +181,7 @@ renewed_history c w n lt h =
       came.1,
     )
 
--- and has had the same events
+-- and has had the same steps
 renewed_events : (w : World) (n t : ℕ) → ((renewed_at w n).views t).events ≡ (w.views t).events
 renewed_events w n t = each_updated (λ y (u : View). u.events ≡ (w.views y).events) w.views n (renewed (w.views n)) t refl (λ ne. refl)
 

@@ -16,7 +16,7 @@ none_append : (n : ℕ) (a b : List Entry) → NoneOf n a → NoneOf n b → Non
 none_append n [] b na nb = nb
 none_append n (x ∷ a) b na nb = (na.0, none_append n a b na.1 nb)
 
--- the entries that an event adds
+-- the transitions that a step adds
 abbrev added_by : ℕ → Option Op → HookAnswer → List Entry
 added_by t None hook = Steps t hook ∷ []
 added_by t (Some op) hook = Begins t op ∷ (Steps t hook ∷ [])
@@ -28,7 +28,7 @@ added_is t begins hook past = grind (arith, common_steps)
 none_added : (t n : ℕ) → (t ≡ n → ⊥) → (begins : Option Op) (hook : HookAnswer) → NoneOf n (added_by t begins hook)
 none_added t n ne begins hook = grind arith
 
--- what a seat has seen, it has seen still after an event of a number that it has not
+-- what a seat has seen, it has seen still after a step of a number that it has not
 pub seen_on : (past more now : List Entry) → now ≡ past ++ more → (items : DealtNumbers) (seen : List (List Entry)) →
     ((n : ℕ) → 1 ≤ times n items → NoneOf n more) → HaveSeen past items seen → HaveSeen now items seen
 seen_on past more now is items seen others have = grind (arith, common_steps, append_assoc, none_append)
@@ -44,7 +44,7 @@ seen_now now items = record {
   rested = λ n here. record { place = 0; earlier = now; there = refl; since = []; is = sym (append-nil now); none = tt };
 }
 
--- After an event of the first number of a seat, all that each seat has seen then
+-- After a step of the first number of a seat, all that each seat has seen then
 pub seen_all : (tasks : ℕ) (views : ℕ → View) (seats : List Knowledge) (dealt : Dealt tasks views (map items_of seats)) (id : ℕ) (x : Numbered)
     (xs : DealtNumbers) (seen : List (List Entry)) (at : get_elem? seats id ≡ some (knows (x ∷ xs) seen)) (begins : Option Op)
     (hook : HookAnswer) (past now : List Entry) → now ≡ then_steps x.number hook (then_begins x.number begins past) →

@@ -66,7 +66,7 @@ divides c id v mine others seen is s held there_is =
           (at_snoc (set s.views id (knows mine seen)) (knows others seen) k j e);
     }
 
--- a seat that looks at the table: its numbers stand in the world that the table shows
+-- a seat that looks at the table: its numbers stand in the state that the table shows
 pub looks : (c : Config) (slots id : ℕ) (items : DealtNumbers) (seen : List (List Entry)) (carried : Carried) (i : ℕ) →
     Allows (holds c) slots id (knows items seen, carried) i (λ n. n) (λ n after. looked c (knows items seen, carried) after)
 looks c slots id items seen carried i s held len there_is small =

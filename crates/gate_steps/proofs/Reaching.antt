@@ -1,4 +1,4 @@
--- What some schedule makes of the opening, a table's world is again after each beginning, event and gift of a number.
+-- What some schedule makes of the opening, a table's state is again after each beginning, step and gift of a number.
 use Rattle.std.proofs.{Common.{arith, ◌≡◌, ℕ, ◌<◌, [], ◌∷◌, ◌++◌, refl, sym, ap, ◌∙◌, subst}, lemmas.Bool.{lt-ltb}}
 use Rattle.std.specs.Prelude.{is_some, false, Option, Some, None, List}
 use Rattle.finite_sums.specs.Sums.{update}
@@ -19,7 +19,7 @@ like_update : (f g : ℕ → View) (t : ℕ) (v u : View) → IsLike v u → ((x
     IsLike (update f t v x) (update g t u x)
 like_update f g t v u like each x = grind arith
 
--- the opening is reached by no entry
+-- the opening is reached by no transition
 pub opening_reached : (c : Config) → (r : IsReached c [] opening) × (r.entries ≡ [])
 opening_reached c = (
   record {
@@ -32,13 +32,13 @@ opening_reached c = (
   refl,
 )
 
--- the actions of a schedule with one entry more
+-- the actions of a schedule with one transition more
 history_more : (c : Config) (w : World) (earlier : List Done) (es : List Entry) (e : Entry) →
     history c w earlier (es ++ e ∷ []) ≡ with_action (task_of e) (action_of c (run c w es) e) (history c w earlier es)
 history_more c w earlier [] e = refl
 history_more c w earlier (x ∷ es) e = history_more c (happens c w x) (with_action (task_of x) (action_of c w x) earlier) es e
 
--- a well-formed schedule with one entry more
+-- a well-formed schedule with one transition more
 formed_more : (c : Config) (w : World) (es : List Entry) (e : Entry) → IsWellFormed c w es → BeginsIdle (run c w es) e →
     IsWellFormed c w (es ++ e ∷ [])
 formed_more c w [] e formed idle = (idle, tt)
@@ -57,7 +57,7 @@ no_operation : (op : Op) (v u : View) → u.op ≡ None → u.op ≡ Some op →
 no_operation op v u none is = absurd (let no : ⊥ = cc in no)
 
 module _ (c : Config) (log : List Done) (w : World) (reached : IsReached c log w) where
-  -- the world of the schedule so far
+  -- the state of the schedule so far
   abbrev there : World
   there = run c opening reached.entries
 
@@ -109,12 +109,12 @@ module _ (c : Config) (log : List Done) (w : World) (reached : IsReached c log w
           refl,
         )
 
-    -- an event of a task adds there what it adds here
+    -- a step of a task adds there what it adds here
     acts_there : (phase : Phase) (hook : HookAnswer) → (w.views t).phase ≡ Some phase →
         action_of c there (Steps t hook) ≡ phase_action w hook (Some phase)
     acts_there phase hook at = grind arith
 
-    -- and with the next event of a task
+    -- and with the next step of a task
     pub stepped_reached : (others : List (ℕ × ℕ)) (phase : Phase) (hook : HookAnswer) → (w.views t).phase ≡ Some phase →
         (now : IsReached c (with_action t (phase_action w hook (Some phase)) log) (after_step_with_others others w t phase hook)) ×
         (now.entries ≡ then_steps t hook reached.entries)

@@ -1,4 +1,4 @@
--- No event stores into the word of a node or a sync word, so what it finds there is what the word held.
+-- No step stores into the word of a node or a sync word, so what it finds there is what the word held.
 use Rattle.std.proofs.Common.{arith, ℕ}
 use Rattle.gate_world.specs.{traces.TraceStates.{ReadIsValid}, declared.work.Phase.{Phase}, Work.{next_of}}
 use Rattle.cpu_words.specs.{Touches.{found_by}}

@@ -1,4 +1,4 @@
--- The laws of one event and of a beginning as what a step on the table asks.
+-- The laws of one step and of a beginning as what the table's atomic step asks.
 use Rattle.std.proofs.Common.{◌≡◌, ℕ, suc, length, ◌<◌, List, [], ◌∷◌, set, sym, refl, ap, ◌∙◌, subst, length-set, arith, map}
 use Rattle.std.proofs.lemmas.List.{map-set}
 use Rattle.std.specs.Prelude.{is_some, Option, Some, None, slice_index}
@@ -45,7 +45,7 @@ have_done views log lists (x ∷ xs) mine = (
   have_done views log lists xs (λ k. mine (suc k)),
 )
 
--- the world with which an event of a task begins: the task may just have begun its operation
+-- the state with which a step of a task begins: the task may just have begun its operation
 record Entered (c : Config) (w : World) (t : ℕ) (begins : Option Op) (phase : Phase) (v : View) (log : List Done) : Type 0 where
   good : IsGood c (world_entered c w t begins)
   shows : shown c (world_entered c w t begins) ≡ shown c w
@@ -89,12 +89,12 @@ enter c lim w good x lt h mine (Some op) phase may =
       others = λ y ne. update_off w.views t v y ne;
     }
 
--- a view that has just had an event has had one
+-- a view that has just had a step has had one
 touched : (others : List (ℕ × ℕ)) (u v : View) (phase : Phase) (n : ℕ) (hook : HookAnswer) → u ≡ view_after_with_others others v phase n hook →
     u.events ≡ [] → ⊥
 touched others u v phase n hook is none = grind arith
 
--- Whatever the event, the laws of the machine are what the step asks
+-- Whatever the step, the laws of the machine are what the table's step asks
 pub step_simulates : (c : Config) (slots id : ℕ) (items : DealtNumbers) (seen : List (List Entry)) (carried : Carried) (begins : Option Op) (phase : Phase) (hook : HookAnswer) →
     OwnNumberMayStep c begins phase items →
     Allows (holds c) slots id (knows items seen, carried) (table_index (place (next_of phase hook).0)) (left (next_of phase hook).1)

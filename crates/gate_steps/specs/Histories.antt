@@ -1,4 +1,4 @@
--- The one history of a world, and the schedule that makes it.
+-- The one history of a state, and the schedule that makes it.
 use Rattle.std.specs.Prelude.{◌≡◌, ℕ, Option, Some, None, List, [], ◌∷◌, ◌++◌}
 use Rattle.access_model.specs.Histories.{Done, end_of, IsLegal, IsMerge}
 use Rattle.cpu_words.specs.Hooks.{HookAnswer}
@@ -19,13 +19,13 @@ abbrev pub BeginsIdle : World → Entry → Type 0
 BeginsIdle w (Begins t op) = (w.views t).phase ≡ None
 BeginsIdle w (Steps t hook) = Unit {0}
 
--- so each number has one operation after the other in this schedule, which goes on from this world
+-- so each number has one operation after the other in this schedule, which goes on from this state
 abbrev pub IsWellFormed : Config → World → List Entry → Type 0
 IsWellFormed c w [] = Unit {0}
 IsWellFormed c w (e ∷ es) = BeginsIdle w e × IsWellFormed c (happens c w e) es
 
--- The world is what some well-formed schedule makes of the opening: all its words, and of each number the phase, the actions and the events, and the
--- operation with its trace. (A number that was given to a new task has no operation of its own yet.) The actions that the schedule's events
+-- The state is what some well-formed schedule makes of the opening: all its words, and of each number the phase, the actions and the steps, and the
+-- operation with its trace. (A number that was given to a new task has no operation of its own yet.) The actions that the schedule's steps
 -- have added are the log.
 pub record IsReached (c : Config) (log : List Done) (w : World) : Type 0 where
   pub entries : List Entry
@@ -34,8 +34,8 @@ pub record IsReached (c : Config) (log : List Done) (w : World) : Type 0 where
   pub made : history c opening [] entries ≡ log
   pub formed : IsWellFormed c opening entries
 
--- one history: a legal log of actions, whose end is the shown model, of which each number's own list is its part, in which each
--- number's last snapshot has its moment, and which are the actions of some schedule that makes of the opening this world
+-- one history: an allowed trace of actions, whose end is the shown state, of which each number's own list is its part, in which each
+-- number's last snapshot has its moment, and which are the actions of some schedule that makes of the opening this state
 pub record HasHistory (c : Config) (w : World) : Type 0 where
   pub log : List Done
   pub legal : IsLegal (model_limits c) log
@@ -49,6 +49,6 @@ abbrev pub then_begins : ℕ → Option Op → List Entry → List Entry
 then_begins t None entries = entries
 then_begins t (Some op) entries = entries ++ Begins t op ∷ []
 
--- and with an event
+-- and with a step
 abbrev pub then_steps : ℕ → HookAnswer → List Entry → List Entry
 then_steps t hook entries = entries ++ Steps t hook ∷ []

@@ -4,7 +4,7 @@ use Rattle.gate_world.specs.declared.{config.Config.{Config}, entries.Entry.{Ent
 use Rattle.gate_steps.specs.declared.seating.Knowledge.{Knowledge}
 use Rattle.gate_steps.specs.Seating.{DealtNumbers, HaveHistory, HaveSeen, times}
 
--- These numbers stand in one world. The execution that leads to it goes on from each that was seen, and is what is seen from now on. Each of
+-- These numbers stand in one state. The execution that leads to it goes on from each that was seen, and is what is seen from now on. Each of
 -- these numbers is a task's, and is here once.
 pub record StandsNow (c : Config) (items : DealtNumbers) (seen now : List (List Entry)) : Type 0 where
   pub all : HaveHistory c items now

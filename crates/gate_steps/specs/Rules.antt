@@ -1,4 +1,4 @@
--- The rule of the table.
+-- The invariant of the table.
 use Rattle.std.specs.Prelude.{◌≡◌, ℕ, ◌*◌, ◌<◌, List, [], ◌∷◌, map, length}
 use mathlib.Core.Option.{some}
 use lib.ListN.{get_elem?}
@@ -20,11 +20,11 @@ table_length = table_index words_in_all
 abbrev pub TableShows : Config → List ℕ → Words → Type 0
 TableShows c ws words = ListShows table_index (extents_kept c) ws words
 
--- no number of a task has had an event
+-- no number of a task has had a step
 abbrev pub IsUntouched : Config → (ℕ → View) → Type 0
 IsUntouched c views = (t : ℕ) → t < c.tasks → (views t).events ≡ []
 
--- The rule of words and views holds of the world, which the table shows. Until the first event all words are as they begin.
+-- The invariant of words and views holds of the state, which the table shows. Until the first step all words are as they begin.
 pub record Ruled (c : Config) (ws : List ℕ) (w : World) : Type 0 where
   pub within : IsWithin c
   pub long : length ws ≡ table_length
@@ -32,7 +32,7 @@ pub record Ruled (c : Config) (ws : List ℕ) (w : World) : Type 0 where
   pub good : IsGood c w
   pub opens : IsUntouched c w.views → w.words ≡ opening_words
 
--- the rule of the table
+-- the invariant of the table
 pub record TableInvariantHolds (c : Config) (ws : List ℕ) (seats : List Knowledge) : Type 0 where
   pub world : World
   pub ruled : Ruled c ws world

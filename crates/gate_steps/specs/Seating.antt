@@ -29,7 +29,7 @@ knows items seen = record { items = items; seen = seen }
 abbrev pub items_of : Knowledge → DealtNumbers
 items_of k = k.items
 
--- none of these entries is of that number
+-- none of these transitions is of that number
 abbrev pub NoneOf : ℕ → List Entry → Type 0
 NoneOf n [] = Unit {0}
 NoneOf n (e ∷ es) = (task_of e ≡ n → ⊥) × NoneOf n es
@@ -38,7 +38,7 @@ NoneOf n (e ∷ es) = (task_of e ≡ n → ⊥) × NoneOf n es
 abbrev pub IsPrefix : List Entry → List Entry → Type 0
 IsPrefix earlier now = (since : List Entry) × (now ≡ earlier ++ since)
 
--- since one of those seen no entry is of that number
+-- since one of those seen no transition is of that number
 pub record HasRested (n : ℕ) (seen : List (List Entry)) (now : List Entry) : Type 0 where
   pub place : ℕ
   pub earlier : List Entry
@@ -66,7 +66,7 @@ pub record HaveSeen (now : List Entry) (items : DealtNumbers) (seen : List (List
   pub goes_on : (k : ℕ) (earlier : List Entry) → get_elem? seen k ≡ some earlier → IsPrefix earlier now
   pub rested : (n : ℕ) → 1 ≤ times n items → HasRested n seen now
 
--- some world that the rule holds of, with one history, in which the numbers of a seat have these views
+-- some state that the invariant holds of, with one history, in which the numbers of a seat have these views
 pub record HaveHistory (c : Config) (items : DealtNumbers) (seen : List (List Entry)) : Type 0 where
   pub within : IsWithin c
   pub world : World
@@ -81,7 +81,7 @@ pub record Dealt (tasks : ℕ) (views : ℕ → View) (seats : List DealtNumbers
   pub no_other : (n : ℕ) → tasks ≤ n → times_all n seats ≡ 0
   pub same : (id : ℕ) (items : DealtNumbers) → get_elem? seats id ≡ some items → HaveViews views items
 
--- a number with this view may do the event of this phase: it is at the phase, or the phase is the first of an operation that it
+-- a number with this view may do the step of this phase: it is at the phase, or the phase is the first of an operation that it
 -- may begin
 abbrev pub NumberMayStep : Config → Option Op → Phase → Numbered → Type 0
 NumberMayStep c None phase x = x.view.phase ≡ Some phase
@@ -92,12 +92,12 @@ abbrev pub OwnNumberMayStep : Config → Option Op → Phase → DealtNumbers �
 OwnNumberMayStep c begins phase [] = ⊥
 OwnNumberMayStep c begins phase (x ∷ xs) = NumberMayStep c begins phase x
 
--- the view with which the event begins
+-- the view with which the step begins
 abbrev pub entered : View → Option Op → Phase → View
 entered v None phase = v
 entered v (Some op) phase = begun_view v op phase
 
--- and the world
+-- and the state
 abbrev pub world_entered : Config → World → ℕ → Option Op → World
 world_entered c w t None = w
 world_entered c w t (Some op) = after_begin c w t op
@@ -107,21 +107,21 @@ abbrev pub done_by : DealtNumbers → List (ℕ × ℕ)
 done_by [] = []
 done_by (x ∷ xs) = (x.number, length x.view.actions) ∷ done_by xs
 
--- what the seat knows after the event, which found this
+-- what the seat knows after the step, which found this
 abbrev pub items_after : Option Op → Phase → HookAnswer → ℕ → DealtNumbers → DealtNumbers
 items_after begins phase hook found [] = []
 items_after begins phase hook found (x ∷ xs) =
     numbered x.number (view_after_with_others (done_by xs) (entered x.view begins phase) phase found hook) ∷ xs
 
--- the world that the event leaves, of a seat that has these other numbers to give
+-- the state that the step leaves, of a seat that has these other numbers to give
 abbrev pub world_left : Config → World → Option Op → Phase → HookAnswer → ℕ → DealtNumbers → World
 world_left c w begins phase hook n others = after_step_with_others (done_by others) (world_entered c w n begins) n phase hook
 
--- The event happened in some world that the rule holds of, with one history, in which the seat's numbers have their views, and the seat's own
+-- The step happened in some state that the invariant holds of, with one history, in which the seat's numbers have their views, and the seat's own
 -- number may do it. What it left
--- is such a world too, in which they have the views that the seat knows then. It moves the shown model by its action, and its history is
+-- is such a state too, in which they have the views that the seat knows then. It moves the shown state by its action, and its history is
 -- the one before with this action. What it found is what its word may hold. Its schedule is the one before with the beginning, where the
--- operation has just begun, and with this event: between the two it makes the world in which the event happened.
+-- operation has just begun, and with this step: between the two it makes the state in which the step happened.
 pub record StepWitness (c : Config) (begins : Option Op) (phase : Phase) (hook : HookAnswer) (x : Numbered) (xs : DealtNumbers)
     (n : ℕ) (seen left_seen : List (List Entry)) : Type 0 where
   pub within : IsWithin c
@@ -151,8 +151,8 @@ abbrev pub HasWitness : Config → Option Op → Phase → HookAnswer → DealtN
 HasWitness c begins phase hook [] found seen left = ⊥
 HasWitness c begins phase hook (x ∷ xs) found seen left = StepWitness c begins phase hook x xs found seen left
 
--- what the one play says: the seat's own view is what the event makes of it, nothing else of the seat changed, and it was an event
--- in a world that the rule holds of
+-- what the one play says: the seat's own view is what the step makes of it, nothing else of the seat changed, and it was a step
+-- in a state that the invariant holds of
 abbrev pub happened : Config → Option Op → Phase → HookAnswer → Knowledge × List (ℕ × Unit {0}) → ℕ → Knowledge × List (ℕ × Unit {0}) → Type 0
 happened c begins phase hook me found after = (after.0.items ≡ items_after begins phase hook found me.0.items) × (after.1 ≡ me.1) ×
     HasWitness c begins phase hook me.0.items found me.0.seen after.0.seen

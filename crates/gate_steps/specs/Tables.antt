@@ -4,7 +4,7 @@ use Rattle.gate_world.specs.{declared.config.Config.{Config}, Worlds.{World}}
 use Rattle.gate_steps.specs.{Histories.{HasHistory}, Seating.{HaveViews, HaveSeen, times}, declared.seating.Knowledge.{Knowledge}}
 use Rattle.gate_steps.specs.Rules.{Ruled}
 
--- The words are those of some world that the rule holds of, with one history, and the schedule that makes it, and in which the numbers of
+-- The words are those of some state that the invariant holds of, with one history, and the schedule that makes it, and in which the numbers of
 -- the seat are tasks with these views.
 pub record IsClosing (c : Config) (ws : List ℕ) (k : Knowledge) : Type 0 where
   pub world : World

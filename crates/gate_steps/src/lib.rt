@@ -1,4 +1,4 @@
-//! The words in one table of atomic words, under the rule of words and views: each event is one atomic step, whichever thread
+//! The words in one table of atomic words, under the invariant of words and views: each step is one atomic step, whichever thread
 //! takes it. On it what a call does apart from its task (`call_events`).
 #![tactic(auto)]
 

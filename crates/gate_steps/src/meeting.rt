@@ -29,7 +29,7 @@ fn divide_as<J: Divided>(
     shared.split_seat::<Divides<J>>(seat)
 }
 
-/// Looks at the table: the seat's numbers stand in the world of that moment, which it has seen from then on. One load, of any word: what it
+/// Looks at the table: the seat's numbers stand in the state of that moment, which it has seen from then on. One load, of any word: what it
 /// finds is dropped.
 fn look_as<J: StepInputs>(
     shared: &Shared<(), Knowledge, Config, TableInvariant>,
@@ -87,7 +87,7 @@ fn meet_as<J: Divided>(
     *two = back;
 }
 
-/// Lets two seats meet: the numbers of both stand in one world, which goes on from all that either had seen. Both have seen it from then
+/// Lets two seats meet: the numbers of both stand in one state, which goes on from all that either had seen. Both have seen it from then
 /// on. Nothing else of them changes. Four loads.
 pub fn meet(
     shared: &Shared<(), Knowledge, Config, TableInvariant>,

@@ -5,7 +5,7 @@ use atomic_table::{Join, Play, Split, TableRule};
 use gate_world::Config;
 use std::marker::{Brand, PhantomData};
 
-/// The rule of the table: the rule of words and views, one history, and numbers that are dealt.
+/// The invariant of the table: the invariant of words and views, one history, and numbers that are dealt.
 pub struct TableInvariant;
 
 impl TableRule<(), Knowledge, Config> for TableInvariant {
@@ -16,7 +16,7 @@ impl TableRule<(), Knowledge, Config> for TableInvariant {
     ghost first = { first_known };
 }
 
-/// The config of the table, the operation that begins with an event, the phase that the event is of, and the hook's answer that
+/// The config of the table, the operation that begins with a step, the phase that the step is of, and the hook's answer that
 /// it reads. Each call picks them.
 pub trait StepInputs {
     ghost use Rattle.std.specs.Prelude.{Option};
@@ -48,7 +48,7 @@ impl StepInputs for Brand {
     ghost hook = { Ok tt };
 }
 
-/// The step is the event of these inputs.
+/// The step is the step of these inputs.
 pub struct StepPlay<J> {
     of: PhantomData<J>,
 }
@@ -95,7 +95,7 @@ impl Join<Knowledge> for TakesBack {
     ghost spent = { knows [] [] };
 }
 
-/// A load that is no task's step. It tells its seat the world of that moment, under the config of these inputs.
+/// A load that is no task's step. It tells its seat the state of that moment, under the config of these inputs.
 pub struct LookPlay<J> {
     of: PhantomData<J>,
 }

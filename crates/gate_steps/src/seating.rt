@@ -9,7 +9,7 @@ pub struct Numbered {
     pub view: View,
 }
 
-/// What a seat knows: its numbers, and schedules that it has seen, each from the first entry to some moment. No value of it is ever made.
+/// What a seat knows: its numbers, and schedules that it has seen, each from the first transition to some moment. No value of it is ever made.
 pub struct Knowledge {
     pub items: LinkedList<Numbered>,
     pub seen: LinkedList<LinkedList<Entry>>,

@@ -1,4 +1,4 @@
-//! Each event of a phase as one atomic step, and numbers that go from seat to seat.
+//! Each step of a phase as one atomic step, and numbers that go from seat to seat.
 
 ghost use Rattle.std.specs.Prelude.{◌≡◌, ◌<◌, []};
 ghost use Rattle.cpu_words.specs.Names.{place, words_in_all};
@@ -23,7 +23,7 @@ pub fn index_of(word: WordName) -> usize
     STRIDE * word.place()
 }
 
-/// The event of that moment, which is known to touch this word so. What it found; of a store, what it wrote.
+/// The step of that moment, which is known to touch this word so. What it found; of a store, what it wrote.
 #[inline(always)]
 fn touch_at<J: StepInputs, P: PendingOp>(
     shared: &Shared<(), Knowledge, Config, TableInvariant>,
@@ -69,7 +69,7 @@ fn touch_at<J: StepInputs, P: PendingOp>(
     }
 }
 
-/// The next event of the seat's own number, which is known to touch this word so, in one atomic step. What it found; of a store, what it
+/// The next step of the seat's own number, which is known to touch this word so, in one atomic step. What it found; of a store, what it
 /// wrote.
 #[inline(always)]
 pub fn touch<P: PendingOp>(
@@ -96,8 +96,8 @@ pub fn touch<P: PendingOp>(
     touch_at::<Brand, P>(shared, seat, begins, under_way, hook, word, touch)
 }
 
-/// The next event of the seat's own number, in one atomic step. An operation that has begun stands in `begins` until its first
-/// event, and None stands there from then on.
+/// The next step of the seat's own number, in one atomic step. An operation that has begun stands in `begins` until its first
+/// step, and None stands there from then on.
 #[inline(always)]
 pub fn event<P: PendingOp>(
     shared: &Shared<(), Knowledge, Config, TableInvariant>,

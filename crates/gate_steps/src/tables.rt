@@ -43,7 +43,7 @@ pub fn open(alloc: Global, config: &Config) -> Result<(GateTable, Seat<(), Knowl
     Table::of_words(alloc, &words, config)
 }
 
-/// The words of a table that no thread shares any more. They are those of some world that the rule holds of, in which the
+/// The words of a table that no thread shares any more. They are those of some state that the invariant holds of, in which the
 /// numbers of the seat have their views.
 pub fn close(table: GateTable, seat: Seat<(), Knowledge>) -> Closed
     requires { seat.table_id ≡ table.shared.table_id }

@@ -1,4 +1,4 @@
-//! The events of an operation under way: the word that each touches and how, and what comes after it.
+//! The steps of an operation under way: the word that each touches and how, and what comes after it.
 
 ghost use Rattle.std.specs.Prelude.{◌≡◌};
 ghost use Rattle.gate_world.specs.Work.{next_of, after_of};
@@ -23,11 +23,11 @@ pub trait PendingOp: Copy {
     /// The phase that it stands for.
     ghost as_phase: { Self → PhaseType };
 
-    /// The same as a phase.
+    /// Returns the phase that it stands for.
     fn phase(self) -> Phase
         ensures { result ≡ as_phase self };
 
-    /// The word and the touch of the next event, where a hook answers this: what each operation does of its own, with no look at others.
+    /// The word and the touch of the next step, where a hook answers this: what each operation does of its own, with no look at others.
     #[inline(always)]
     fn next(self, hook: Result<(), u16>) -> (WordName, Touch)
         ensures { result ≡ next_of (as_phase self) hook }
@@ -35,12 +35,12 @@ pub trait PendingOp: Copy {
         next_event(&self.phase(), hook)
     }
 
-    /// What comes after the event, which found this, and the action that it adds.
+    /// What comes after the step, which found this, and the action that it adds.
     fn after(self, found: u64, hook: Result<(), u16>) -> (Next<Self>, Option<Action>)
         ensures { (map_next as_phase result.0, result.1) ≡ after_of (as_phase self) found hook };
 }
 
-/// The word and the touch of a phase's next event, where a hook answers this.
+/// The word and the touch of a phase's next step, where a hook answers this.
 #[inline(always)]
 pub fn next_event(phase: &Phase, hook: Result<(), u16>) -> (WordName, Touch)
     ensures { result ≡ next_of phase.now hook }
@@ -59,7 +59,7 @@ pub fn next_event(phase: &Phase, hook: Result<(), u16>) -> (WordName, Touch)
     }
 }
 
-/// What comes after the event, which found this, and the action that it adds.
+/// What comes after the step, which found this, and the action that it adds.
 #[inline(always)]
 pub fn after_event(phase: Phase, found: u64, hook: Result<(), u16>) -> (Next<Phase>, Option<Action>)
     ensures { result ≡ after_of phase found hook }

@@ -1,4 +1,4 @@
--- Beginnings: where an operation starts, and why it can't. A beginning has no event.
+-- Beginnings: where an operation starts, and why it can't. A beginning has no step.
 use Rattle.std.specs.Prelude.{ℕ, Bool, if◌then◌else◌, Option, Some, None, is_some, Result, Ok, Err}
 use Rattle.access_model.specs.declared.errors.GateError.{GateError, TheVariants.{Invalid, Order, TooMany}}
 use Rattle.gate_world.specs.{Holdings.Holdings, Operations.row, Views.held_of}

@@ -1,4 +1,4 @@
--- The headline: what holds of every schedule.
+-- The theorem: what holds of every execution.
 use Rattle.std.specs.Prelude.{◌≡◌, ℕ, ◌%◌, ◌<◌, ◌≤◌, ◌==◌, ◌⊎◌, Bool, true, false, if◌then◌else◌, Option, Some, None, Err, List, [], ◌+◌}
 use Rattle.finite_sums.specs.Sums.{total}
 use Rattle.access_model.specs.{Histories.{Done, end_of, IsLegal, IsMerge}, Laws.{NobodyHoldsClosed, NeverLeaves, IsFrozenStill}, Holders.held_by, States.{is_removed, one_if}}
@@ -19,21 +19,21 @@ use Rattle.gate_world.specs.declared.entries.Entry.{Entry}
 use Rattle.gate_world.specs.declared.{config.Config.Config, operations.Op.Op, views.{Traced.Traced, View.View}}
 use Rattle.gate_world.specs.declared.work.Phase.{Phase, TheVariants.{Freezes, Thaws, Trees}}
 
--- the world after a schedule, and the actions that its events added, the newest first
+-- the state after an execution, and the actions that its steps added, the newest first
 abbrev pub world_after : Config → List Entry → World
 world_after c entries = run c opening entries
 
--- the actions that a schedule has added, the newest first
+-- the actions that an execution has added, the newest first
 abbrev pub actions_so_far : Config → List Entry → List Done
 actions_so_far c entries = history c opening [] entries
 
--- after any schedule, whatever entry comes next: an event that adds an action adds one that is allowed in the shown model, whose
--- effect gives the new shown model; every other entry leaves it as it was
+-- after any execution, whatever transition comes next: a step that adds an action adds one that is allowed in the shown state, whose
+-- effect gives the new shown state; every other transition leaves it as it was
 abbrev pub MovesTheModel : Config → List Entry → Entry → Type 0
 MovesTheModel c entries e = Moves c (shown c (world_after c entries)) (task_of e) (action_of c (world_after c entries) e)
     (shown c (happens c (world_after c entries) e))
 
--- the actions so far are a legal history, whose end is the shown model, of which each task's own list is its part, and in which each last
+-- the actions so far are an allowed trace, whose end is the shown state, of which each task's own list is its part, and in which each last
 -- snapshot has its moment
 pub record IsOneRun (c : Config) (entries : List Entry) : Type 0 where
   pub legal : IsLegal (model_limits c) (actions_so_far c entries)
@@ -48,7 +48,7 @@ pub record SumsHold (c : Config) (w : World) : Type 0 where
   pub levels : (i : ℕ) → 1 ≤ i → i ≤ 3 → total c.processors (w.words.level i) % 18446744073709551616 ≡ total c.tasks
       (λ t. counted_of (level_as_gate (at_level i (w.views t))))
 
--- an access at a level that is held, or that a reader on the fast path is granted by its next event
+-- an access at a level that is held, or that a reader on the fast path is granted by its next step
 abbrev pub admitted_at : ℕ → View → ℕ
 admitted_at i v = (at_level i v).held + fast (sync_role_of i v.phase)
 
@@ -87,11 +87,11 @@ TreeIsClean c w = IsClean c.nodes (shown c w).tree
 abbrev pub FrozenTreeIsWhole : Config → World → Type 0
 FrozenTreeIsWhole c w = w.words.stage ≡ 4 → TreeIsSound c w × TreeIsClean c w
 
--- the actions that entries add which come after a schedule, the newest first
+-- the actions that transitions add which come after an execution, the newest first
 abbrev pub actions_since : Config → List Entry → List Entry → List Done
 actions_since c entries more = history c (world_after c entries) [] more
 
--- From a world in which the shown model has this holder hold a freeze on, whatever entries come, until it leaves: all stays frozen for it, with the
+-- From a state that shows that this holder holds a freeze on, whatever transitions come, until it leaves: all stays frozen for it, with the
 -- same levels closed and the same tree, each node with its kind, its parent, its size and its marks. Which files are open may change.
 abbrev pub FrozenTreeStays : Config → List Entry → List Entry → Type 0
 FrozenTreeStays c entries more =
@@ -106,13 +106,13 @@ SnapshotsStand c w = (t : ℕ) (x : Snapshot) (words : ℕ) → t < c.tasks → 
     ((i : ℕ) → i < words → seen_as c.nodes i (values_noted x.nodes (w.views t).trace i) ≡
     seen_as c.nodes i (tree_word c.nodes w.words.used w.words.node w.words.kids i))
 
--- the event stores that nobody holds a freeze
+-- the step stores that nobody holds a freeze
 abbrev pub stores_nobody : WordName → Touch → Bool
 stores_nobody Holders (Store value) = value == 0
 stores_nobody word touch = false
 
 -- A freeze that has just stored stage 4, and not yet its holder, or a thaw that has just stored that nobody holds a freeze, and not yet
--- stage 0: these are two events, one right after the other.
+-- stage 0: these are two steps, one right after the other.
 abbrev pub is_between : Option Phase → List Traced → Bool
 is_between (Some (Freezes x)) trace = newest (λ e. stores_stage 4 e.word e.touch) trace
 is_between (Some (Thaws x)) trace = newest (λ e. stores_nobody e.word e.touch) trace
@@ -128,7 +128,7 @@ pub record HoldersAreTold (c : Config) (w : World) : Type 0 where
   pub held_where_frozen : (w.words.holders ≡ 0 → ⊥) → (w.words.stage ≡ 4) × NobodyIsBetween c w
   -- where all is frozen, and nobody is between two stores, some freeze is held
   pub frozen_where_held : w.words.stage ≡ 4 → NobodyIsBetween c w → w.words.holders ≡ 0 → ⊥
-  -- the word says who holds one in the shown model, and no more
+  -- the word says who holds one in the shown state, and no more
   pub as_shown : w.words.holders ≡ word_of (shown c w).holders
   -- the owner of `umount` has the word as it last found or left it, up to its release
   pub as_found : (t : ℕ) → t < c.tasks → owns (w.views t).phase ≡ 1 → (value : ℕ) → last_left Holders (w.views t).trace ≡ Some value →
@@ -189,7 +189,7 @@ NobodyIsInside c w = NobodyHoldsClosed (model_limits c) (shown c w)
 
 -- What a task's last operation, or the one under way, has done, by its own trace alone: an operation that replied has added exactly
 -- its stated actions, a refusal has its cause in the trace, and waiting is reported only where it may be; after a refusal the task
--- holds what it held when the operation began; and where the operation waits for nobody, its events are few.
+-- holds what it held when the operation began; and where the operation waits for nobody, its steps are few.
 pub record OperationTells (c : Config) (t : ℕ) (v : View) (op : Op) : Type 0 where
   pub tells : Tells c op v.trace (state_of_trace c t op v.trace).comes (state_of_trace c t op v.trace).added
   pub refused : (refusal : GateError) → (state_of_trace c t op v.trace).comes ≡ Ended (Err refusal) → HoldsAsBefore v
@@ -200,7 +200,7 @@ abbrev pub ViewTells : Config → ℕ → View → Option Op → Type 0
 ViewTells c t v None = Unit {0}
 ViewTells c t v (Some op) = OperationTells c t v op
 
--- each task's trace follows the order of events of its operation, and tells the rest
+-- each task's trace follows the order of steps of its operation, and tells the rest
 pub record OperationsAreKept (c : Config) (entries : List Entry) (t : ℕ) : Type 0 where
   pub traced : IsTraced c t ((world_after c entries).views t) ((world_after c entries).views t).op
   pub tells : ViewTells c t ((world_after c entries).views t) ((world_after c entries).views t).op

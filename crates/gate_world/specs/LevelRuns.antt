@@ -1,4 +1,4 @@
--- A freeze level of a world as the laws of a level have it, and what a schedule makes of it, moment by moment.
+-- A freeze level of a state as the laws of a level have it, and what an execution makes of it, moment by moment.
 use Rattle.std.specs.Prelude.{◌≡◌, ℕ, suc, ◌<◌, ◌≤◌, Some, List, length, take}
 use Rattle.percpu_rwsem.specs.{Graces.started, declared.sync_word.GpState.TheVariants.{Idle, Exit}}
 use Rattle.freeze_laws.specs.levels.{Changes.state_found, Events.{SyncLevel, SyncRun}, Laws.{NoneFast, WholeGrace}}
@@ -6,7 +6,7 @@ use Rattle.freeze_laws.specs.levels.Roles.{Out, Waiting, Past, Claimed, Ready, e
 use Rattle.gate_world.specs.{Levels.{sync_role_of, inside, is_frozen_whole}, Worlds.{World, run, opening}, declared.config.Config.Config}
 use Rattle.gate_world.specs.declared.entries.Entry.{Entry}
 
--- one level of a world
+-- one level of a state
 abbrev pub level_in : World → ℕ → SyncLevel
 level_in w i = record {
   sync = w.words.sync i;
@@ -17,16 +17,16 @@ level_in w i = record {
   at = λ x. sync_role_of i (w.views x).phase;
 }
 
--- the level after the first entries of a schedule, so many of them
+-- the level after the first transitions of an execution, so many of them
 abbrev pub level_after : Config → List Entry → ℕ → ℕ → SyncLevel
 level_after c entries i k = level_in (run c opening (take k entries)) i
 
--- What a schedule makes of a level is a run of it, at whose beginning everybody is out.
+-- What an execution makes of a level is a run of it, at whose beginning everybody is out.
 pub record IsLevelRun (c : Config) (entries : List Entry) (i : ℕ) : Type 0 where
   pub steps : SyncRun c.tasks (length entries) (level_after c entries i)
   pub begins : (t : ℕ) → t < c.tasks → (level_after c entries i 0).at t ≡ Out
 
--- The grace periods of a level along a schedule.
+-- The grace periods of a level along an execution.
 pub record GracesAreKept (c : Config) (entries : List Entry) (i : ℕ) : Type 0 where
   -- a writer that is past its grace period had a whole one: each section that was under way when it entered has ended since
   pub whole : (k t : ℕ) → k ≤ length entries → t < c.tasks → (level_after c entries i k).at t ≡ Past →

@@ -10,22 +10,22 @@ use Rattle.composite_ops.specs.declared.{write_access.phases.WritePhase.{WritePh
 use Rattle.gate_world.specs.Roles.{freeze_position, read_level_role, read_sync_role, position_count, position_sync, sync_role_if, thaw_position}
 use Rattle.gate_world.specs.{Views.holds_level, declared.{views.View.View, work.Phase.Phase}}
 
--- net additions are what was added to a level's count word less what was taken away: each is a sum over the events
+-- net additions are what was added to a level's count word less what was taken away: each is a sum over the steps
 abbrev pub level_added_after : WordName → Touch → (ℕ → ℕ → ℕ) → ℕ → ℕ → ℕ
 level_added_after (LevelCount i p) (Add n) added = update added i (update (added i) p (added i p + n))
 level_added_after word touch added = added
 
--- what was taken away after one event more
+-- what was taken away after one step more
 abbrev pub level_taken_after : WordName → Touch → (ℕ → ℕ → ℕ) → ℕ → ℕ → ℕ
 level_taken_after (LevelCount i p) (Sub n) taken = update taken i (update (taken i) p (taken i p + n))
 level_taken_after word touch taken = taken
 
--- what these events added to each count word of the levels
+-- what these steps added to each count word of the levels
 abbrev pub level_added_by : List Event → ℕ → ℕ → ℕ
 level_added_by [] = λ i p. 0
 level_added_by (e ∷ earlier) = level_added_after e.word e.touch (level_added_by earlier)
 
--- what these events took from each
+-- what these steps took from each
 abbrev pub level_taken_by : List Event → ℕ → ℕ → ℕ
 level_taken_by [] = λ i p. 0
 level_taken_by (e ∷ earlier) = level_taken_after e.word e.touch (level_taken_by earlier)

@@ -33,7 +33,7 @@ pub record IsPresentTree (c : Config) (words : Words) (loaded : TreeWords) : Typ
   pub nodes : (n : ℕ) → n < c.nodes → node_shown (words.node n) ≡ node_at loaded n
   pub kids : (n : ℕ) → n < c.nodes → words.kids n ≡ slice_index loaded.kids n
 
--- where the next event of a phase completes a snapshot, it is of the present tree
+-- where the next step of a phase completes a snapshot, it is of the present tree
 abbrev pub CompletesNow : Config → World → ℕ → HookAnswer → Phase → Type 0
 CompletesNow c w t hook phase =
     (loaded : TreeWords) → completes phase (w.views t).trace (found_at w.words phase hook) ≡ Some loaded → IsPresentTree c w.words loaded

@@ -1,4 +1,4 @@
--- Two rows for each operation: where it begins, and what is claimed of it. What it does are its events.
+-- Two rows for each operation: where it begins, and what is claimed of it. What it does are its steps.
 use Rattle.std.specs.Prelude.{◌≡◌, ◌≢◌, ◌⊎◌, ℕ, zero, suc, ◌+◌, ◌*◌, ◌<◌, Bool, true, false, not, ◌&&◌, ◌||◌, nat_lt, if◌then◌else◌}
 use Rattle.std.specs.Prelude.{Option, Some, None, Result, Ok, Err, List, [], ◌∷◌, ◌++◌}
 use Rattle.access_model.specs.declared.actions.{Kind.{Kind}, Action.{Action}}
@@ -250,7 +250,7 @@ row (SnapshotOp wait) = record {
 
 -- what is claimed of an operation
 pub record OpClaims : Type 1 where
-  -- the most events, where it waits for nobody
+  -- the most steps, where it waits for nobody
   pub most_events : Config → Option ℕ
   -- what it has added, by its answer and what its trace found
   pub actions : Result Reply GateError → List Traced → List Action
@@ -258,7 +258,7 @@ pub record OpClaims : Type 1 where
   pub IsHonest : Config → GateError → List Traced → Type 0
   -- a reply says what the trace found
   pub ReplyMatchesTrace : Reply → List Traced → Type 0
-  -- it may report that it waits after these events
+  -- it may report that it waits after these steps
   pub MayWait : Config → List Traced → Type 0
 
 -- actions of an operation that adds nothing where it is refused
@@ -304,7 +304,7 @@ refusing_word true = Remount
 refusing_word false = Umount
 
 -- a remount is refused as busy where it found a stage other than 0, or a removed file, or the counts of one mount with a sum other than 0, and by the file
--- system where that answered so at the event that its answer decides
+-- system where that answered so at the step that its answer decides
 abbrev remount_honest : Config → Bool → GateError → List Traced → Type 0
 remount_honest c read_only Busy trace =
     (found_frozen trace ≡ true) ⊎ ((found_removed trace ≡ true) ⊎ ((m : ℕ) × (m < c.mounts) × FoundBusy c m trace))
@@ -327,7 +327,7 @@ write_honest m ReadOnly trace = found_read_only m trace ≡ true
 write_honest m refusal trace = ⊥
 
 -- A callback ran where it has made two transitions, its claim and its own; where it says that none did, it has made none, and its newest
--- event found none queued.
+-- step found none queued.
 abbrev callback_told : ℕ → Reply → List Traced → Type 0
 callback_told i (Ran true) trace = transitions_made i trace ≡ 2
 callback_told i (Ran false) trace = (transitions_made i trace ≡ 0) × (newest (finds_none_queued i) trace ≡ true)
@@ -431,7 +431,7 @@ abbrev close_honest : ℕ → Bool → GateError → List Traced → Type 0
 close_honest file wait Again trace = SeenIn trace finds_other ⊎ ((wait ≡ false) × (found_closed 3 trace ≡ true))
 close_honest file wait refusal trace = ⊥
 
--- where a snapshot doesn't wait, it has a most number of events
+-- where a snapshot doesn't wait, it has a most number of steps
 abbrev pub snapshot_most : Bool → ℕ → Option ℕ
 snapshot_most true nodes = None
 snapshot_most false nodes = Some (2 * nodes + 4)

@@ -27,17 +27,17 @@ abbrev pub is_lock : WordName → Bool
 is_lock Umount = true
 is_lock word = false
 
--- the event takes `umount`, which it found free
+-- the step takes `umount`, which it found free
 abbrev pub takes_lock : Event → Bool
 takes_lock e = is_lock e.word && (is_cas e.touch && (e.found == 0))
 
--- what the newest event on this word found or left in it, since `umount` was taken last
+-- what the newest step on this word found or left in it, since `umount` was taken last
 abbrev pub last_left : WordName → List Traced → Option ℕ
 last_left word [] = None
 last_left word (e ∷ earlier) =
     if takes_lock e.event then None else
     (if is_owned_word word e.event.word then Some e.event.left else last_left word earlier)
 
--- each such word is still as the newest event on it found or left it
+-- each such word is still as the newest step on it found or left it
 abbrev pub KnowsWords : Words → List Traced → Type 0
 KnowsWords words trace = (word : WordName) (value : ℕ) → last_left word trace ≡ Some value → read words word ≡ value

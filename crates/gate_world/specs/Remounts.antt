@@ -1,4 +1,4 @@
--- A remount between two of its events: what it does at each mount, what it owns and has set, and what its numbers are.
+-- A remount between two of its steps: what it does at each mount, what it owns and has set, and what its numbers are.
 use Rattle.std.specs.Prelude.{◌≡◌, ℕ, ◌<◌, ◌≤◌, ◌==◌, nat_lt, Bool, true, false}
 use Rattle.cpu_words.specs.declared.sums.Sum.{Sum}
 use Rattle.mount_counts.specs.{Roles.{Role, Out, Summing, Empty, Leaving, Skipped}, Sets.has_mount}

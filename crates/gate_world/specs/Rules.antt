@@ -1,4 +1,4 @@
--- The rule: what holds of words and views between any two events. One predicate for each mount, one for the owner's words.
+-- The invariant: what holds of words and views between any two steps. One predicate for each mount, one for the owner's words.
 use Rattle.access_model.specs.{Actions.{IsAllowed, after_action}, States.{State, openers}, declared.actions.Action.Action}
 use Rattle.cpu_words.specs.{Hooks.{HookAnswer}, Words.{Words}, gate_counts.Levels.{LevelHolds}}
 use Rattle.finite_sums.specs.Sums.{total}
@@ -81,7 +81,7 @@ pub record OwnerHolds (tasks umount remount : ℕ) (phases : ℕ → Option Phas
 abbrev pub ViewFits : Config → ℕ → View → Type 0
 ViewFits c t v = Fits c t (held_of v) v.phase
 
--- The parts of the rule, each one predicate.
+-- The conjuncts of the invariant, each one predicate.
 pub data Part : Type 0 where
   -- `umount`, `remount` and who has them
   Owner : Part
@@ -106,12 +106,12 @@ pub data Part : Type 0 where
   -- the read-side sections
   Sections : Part
 
--- what the part of one mount says of a world that has the mount
+-- what the part of one mount says of a state that has the mount
 abbrev pub MountHoldsIn : Config → World → ℕ → Type 0
 MountHoldsIn c w m =
     MountHolds c.tasks c.processors (w.words.flags m) w.words.remount w.words.sb (w.words.count m) (λ t. at_mount m (w.views t))
 
--- what the counts of one level say of a world
+-- what the counts of one level say of a state
 abbrev pub LevelHoldsIn : Config → World → ℕ → Type 0
 LevelHoldsIn c w i =
     LevelHolds c.tasks c.processors (w.words.block i) (is_frozen_whole w.words) (w.words.level i) (λ t. at_level i (w.views t))
@@ -131,7 +131,7 @@ pub record FilesHold (c : Config) (node : ℕ → ℕ) (opens : ℕ → ℕ → 
   pub counted : (n : ℕ) → n < c.nodes → opens_in (node n) ≡ openers opens n
   pub own : (t : ℕ) → t < c.tasks → HasFile (opens t) (file t)
 
--- what a part says of a world
+-- what a part says of a state
 abbrev pub Holds : Config → World → Part → Type 0
 Holds c w Owner = OwnerHolds c.tasks w.words.umount w.words.remount (λ t. (w.views t).phase)
 Holds c w Stages = StagesHold c.tasks w.words.stage w.words.sb w.words.remount w.words.block (stage_roles w)
@@ -178,11 +178,11 @@ SameView old new (AtLevel i) = at_level i new ≡ at_level i old
 SameView old new (SyncAt i) = sync_role_of i new.phase ≡ sync_role_of i old.phase
 SameView old new Sections = inside new.phase ≡ inside old.phase
 
--- the rule: each part
+-- the invariant: each conjunct
 abbrev pub IsGood : Config → World → Type 0
 IsGood c w = (part : Part) → Holds c w part
 
--- the parts that an event of want, drop or change may touch
+-- the parts that a step of want, drop or change may touch
 abbrev pub at_gates : Part → Bool
 at_gates Owner = true
 at_gates Fitting = true
@@ -193,18 +193,18 @@ at_gates part = false
 abbrev pub GatesHold : Config → World → Type 0
 GatesHold c w = (part : Part) → at_gates part ≡ true → Holds c w part
 
--- an event that adds an action adds one that is allowed in the shown model, whose effect gives the new one; any other event leaves
--- the shown model as it was
+-- a step that adds an action adds one that is allowed in the shown state, whose effect gives the new one; any other step leaves
+-- the shown state as it was
 abbrev pub Moves : Config → State → ℕ → Option Action → State → Type 0
 Moves c old t None new = new ≡ old
 Moves c old t (Some a) new = IsAllowed (model_limits c) old t a × (new ≡ after_action old t a)
 
--- the law of one event: the rule holds after it, and it moves the shown model by its action
+-- the law of one step: the invariant holds after it, and it moves the shown state by its action
 abbrev pub StepKeeps : Config → World → ℕ → HookAnswer → Phase → Type 0
 StepKeeps c w t hook phase =
     IsGood c (after_step w t phase hook) × Moves c (shown c w) t (phase_action w hook (Some phase)) (shown c (after_step w t phase hook))
 
--- the law of one event of want, drop or change: the parts that it may touch, and the shown model
+-- the law of one step of want, drop or change: the parts that it may touch, and the shown state
 abbrev pub GateStepKeeps : Config → World → ℕ → HookAnswer → Phase → Type 0
 GateStepKeeps c w t hook phase =
     GatesHold c (after_step w t phase hook) × Moves c (shown c w) t (phase_action w hook (Some phase)) (shown c (after_step w t phase hook))

@@ -1,5 +1,5 @@
--- Phases that stand for one another: all that the rule reads of the one it reads of the other. So an operation that goes through the
--- phases of another, as a part of its own, needs no second proof of its events.
+-- Phases that stand for one another: all that the invariant reads of the one it reads of the other. So an operation that goes through the
+-- phases of another, as a part of its own, needs no second proof of its steps.
 use Rattle.std.specs.Prelude.{◌≡◌, ℕ, Bool, Option, None, List}
 use Rattle.finite_sums.specs.Sums.{update}
 use Rattle.cpu_words.specs.gate_counts.Levels.{LevelRole}
@@ -10,7 +10,7 @@ use Rattle.freeze_levels.specs.holder_laws.Roles.{HolderRole}
 use Rattle.gate_world.specs.{Fits.file_of, Levels.{inside, level_role_of, sync_role_of}, Rules.{holder_role_of, owns, remounts, role_of, stage_role_of}}
 use Rattle.gate_world.specs.{Trees.tree_role_of, Worlds.World, declared.{views.{Traced.Traced, View.View}, work.Phase.Phase}}
 
--- all that the rule and the shown model read of what a task is at
+-- all that the invariant and the shown state read of what a task is at
 pub record Roles : Type 0 where
   -- what it is doing at each mount
   pub mount : ℕ → Role
@@ -24,7 +24,7 @@ pub record Roles : Type 0 where
   pub stage : StageRole
   -- with those who hold a freeze
   pub holder : HolderRole
-  -- and at the tree, after these events of its operation
+  -- and at the tree, after these steps of its operation
   pub tree : List Traced → TreeRole
   -- 1 between the lock of `umount` and its release
   pub owns : ℕ
@@ -52,7 +52,7 @@ roles_of p = record {
 abbrev pub no_roles : Roles
 no_roles = roles_of None
 
--- all that the rule and the shown model read of a phase, but for the accesses that it asks for, is the same of both
+-- all that the invariant and the shown state read of a phase, but for the accesses that it asks for, is the same of both
 abbrev pub SameRoles : Option Phase → Option Phase → Type 0
 SameRoles p q = roles_of q ≡ roles_of p
 
@@ -68,6 +68,6 @@ SameRolesOffTree p q = off_tree (roles_of q) ≡ off_tree (roles_of p)
 abbrev pub at_phase : View → Option Phase → View
 at_phase v q = record v { phase = q }
 
--- the world in which a task stands at this phase
+-- the state in which a task stands at this phase
 abbrev pub rephased : World → ℕ → Option Phase → World
 rephased w t q = record { words = w.words; views = update w.views t (at_phase (w.views t) q) }

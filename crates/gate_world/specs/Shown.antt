@@ -1,4 +1,4 @@
--- The shown model: what words and views show of the access model.
+-- The shown state: what words and views show of the access model.
 use Rattle.std.specs.Prelude.{ℕ, ◌+◌, ◌&&◌, ◌||◌, ◌==◌, if◌then◌else◌, Option, Some}
 use Rattle.access_model.specs.States.{State}
 use Rattle.node_words.specs.Nodes.{node_shown}

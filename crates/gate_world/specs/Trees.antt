@@ -1,4 +1,4 @@
--- The tree of a world: its words, and what each task is doing at them.
+-- The tree of a state: its words, and what each task is doing at them.
 use Rattle.std.specs.Prelude.{ℕ, Option, Some, List}
 use Rattle.cpu_words.specs.Words.{Words}
 use Rattle.gated_tree.specs.{Calls.phase_role, Roles.{Role, Out, Bounds, TreeState, sealed_by, bare_by}}
@@ -17,7 +17,7 @@ is_sealed w = sealed_by w.sb w.stage
 abbrev pub is_bare_at : Words → ℕ
 is_bare_at w = bare_by w.remount w.sb
 
--- what a task is doing at the tree, which after these events of its operation is at this phase
+-- what a task is doing at the tree, which after these steps of its operation is at this phase
 abbrev pub tree_role_of : List Traced → Option Phase → Role
 tree_role_of trace (Some (Phase.Remounts x)) = remount_tree_role x.nodes x.step
 tree_role_of trace (Some (Phase.Freezes x)) = freeze_tree_role x.nodes x.step
@@ -29,7 +29,7 @@ tree_role_of trace p = Out
 abbrev pub tree_roles : World → ℕ → Role
 tree_roles w t = tree_role_of (w.views t).trace (w.views t).phase
 
--- the tree of a world
+-- the tree of a state
 abbrev pub tree_of : World → TreeState
 tree_of w = record {
   sealed = is_sealed w.words;

@@ -1,4 +1,4 @@
--- What is known of one task number, and what its next event makes of it.
+-- What is known of one task number, and what its next step makes of it.
 use Rattle.std.specs.Prelude.{◌≡◌, ℕ, ◌+◌, Bool, Option, Some, None, List, [], ◌∷◌}
 use Rattle.finite_sums.specs.Sums.{update}
 use Rattle.access_model.specs.{Histories.{mounts_of, levels_of, opens_of}, declared.{actions.Action.Action, replies.Next.{Next, TheVariants.{Go, Wait, Done}}}}
@@ -27,27 +27,27 @@ holds_level v = levels_of v.actions
 abbrev pub has_open : View → ℕ → Bool
 has_open v = opens_of v.actions
 
--- net additions are what was added to a mount's count word less what was taken away: each is a sum over the events
+-- net additions are what was added to a mount's count word less what was taken away: each is a sum over the steps
 abbrev pub added_after : WordName → Touch → (ℕ → ℕ → ℕ) → ℕ → ℕ → ℕ
 added_after (MountCount m p) (Add n) added = update added m (update (added m) p (added m p + n))
 added_after word touch added = added
 
--- what was taken away after one event more
+-- what was taken away after one step more
 abbrev pub taken_after : WordName → Touch → (ℕ → ℕ → ℕ) → ℕ → ℕ → ℕ
 taken_after (MountCount m p) (Sub n) taken = update taken m (update (taken m) p (taken m p + n))
 taken_after word touch taken = taken
 
--- what these events added to each count word
+-- what these steps added to each count word
 abbrev pub added_by : List Event → ℕ → ℕ → ℕ
 added_by [] = λ m p. 0
 added_by (e ∷ earlier) = added_after e.word e.touch (added_by earlier)
 
--- what these events took from each count word
+-- what these steps took from each count word
 abbrev pub taken_by : List Event → ℕ → ℕ → ℕ
 taken_by [] = λ m p. 0
 taken_by (e ∷ earlier) = taken_after e.word e.touch (taken_by earlier)
 
--- where the operation stands after an event
+-- where the operation stands after a step
 abbrev pub phase_after : Next Phase → Option Phase
 phase_after (Go phase) = Some phase
 phase_after (Wait phase) = Some phase
@@ -58,11 +58,11 @@ abbrev pub actions_after : Option Action → List Action → List Action
 actions_after None actions = actions
 actions_after (Some a) actions = a ∷ actions
 
--- an event with the hook's answer that it read
+-- a step with the hook's answer that it read
 abbrev pub with_hook : Event → HookAnswer → Traced
 with_hook e hook = record { event = e; hook = hook }
 
--- the view after an event of this word and touch, which found this value in the word and after which this comes
+-- the view after a step of this word and touch, which found this value in the word and after which this comes
 abbrev pub view_with : View → WordName × Touch → ℕ → HookAnswer → Next Phase × Option Action → View
 view_with v next value hook after = record {
   op = v.op;
@@ -74,8 +74,8 @@ view_with v next value hook after = record {
   snapshot = v.snapshot;
 }
 
--- the view after the next event of a phase, on a word that held this value, where each other number of its task has done so many
--- actions: a snapshot that the event completes notes them
+-- the view after the next step of a phase, on a word that held this value, where each other number of its task has done so many
+-- actions: a snapshot that the step completes notes them
 abbrev pub view_after_with_others : List (ℕ × ℕ) → View → Phase → ℕ → HookAnswer → View
 view_after_with_others others v phase value hook =
     record (view_with v (next_of phase hook) value hook (after_of phase (found_by (next_of phase hook).1 value) hook)) {

@@ -14,7 +14,7 @@ use Rattle.composite_ops.specs.file_closes.Phases.{next as close_next, after as 
 use Rattle.gate_world.specs.Roles.{remount_hook}
 use Rattle.gate_world.specs.declared.work.Phase.{Phase, TheVariants.{Mounts, Remounts, DownReads, UpReads, Callbacks, Writes, Freezes, Thaws, Trees, Closes}}
 
--- the word and the touch of the next event
+-- the word and the touch of the next step
 abbrev pub next_of : Phase → HookAnswer → WordName × Touch
 next_of (Mounts phase) hook = next phase hook
 next_of (Remounts x) hook = remount_next x x.step hook
@@ -27,7 +27,7 @@ next_of (Thaws x) hook = thaw_next x x.step hook
 next_of (Trees phase) hook = tree_next phase hook
 next_of (Closes phase) hook = close_next phase
 
--- what comes after the event that found this value, and the action that the event adds
+-- what comes after the step that found this value, and the action that the step adds
 abbrev pub after_of : Phase → ℕ → HookAnswer → Next Phase × Option Action
 after_of (Mounts phase) found hook = (map_next Mounts (after phase found hook).0, (after phase found hook).1)
 after_of (Remounts x) found hook = (map_next Remounts (remount_after x x.step found hook).0, (remount_after x x.step found hook).1)
@@ -48,14 +48,14 @@ inner_phase (GivesBack m p refusal) = UpReads (leaves_on p)
 inner_phase (Drops m p) = Mounts (PlainDrop m p)
 inner_phase (Ends p) = UpReads (leaves_on p)
 
--- the hook whose answer the next event reads: any other event is the same whatever a hook answers
+-- the hook whose answer the next step reads: any other step is the same whatever a hook answers
 abbrev pub hook_of : Phase → Option HookKind
 hook_of (Remounts x) = remount_hook x.step
 hook_of (Freezes x) = freeze_hook x.step
 hook_of (Thaws x) = thaw_hook x.step
 hook_of phase = None
 
--- where no hook's answer is read, the next event is the same for any two answers, and so is what comes after it
+-- where no hook's answer is read, the next step is the same for any two answers, and so is what comes after it
 abbrev pub IgnoresAnswer : Phase → Option HookKind → Type 0
 IgnoresAnswer phase hook = hook ≡ None → (a b : HookAnswer) (found : ℕ) →
     (next_of phase a ≡ next_of phase b) × (after_of phase found a ≡ after_of phase found b)

@@ -1,4 +1,4 @@
--- The world, which is the words and one view per task number, and what an entry of a schedule does to it.
+-- A state, which is the words and one view per task number, and what a transition does to it.
 use Rattle.std.specs.Prelude.{ℕ, nat_lt, if◌then◌else◌, Option, Some, None, List, [], ◌∷◌}
 use Rattle.finite_sums.specs.Sums.{update}
 use Rattle.access_model.specs.{Histories.Done, declared.{actions.Action.Action, errors.GateError.{GateError, TheVariants.Invalid}}}
@@ -16,30 +16,30 @@ pub record World : Type 0 where
 abbrev pub begin_refusal : Config → World → ℕ → Op → Option GateError
 begin_refusal c w t op = if nat_lt t c.tasks then view_refusal c (w.views t) op else Some Invalid
 
--- the world in which a task has begun an operation: a beginning changes no word
+-- the state in which a task has begun an operation: a beginning changes no word
 abbrev pub after_begin : Config → World → ℕ → Op → World
 after_begin c w t op = record { words = w.words; views = update w.views t (begun_view (w.views t) op (first_phase c t op)) }
 
--- the words after the next event of a phase
+-- the words after the next step of a phase
 abbrev pub words_after : Words → Phase → HookAnswer → Words
 words_after w phase hook = put w (next_of phase hook).0 (left (next_of phase hook).1 (read w (next_of phase hook).0))
 
--- the value that the next event finds in its word
+-- the value that the next step finds in its word
 abbrev pub value_at : Words → Phase → HookAnswer → ℕ
 value_at w phase hook = read w (next_of phase hook).0
 
--- what the next event says that it found
+-- what the next step says that it found
 abbrev pub found_at : Words → Phase → HookAnswer → ℕ
 found_at w phase hook = found_by (next_of phase hook).1 (value_at w phase hook)
 
--- the world after the next event of a number that is at this phase, where each other number of its task has done so many actions
+-- the state after the next step of a number that is at this phase, where each other number of its task has done so many actions
 abbrev pub after_step_with_others : List (ℕ × ℕ) → World → ℕ → Phase → HookAnswer → World
 after_step_with_others others w t phase hook = record {
   words = words_after w.words phase hook;
   views = update w.views t (view_after_with_others others (w.views t) phase (value_at w.words phase hook) hook);
 }
 
--- the same of a task that has no other number, as each task of a schedule
+-- the same of a task that has no other number, as each task of an execution
 abbrev pub after_step : World → ℕ → Phase → HookAnswer → World
 after_step w t phase hook = after_step_with_others [] w t phase hook
 
@@ -48,17 +48,17 @@ abbrev pub step_of : World → ℕ → HookAnswer → Option Phase → World
 step_of w t hook None = w
 step_of w t hook (Some phase) = after_step w t phase hook
 
--- the world after a beginning, which is refused for this reason or not
+-- the state after a beginning, which is refused for this reason or not
 abbrev pub begin_of : Config → World → ℕ → Op → Option GateError → World
 begin_of c w t op None = after_begin c w t op
 begin_of c w t op (Some refused) = w
 
--- what an entry does: a refused beginning does nothing, nor does a step of a task that is idle or isn't there
+-- what a transition does: a refused beginning does nothing, nor does a step of a task that is idle or isn't there
 abbrev pub happens : Config → World → Entry → World
 happens c w (Begins t op) = begin_of c w t op (begin_refusal c w t op)
 happens c w (Steps t hook) = if nat_lt t c.tasks then step_of w t hook (w.views t).phase else w
 
--- the world after a list of entries
+-- the state after a list of transitions
 abbrev pub run : Config → World → List Entry → World
 run c w [] = w
 run c w (e ∷ es) = run c (happens c w e) es
@@ -67,17 +67,17 @@ run c w (e ∷ es) = run c (happens c w e) es
 abbrev pub opening : World
 opening = record { words = opening_words; views = λ t. opening_view }
 
--- the action that an entry adds
+-- the action that a transition adds
 abbrev pub phase_action : World → HookAnswer → Option Phase → Option Action
 phase_action w hook None = None
 phase_action w hook (Some phase) = (after_of phase (found_at w.words phase hook) hook).1
 
--- the action that an entry adds: a beginning adds none
+-- the action that a transition adds: a beginning adds none
 abbrev pub action_of : Config → World → Entry → Option Action
 action_of c w (Begins t op) = None
 action_of c w (Steps t hook) = if nat_lt t c.tasks then phase_action w hook (w.views t).phase else None
 
--- whose entry it is
+-- whose transition it is
 abbrev pub task_of : Entry → ℕ
 task_of (Begins t op) = t
 task_of (Steps t hook) = t
@@ -87,7 +87,7 @@ abbrev pub with_action : ℕ → Option Action → List Done → List Done
 with_action t None earlier = earlier
 with_action t (Some a) earlier = (t, a) ∷ earlier
 
--- the history of a schedule that goes on from this world and these earlier actions
+-- the history of an execution that goes on from this state and these earlier actions
 abbrev pub history : Config → World → List Done → List Entry → List Done
 history c w earlier [] = earlier
 history c w earlier (e ∷ es) = history c (happens c w e) (with_action (task_of e) (action_of c w e) earlier) es

@@ -1,6 +1,6 @@
-//! The world that every schedule and every table moves: the words, and one view per task number. Here stand the
-//! configuration, the operations and their beginnings, what a task holds and is at, and what one entry of a schedule does. The code of
-//! beginnings and events stands in `gate_transitions` and `gate_transitions`.
+//! The state that every execution and every table moves: the words, and one view per task number. Here stand the
+//! configuration, the operations and their beginnings, what a task holds and is at, and what one transition of an execution does. The code of
+//! beginnings and steps stands in `gate_transitions`.
 #![tactic(auto)]
 
 pub mod accesses;

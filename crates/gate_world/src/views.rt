@@ -7,7 +7,7 @@ use cpu_words::Event;
 use gated_tree::TreeWords;
 use std::collections::LinkedList;
 
-/// An event with the hook's answer that it read.
+/// A step with the hook's answer that it read.
 #[derive(Clone, Copy)]
 pub struct Traced {
     pub event: Event,
@@ -22,7 +22,7 @@ pub struct Snapshot {
 }
 
 /// What is known of one task number. Its accesses are what its actions leave, and its net additions to each count word are
-/// what its events add up to.
+/// what its steps add up to.
 pub struct View {
     /// The operation under way, or the last one.
     pub op: Option<Op>,
@@ -30,9 +30,9 @@ pub struct View {
     pub phase: Option<Phase>,
     /// Its actions, the newest first.
     pub actions: LinkedList<Action>,
-    /// Its events, the newest first.
+    /// Its steps, the newest first.
     pub events: LinkedList<Event>,
-    /// The events of the operation under way, or of the last one, the newest first.
+    /// The steps of the operation under way, or of the last one, the newest first.
     pub trace: LinkedList<Traced>,
     /// The actions that it had when that operation began, the newest first.
     pub before: LinkedList<Action>,

@@ -9,7 +9,7 @@ use gated_tree::TreePhase;
 use mount_counts::{MountPhase, Remount, RemountStep};
 use percpu_rwsem::{Callback, DownRead, UpRead};
 
-/// Where an operation under way stands, between two of its events.
+/// Where an operation under way stands, between two of its steps.
 #[derive(Clone, Copy, PartialEq, Eq)]
 pub enum Phase {
     /// A want, a drop or a change of a mount.
@@ -35,7 +35,7 @@ pub enum Phase {
 }
 
 impl Phase {
-    /// The hook whose answer the next event reads; None where that ignores the answer.
+    /// The hook whose answer the next step reads; None where that ignores the answer.
     pub fn wants_hook(&self) -> Option<HookKind>
         ensures { result ≡ hook_of self.now }
     {

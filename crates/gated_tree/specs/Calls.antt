@@ -89,7 +89,7 @@ phase_role values (OpensOne o) = open_role o o.step
 phase_role values (Snapshots s) = snapshot_role s.nodes values s.step
 phase_role values (Clears x) = Clearing x.node
 
--- the role that an event leaves, by what comes after it: none where the call has ended
+-- the role that a step leaves, by what comes after it: none where the call has ended
 abbrev pub role_after : {P : Type 0} → (P → Role) → Next P → Role
 role_after role (Go phase) = role phase
 role_after role (Wait phase) = role phase
@@ -149,7 +149,7 @@ TreePhaseFits c t (OpensOne x) = (x.file < c.nodes) × OpenStepFits x.step
 TreePhaseFits c t (Snapshots x) = (x.task ≡ t) × (x.nodes ≡ c.nodes) × SnapshotStepFits c x.step
 TreePhaseFits c t (Clears x) = (x.node < c.nodes) × (x.nodes ≡ c.nodes)
 
--- what comes after an event fits
+-- what comes after a step fits
 abbrev pub NextFits : Bounds → ℕ → Next TreePhase → Type 0
 NextFits c t (Go phase) = TreePhaseFits c t phase
 NextFits c t (Wait phase) = TreePhaseFits c t phase

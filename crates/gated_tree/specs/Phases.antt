@@ -1,4 +1,4 @@
--- The orders of events of the calls at the tree: which word an event touches and how, and what comes after it.
+-- The orders of steps of the calls at the tree: which word a step touches and how, and what comes after it.
 use Rattle.std.specs.Prelude.{ℕ, ◌+◌, ◌==◌, Bool, true, false, if◌then◌else◌, nat_lt, Option, Some, None, Ok, Err, is_some}
 use Rattle.access_model.specs.declared.actions.Action.{Action}
 use Rattle.access_model.specs.declared.actions.Action.TheVariants.{Create as CreateAction, Remove as RemoveAction, Grow as GrowAction, MoveTo as MoveToAction, Dirty, Clean, Open as OpenAction}
@@ -52,7 +52,7 @@ abbrev pub create_looked : Create → ℕ → Option NodeWord → Next Create
 create_looked c node None = Go (at_create c (LoadsNode node))
 create_looked c node (Some found) = if is_some found.kind then create_past c node else Go (at_create c (ChargesChild node))
 
--- what comes after each event of a create: it is done where it takes the node
+-- what comes after each step of a create: it is done where it takes the node
 abbrev pub create_after : Create → CreateStep → ℕ → Next Create × Option Action
 create_after c LoadsDirectory found = (
   after_look (at_create c LoadsDirectory) (λ directory. at_create c (LoadsNode 1)) (directory_in found),
@@ -85,7 +85,7 @@ at_remove r step = record r { step = step }
 abbrev pub removes_file : NodeWord → ℕ → RemoveStep
 removes_file file opens = if opens == 0 then FreesNode file else CountsRemoved file
 
--- what comes after each event of a remove
+-- what comes after each step of a remove
 abbrev pub remove_after : Remove → RemoveStep → ℕ → Next Remove × Option Action
 remove_after r LoadsFileToRemove found = (
   after_look (at_remove r LoadsFileToRemove) (λ file. at_remove r (removes_file file file.opens)) (file_in found),
@@ -125,7 +125,7 @@ grow_from g file used =
     if nat_lt g.capacity (file.size + g.blocks) then Done (Err Again) else
     Go (at_grow g (ChargesBlocks file used))
 
--- what comes after each event of a grow
+-- what comes after each step of a grow
 abbrev pub grow_after : Grow → GrowStep → ℕ → Next Grow × Option Action
 grow_after g LoadsFileToGrow found = (after_look (at_grow g LoadsFileToGrow) (λ file. at_grow g (LoadsUsed file)) (file_in found), None)
 grow_after g (LoadsUsed file) found = (grow_from g file found, None)
@@ -149,7 +149,7 @@ move_next m (RefundsOne dir answer) = (Kids dir, Sub 1)
 abbrev pub at_move : MoveTo → MoveStep → MoveTo
 at_move m step = record m { step = step }
 
--- what comes after each event of a move
+-- what comes after each step of a move
 abbrev pub move_after : MoveTo → MoveStep → ℕ → Next MoveTo × Option Action
 move_after m LoadsFileToMove found = (after_look (at_move m LoadsFileToMove) (λ file. at_move m (LoadsTarget file)) (file_in found), None)
 move_after m (LoadsTarget file) found = (
@@ -177,7 +177,7 @@ abbrev pub mark_done : Bool → ℕ → Action
 mark_done true file = Dirty file
 mark_done false file = Clean file
 
--- what comes after each event of a mark
+-- what comes after each step of a mark
 abbrev pub mark_after : Mark → MarkStep → ℕ → Next Mark × Option Action
 mark_after m LoadsFileToMark found = (after_look (at_mark m LoadsFileToMark) (λ file. at_mark m (MarksFile file)) (file_in found), None)
 mark_after m (MarksFile file) found = (
@@ -199,7 +199,7 @@ at_open o step = record o { step = step }
 abbrev pub opens_from : NodeWord → Bool → OpenStep
 opens_from file room = if room then OpensFile file else LoadsFileToOpen
 
--- what comes after each event of an open
+-- what comes after each step of an open
 abbrev pub open_after : OpenFile → OpenStep → ℕ → Next OpenFile × Option Action
 open_after o LoadsFileToOpen found = (
   after_look (at_open o LoadsFileToOpen) (λ file. at_open o (opens_from file (nat_lt file.opens 64))) (file_in found),
@@ -238,7 +238,7 @@ abbrev pub kids_step : Option ℕ → SnapshotStep
 kids_step (Some node) = LoadsKids node
 kids_step None = Releases (Ok TreeReply)
 
--- what comes after each event of a snapshot: a word that is no node's is loaded again
+-- what comes after each step of a snapshot: a word that is no node's is loaded again
 abbrev pub snapshot_after : Snapshot → SnapshotStep → ℕ → Next Snapshot × Option Action
 snapshot_after s Locks found = (if found == 0 then Go (at_snapshot s LoadsStage) else snapshot_locked_out s s.wait, None)
 snapshot_after s LoadsStage found = (
@@ -253,7 +253,7 @@ snapshot_after s (LoadsNodeWord node) found = (
 snapshot_after s (LoadsKids node) found = (Go (at_snapshot s (kids_step (node_after node s.nodes))), None)
 snapshot_after s (Releases answer) found = (Done answer, None)
 
--- the word and the touch of the next event
+-- the word and the touch of the next step
 abbrev pub next : TreePhase → HookAnswer → WordName × Touch
 next (Creates c) hook = create_next c c.step
 next (Removes r) hook = remove_next r r.step
@@ -264,7 +264,7 @@ next (OpensOne o) hook = open_next o o.step
 next (Snapshots s) hook = snapshot_next s s.step
 next (Clears x) hook = clear_next x
 
--- what comes after the event that found this value, and the action that the event adds
+-- what comes after the step that found this value, and the action that the step adds
 abbrev pub after : TreePhase → ℕ → HookAnswer → Next TreePhase × Option Action
 after (Creates c) found hook = (map_next Creates (create_after c c.step found).0, (create_after c c.step found).1)
 after (Removes r) found hook = (map_next Removes (remove_after r r.step found).0, (remove_after r r.step found).1)

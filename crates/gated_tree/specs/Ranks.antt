@@ -1,4 +1,4 @@
--- How many events of a call at the tree may still come after its next one, where its way is free and no other task does anything.
+-- How many steps of a call at the tree may still come after its next one, where its way is free and no other task does anything.
 use Rattle.std.specs.Prelude.{ℕ, ◌+◌, ◌-◌}
 use Rattle.gated_tree.specs.declared.changes.CreateStep.{CreateStep, TheVariants.{LoadsDirectory, LoadsNode, ChargesChild, TakesNode, RefundsChild}}
 use Rattle.gated_tree.specs.declared.changes.MoveStep.{MoveStep, TheVariants.{LoadsFile as LoadsFileToMove, LoadsDirectory as LoadsTarget}}

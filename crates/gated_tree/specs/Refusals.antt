@@ -1,5 +1,5 @@
--- Why a call at the tree is refused: tests of one event, and for each call what its events must have found. `Seen test` is that some
--- event of the call passed the test.
+-- Why a call at the tree is refused: tests of one step, and for each call what its steps must have found. `Seen test` is that some
+-- step of the call passed the test.
 use Rattle.std.specs.Prelude.{◌≡◌, ℕ, ◌+◌, ◌<◌, ◌≤◌, ◌==◌, ◌&&◌, ◌||◌, ◌⊎◌, not, nat_lt, Bool, true, false}
 use Rattle.access_model.specs.declared.errors.GateError.{GateError, TheVariants.{NoEntry, Again, NotDir, IsDir, Invalid, NoSpace}}
 use Rattle.cpu_words.specs.declared.{names.WordName.{WordName, TheVariants.{Umount, Stage, Used, Node}}, events.Touch.{Touch}}
@@ -7,7 +7,7 @@ use Rattle.cpu_words.specs.declared.events.{Touch.TheVariants.{Load, Cas}, Event
 use Rattle.gated_tree.specs.declared.{changes.{Create.{Create}, MoveTo.{MoveTo}}, growth.Grow.{Grow}, snapshots.Snapshot.{Snapshot}}
 use Rattle.node_words.specs.Nodes.{kind_in, removed_in, size_in}
 
--- the event loads this node
+-- the step loads this node
 abbrev pub loads_node : ℕ → WordName → Touch → Bool
 loads_node n (Node m) Load = m == n
 loads_node n word touch = false

@@ -1,4 +1,4 @@
--- The tree behind the gates: what holds of its words between any two events, and what that reads of each task's phase.
+-- The tree behind the gates: what holds of its words between any two steps, and what that reads of each task's phase.
 use Rattle.std.specs.Prelude.{◌≡◌, ℕ, zero, suc, ◌+◌, ◌-◌, ◌<◌, ◌≤◌, ◌==◌, ◌||◌, nat_lt, nat_le, if◌then◌else◌, true, false, Option, Some, None}
 use Rattle.finite_sums.specs.Sums.{total}
 use Rattle.access_model.specs.declared.actions.{Kind.TheVariants.{File}, NodeInfo.{NodeInfo}}
@@ -177,7 +177,7 @@ module _ (c : Bounds) (used removed : ℕ) (node kids : ℕ → ℕ) where
   RoleHolds Bare = removed ≡ 0
   RoleHolds _ = Unit {0}
 
--- what holds of the tree between any two events
+-- what holds of the tree between any two steps
 pub record TreeHolds (c : Bounds) (s : TreeState) : Type 0 where
   -- each node word is one that a node may have; node 0 is a directory
   pub words : (n : ℕ) → n < c.nodes → IsNode (s.node n)

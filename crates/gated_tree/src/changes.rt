@@ -10,7 +10,7 @@ use access_model::{Action, GateError, Kind, Next, Reply};
 use cpu_words::{Touch, WordName};
 use node_words::{NodeWord, following};
 
-/// What the next event of a create is.
+/// What the next step of a create is.
 #[derive(Clone, Copy, PartialEq, Eq)]
 pub enum CreateStep {
     /// Loads the directory's node.
@@ -34,7 +34,7 @@ pub struct Create {
     pub step: CreateStep,
 }
 
-/// What the next event of a remove is. `file` is the file's node as it was loaded.
+/// What the next step of a remove is. `file` is the file's node as it was loaded.
 #[derive(Clone, Copy, PartialEq, Eq)]
 pub enum RemoveStep {
     /// Loads the file's node.
@@ -61,7 +61,7 @@ pub struct Remove {
     pub step: RemoveStep,
 }
 
-/// What the next event of a move is.
+/// What the next step of a move is.
 #[derive(Clone, Copy, PartialEq, Eq)]
 pub enum MoveStep {
     /// Loads the file's node.
@@ -76,7 +76,7 @@ pub enum MoveStep {
     RefundsChild(u8, Result<Reply, GateError>),
 }
 
-/// A move of a file to a directory under way (`vfs_rename`). A move to the present parent has the same events.
+/// A move of a file to a directory under way (`vfs_rename`). A move to the present parent has the same steps.
 #[derive(Clone, Copy, PartialEq, Eq)]
 pub struct MoveTo {
     pub file: u8,
@@ -85,7 +85,7 @@ pub struct MoveTo {
 }
 
 impl Create {
-    /// A create before its first event, among so many nodes.
+    /// A create before its first step, among so many nodes.
     #[inline(always)]
     pub fn new(dir: u8, kind: Kind, nodes: u8) -> Create
         ensures { result ≡ record { dir = dir; kind = kind; nodes = nodes; step = LoadsDirectory } }
@@ -129,7 +129,7 @@ impl Create {
         }
     }
 
-    /// The same create, with this step to come.
+    /// Returns the create with this step to come.
     fn at(self, step: CreateStep) -> Next<Create>
         ensures { result ≡ Go (at_create self step) }
     {
@@ -181,7 +181,7 @@ impl Create {
 }
 
 impl Remove {
-    /// A remove before its first event.
+    /// A remove before its first step.
     #[inline(always)]
     pub fn new(file: u8) -> Remove
         ensures { result ≡ record { file = file; step = LoadsFileToRemove } }
@@ -219,7 +219,7 @@ impl Remove {
         }
     }
 
-    /// The same remove, with this step to come.
+    /// Returns the remove with this step to come.
     fn at(self, step: RemoveStep) -> Next<Remove>
         ensures { result ≡ Go (at_remove self step) }
     {
@@ -256,7 +256,7 @@ impl Remove {
 }
 
 impl MoveTo {
-    /// A move before its first event.
+    /// A move before its first step.
     #[inline(always)]
     pub fn new(file: u8, dir: u8) -> MoveTo
         ensures { result ≡ record { file = file; dir = dir; step = LoadsFileToMove } }
@@ -285,7 +285,7 @@ impl MoveTo {
         }
     }
 
-    /// The same move, with this step to come.
+    /// Returns the move with this step to come.
     fn at(self, step: MoveStep) -> Next<MoveTo>
         ensures { result ≡ Go (at_move self step) }
     {

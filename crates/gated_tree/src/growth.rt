@@ -10,7 +10,7 @@ use access_model::{Action, GateError, Next, Reply};
 use cpu_words::{Touch, WordName};
 use node_words::NodeWord;
 
-/// What the next event of a grow is. `file` is the file's node as it was loaded.
+/// What the next step of a grow is. `file` is the file's node as it was loaded.
 #[derive(Clone, Copy, PartialEq, Eq)]
 pub enum GrowStep {
     /// Loads the file's node.
@@ -36,7 +36,7 @@ pub struct Grow {
 }
 
 impl Grow {
-    /// A grow before its first event, where all files together may have so many blocks.
+    /// A grow before its first step, where all files together may have so many blocks.
     #[inline(always)]
     pub fn new(file: u8, blocks: u32, capacity: u32) -> Grow
         ensures { result ≡ record { file = file; blocks = blocks; capacity = capacity; step = LoadsFile } }
@@ -83,7 +83,7 @@ impl Grow {
         }
     }
 
-    /// The same grow, with this step to come.
+    /// Returns the grow with this step to come.
     #[inline(always)]
     fn at(self, step: GrowStep) -> Next<Grow>
         ensures { result ≡ Go (at_grow self step) }
@@ -109,7 +109,7 @@ impl Grow {
         }
     }
 
-    /// What comes after the event, which found this, and the action that the event adds.
+    /// What comes after the step, which found this, and the action that the step adds.
     #[inline(always)]
     pub fn after(self, found: u64) -> (Next<Grow>, Option<Action>)
         ensures { result ≡ grow_after self self.step found }

@@ -1,5 +1,5 @@
-//! The tree behind the gates: the orders of events of the calls that change it or take a snapshot of it, and what a snapshot loads. A phase
-//! says which event comes next, and what comes after it.
+//! The tree behind the gates: the orders of steps of the calls that change it or take a snapshot of it, and what a snapshot loads. A phase
+//! says which step comes next, and what comes after it.
 #![tactic(auto)]
 
 pub mod changes;

@@ -8,7 +8,7 @@ use access_model::{Action, GateError, Next, Reply};
 use cpu_words::{Touch, WordName};
 use node_words::NodeWord;
 
-/// What the next event of a mark is.
+/// What the next step of a mark is.
 #[derive(Clone, Copy, PartialEq, Eq)]
 pub enum MarkStep {
     /// Loads the file's node.
@@ -27,7 +27,7 @@ pub struct Mark {
 }
 
 impl Mark {
-    /// A page fault, which makes the file dirty, or a write-back, before its first event.
+    /// A page fault, which makes the file dirty, or a write-back, before its first step.
     #[inline(always)]
     pub fn new(file: u8, dirty: bool) -> Mark
         ensures { result ≡ record { file = file; dirty = dirty; step = LoadsFile } }

@@ -12,7 +12,7 @@ use node_words::NodeWord;
 /// The most tasks that may have one file open.
 const MOST_OPENS: u8 = 64;
 
-/// What the next event of an open is.
+/// What the next step of an open is.
 #[derive(Clone, Copy, PartialEq, Eq)]
 pub enum OpenStep {
     /// Loads the file's node.
@@ -39,7 +39,7 @@ fn opened(file: NodeWord) -> NodeWord
 }
 
 impl OpenFile {
-    /// An open before its first event.
+    /// An open before its first step.
     #[inline(always)]
     pub fn new(file: u8) -> OpenFile
         ensures { result ≡ record { file = file; step = LoadsFile } }

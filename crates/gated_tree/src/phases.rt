@@ -1,4 +1,4 @@
-//! The orders of events of all calls at the tree, as one.
+//! The orders of steps of all calls at the tree, as one.
 
 ghost use Rattle.std.specs.Prelude.{◌≡◌};
 ghost use Rattle.gated_tree.specs.Phases.{next, after};
@@ -12,7 +12,7 @@ use access_model::{Action, Next, map_after};
 use cpu_words::{Touch, WordName};
 use node_words::ClearMarks;
 
-/// Where a call at the tree stands between two of its events.
+/// Where a call at the tree stands between two of its steps.
 #[derive(Clone, Copy, PartialEq, Eq)]
 pub enum TreePhase {
     Create(Create),
@@ -28,7 +28,7 @@ pub enum TreePhase {
 }
 
 impl TreePhase {
-    /// The word and the touch of the next event. No event at the tree reads a hook's answer.
+    /// The word and the touch of the next step. No step at the tree reads a hook's answer.
     #[inline(always)]
     pub fn next(&self, hook: Result<(), u16>) -> (WordName, Touch)
         ensures { result ≡ next self.now hook }
@@ -46,7 +46,7 @@ impl TreePhase {
         }
     }
 
-    /// What comes after the event, which found this, and the action that the event adds.
+    /// What comes after the step, which found this, and the action that the step adds.
     pub fn after(self, found: u64, hook: Result<(), u16>) -> (Next<TreePhase>, Option<Action>)
         ensures { result ≡ after self found hook }
     {

@@ -15,7 +15,7 @@ use node_words::{NodeWord, following};
 /// The stage at which all is frozen (`SB_FREEZE_COMPLETE`).
 const FROZEN: u64 = 4;
 
-/// What the next event of a snapshot is.
+/// What the next step of a snapshot is.
 #[derive(Clone, Copy, PartialEq, Eq)]
 pub enum SnapshotStep {
     /// Takes `umount` where it is free.
@@ -42,7 +42,7 @@ pub struct Snapshot {
 }
 
 impl Snapshot {
-    /// A snapshot before its first event, of so many nodes.
+    /// A snapshot before its first step, of so many nodes.
     #[inline(always)]
     pub fn new(wait: bool, task: u8, nodes: u8) -> Snapshot
         ensures { result ≡ record { wait = wait; task = task; nodes = nodes; step = Locks } }
@@ -55,7 +55,7 @@ impl Snapshot {
         }
     }
 
-    /// Whether the next event is the load of its last word: of the children that are charged to the last node.
+    /// Whether the next step is the load of its last word: of the children that are charged to the last node.
     #[inline(always)]
     pub fn loads_last(self) -> bool
         ensures { result ≡ loads_last self.nodes self.step }
@@ -82,7 +82,7 @@ impl Snapshot {
         }
     }
 
-    /// The same snapshot, with this step to come.
+    /// Returns the snapshot with this step to come.
     fn at(self, step: SnapshotStep) -> Next<Snapshot>
         ensures { result ≡ Go (at_snapshot self step) }
     {

@@ -54,7 +54,7 @@ impl Tree {
         self.nodes.as_mut_slice()
     }
 
-    /// Lends the words of the children that are charged to each node, likewise.
+    /// Lends the words of the children that are charged to each node, for a line of loads that notes each where it stands.
     #[inline(always)]
     pub fn kids_mut(&mut self) -> &mut [u64]
         ensures* lends { sem 𝓛 (LendsKids self.entry result) }

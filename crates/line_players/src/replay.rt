@@ -25,7 +25,7 @@ pub fn replay<R: Read, W: Write>(
     replay_over::<Core, R, W>(alloc, reader, writer)
 }
 
-/// A replay over whatever gates. What it reads, writes and answers is known where it is known which world they show.
+/// A replay over whatever gates. What it reads, writes and answers is known where it is known which state they show.
 pub fn replay_over<D: Driver, R: Read, W: Write>(
     alloc: Global,
     reader: &mut R,

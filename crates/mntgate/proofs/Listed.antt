@@ -14,7 +14,7 @@ use Rattle.races.specs.declared.calls.Call.{Call}
 use Rattle.schedule_lines.specs.{bytes.Writing.{AppendsPart}, declared.{faults.Fault.TheVariants.{WriteFailed}, output.Output.{Output}}}
 use Rattle.outcome_forms.specs.Told.{TellsAll, TellsSome}
 
--- all outcomes are told, or those so far
+-- all outcomes are printed, or those so far
 pub tells_as : (b : Bool) (core : Memory) (calls : List (List (Option Call))) (tasks : ℕ) (asked : Outcomes) (before after : List ℕ)
     {expanded origins states : ℕ} → (IsTrue b ↔ (expanded ≡ origins)) → origins ≡ states → expanded ≤ states → tasks ≡ core.config.tasks →
     (expanded ≡ states → TellsAll (method_of asked.reduction) core calls (details_of asked) before after) →
@@ -30,7 +30,7 @@ tells_as false core calls tasks asked before after {expanded} {origins} {states}
     not_all (inl less) = less
     not_all (inr more) = absurd (false_true (whole.1 (omega (arith, more, within, lengths))))
 
--- a race of a file begins with no operation under way, so each outcome that is told has a line of its own
+-- a race of a file begins with no operation under way, so each outcome that is printed has a line of its own
 core_idle : (all : Left) (core : Memory) (calls : List (List (Option Call))) → IsRaceIn all core calls → IsIdle core
 core_idle all core calls race t less =
     let tasks : core.config.tasks ≡ race.play.config.tasks = λ i. (race.shows.config i).tasks in
@@ -65,7 +65,7 @@ kept None = tt
 kept (Some bytes) = refl
 
 module _ (asked : Outcomes) (bytes : List ℕ) (held holds : Option (List ℕ)) (whole : Bool) (judged : Judged) (before told : List ℕ) where
-  -- what was told is written
+  -- what was printed is written
   pub listed : (r : Result ProgramEnding Unlisted) → before ≡ [] → TellsRace asked whole judged bytes before told →
       IfOk r (λ ending. ending ≡ list_ending whole judged) → OnOk r (Appends held holds told) → IfOk r (IsListed asked bytes held holds)
   listed (Ok ending) none tells ends written = record {

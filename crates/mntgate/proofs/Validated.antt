@@ -9,7 +9,7 @@ use Rattle.history_files.specs.Verdicts.{HasPossible, IsImpossibleAt}
 use Rattle.history_files.specs.declared.telling.Impossible.{Impossible}
 use Rattle.schedule_lines.specs.bytes.Writing.{AppendsPart}
 
--- a verdict was told
+-- a verdict was printed
 module _ (asked : Validation) (input held holds : Option (List ℕ)) (ending : ProgramEnding) (bytes text : List ℕ) (read : AreRead asked input bytes) where
   pub told : (fault : Option Impossible) → (fault ≡ None → HasPossible bytes) → IfSome fault (λ f. IsImpossibleAt bytes f.line) →
       (fault ≡ None → ((ending ≡ Possible) × Appends held holds text) ⊎ ((ending ≡ Refused) × AppendsPart held holds text)) →

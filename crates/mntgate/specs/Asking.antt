@@ -25,7 +25,7 @@ pub record EndsChecks (count : ℕ) (held holds : Option (List ℕ)) (ending : P
   pub ends : (ending ≡ Passed) ⊎ (ending ≡ Refused)
   pub passed : ending ≡ Passed → TellsPassed (count_checked count) held holds
 
--- How it ends where the outcomes of a race were asked for: as text, they are told.
+-- How it ends where the outcomes of a race were asked for: as text, they are printed.
 pub record EndsOutcomes (race : Outcomes) (input held holds : Option (List ℕ)) (ending : ProgramEnding) : Type 0 where
   pub ends : (ending ≡ Listed) ⊎ (ending ≡ Refused)
   pub told : race.form ≡ Text → race.ends ≡ false → EndsTold race input held holds ending

@@ -17,13 +17,13 @@ use Rattle.outcome_forms.specs.Told.{TellsAll, TellsSome, margin_of, mark_of}
 use Rattle.race_files.specs.{Calls.{is_claim}, FirstFaults.{IsFaultTold}, Left.lines_in, Races.IsRaceIn}
 use Rattle.replay_forms.specs.Styles.{style_of}
 
--- in which form schedules are told
+-- in which form schedules are printed
 abbrev pub schedules_as : words.ScheduleForm → Schedules
 schedules_as words_as.Untold = Untold
 schedules_as words_as.Lines = Lines
 schedules_as words_as.Columns = Columns
 
--- what is told under the line of an outcome
+-- what is printed under the line of an outcome
 abbrev pub details_of : Outcomes → Details
 details_of asked = record {
   schedules = schedules_as asked.schedules;
@@ -36,7 +36,7 @@ abbrev pub method_of : Bool → Method
 method_of true = Reduced
 method_of false = Full
 
--- All outcomes of a race are told, or those so far.
+-- All outcomes of a race are printed, or those so far.
 abbrev pub TellsAs : Bool → Memory → List (List (Option Call)) → Outcomes → List ℕ → List ℕ → Type 0
 TellsAs true core calls asked before after = TellsAll (method_of asked.reduction) core calls (details_of asked) before after
 TellsAs false core calls asked before after =
@@ -48,7 +48,7 @@ abbrev pub outcomes_told : (whole : Bool) (core : Memory) (calls : List (List (O
 outcomes_told true core calls asked before after tells = tells.outcomes
 outcomes_told false core calls asked before after tells = tells.outcomes
 
--- The outcomes of the race that these bytes call are told behind what was there, as was asked for: all of them, or those so far; and behind them
+-- The outcomes of the race that these bytes call are printed behind what was there, as was asked for: all of them, or those so far; and behind them
 -- the verdicts on what they claim. The core on which the race begins is the one that the lines before the first line `race` make of the opening.
 pub record TellsRace (asked : Outcomes) (whole : Bool) (judged : Judged) (bytes before after : List ℕ) : Type 0 where
   pub core : Memory
@@ -64,7 +64,7 @@ pub record TellsRace (asked : Outcomes) (whole : Bool) (judged : Judged) (bytes 
   pub claims : All (λ line. is_claim line ≡ false) (lines_in 1048576 bytes).lines → (verdicts ≡ []) × (judged ≡ Hold)
   pub written : after ≡ outcomes ++ verdicts
 
--- how it ends where all was written that was told: as `Listed` if these are all outcomes, and all claims hold
+-- how it ends where all was written that was printed: as `Listed` if these are all outcomes, and all claims hold
 abbrev pub list_ending : Bool → Judged → ProgramEnding
 list_ending true Hold = Listed
 list_ending _ _ = Refused
@@ -85,7 +85,7 @@ pub record HasBadCondition (bytes : List ℕ) : Type 0 where
   pub race : IsRaceIn (lines_in 1048576 bytes) core calls
   pub bad : HasBadClaim core calls (race_lines bytes)
 
--- Why the outcomes of the race in these bytes aren't told: the text has this first fault, at this line; a line claims something by what is no
+-- Why the outcomes of the race in these bytes aren't printed: the text has this first fault, at this line; a line claims something by what is no
 -- condition; memory was refused; or a schedule wasn't saved that was to be. That a write failed is no such reason.
 abbrev pub IsWhyUnlisted : Outcomes → List ℕ → Unlisted → Type 0
 IsWhyUnlisted asked bytes (Faulty fault) = IsFaultTold (lines_in 1048576 bytes) fault
@@ -94,7 +94,7 @@ IsWhyUnlisted asked bytes (Stopped stop) = stop ≡ NoMemory
 IsWhyUnlisted asked bytes Unsaved = is_some asked.save ≡ true
 IsWhyUnlisted asked bytes (Unwritten fault) = ⊥
 
--- They aren't written for this reason: they aren't told, and nothing is written; or a write failed, and the first bytes of all are written.
+-- They aren't written for this reason: they aren't printed, and nothing is written; or a write failed, and the first bytes of all are written.
 pub data IsUnlisted (asked : Outcomes) (bytes : List ℕ) (held holds : Option (List ℕ)) (why : Unlisted) : Type 0 where
   IsRefused : IsWhyUnlisted asked bytes why → Keeps held holds → IsUnlisted asked bytes held holds why
   IsCutOff : (whole : Bool) (judged : Judged) (text : List ℕ) → TellsRace asked whole judged bytes [] text → AppendsPart held holds text →

@@ -23,7 +23,7 @@ use std::rt::{Clock, Files};
 use std::sync::Wait;
 use std::thread::Threads;
 
-/// Does what the words of a command line ask for; faults are told on a writer of their own, and where they can't be, the
+/// Does what the words of a command line ask for; faults are printed on a writer of their own, and where they can't be, the
 /// program ends the same. Where a person watches, a run tells there how far it is, and a fault of a schedule is explained. A run ends as Ran
 /// only where all that was asked of it was done.
 ///
@@ -103,7 +103,7 @@ fn do_asked<
     }
 }
 
-/// How many of the rows are told: the first of them tell what all tasks did, the others what they met.
+/// How many of the rows are printed: the first of them tell what all tasks did, the others what they met.
 fn count_of(tells: RunReport) -> usize
     ensures { result ≤ ROWS }
 {

@@ -48,7 +48,7 @@ fn main(rt: HostRuntime) -> ExitCode {
 ///
 /// # Errors
 ///
-/// How the program ends if a word is no text, or there is no memory for them, which is told.
+/// How the program ends if a word is no text, or there is no memory for them, which is printed.
 fn words_of(
     rt: &HostRuntime,
     alloc: Global,

@@ -39,7 +39,7 @@ use std::io::{Read, Stderr, Write};
 use std::rt::{Clock, Files};
 
 /// Writes the outcomes of the race that a file has, or the reader, where none is named, and the verdicts on what it claims. A fault of the race is
-/// told on the writer of faults, and so is want of memory; then nothing is written. Where a person watches, the search tells there how far it is.
+/// printed on the writer of faults, and so is want of memory; then nothing is written. Where a person watches, the search tells there how far it is.
 /// It ends as Listed where all outcomes are written, and all claims hold.
 pub fn run_outcomes<R: Files + Clock + Alloc<A = Global>, I: Read, W: Write, E: Write>(
     rt: &R,
@@ -67,7 +67,7 @@ pub fn run_outcomes<R: Files + Clock + Alloc<A = Global>, I: Read, W: Write, E: 
     }
 }
 
-/// What was told of a race.
+/// What was printed of a race.
 #[derive(Drop)]
 struct Answered {
     listing: RaceListing,
@@ -102,7 +102,7 @@ pub fn answer_outcomes<R: Files + Clock + Alloc<A = Global>, W: Write, E: Write>
     write_told(&told, &answered, writer)
 }
 
-/// Writes what is told, and returns how the program ends then.
+/// Writes what is printed, and returns how the program ends then.
 ///
 /// # Errors
 ///
@@ -123,7 +123,7 @@ fn write_told<W: Write>(
     }
 }
 
-/// How it ends where all was written that is told: as Listed if these are all outcomes, and all claims hold.
+/// How it ends where all was written that is printed: as Listed if these are all outcomes, and all claims hold.
 fn list_ending(is_whole: bool, judged: Judged) -> ProgramEnding
     ensures { result ≡ list_ending is_whole judged }
 {
@@ -137,7 +137,7 @@ fn list_ending(is_whole: bool, judged: Judged) -> ProgramEnding
 ///
 /// # Errors
 ///
-/// Why they aren't told: the first fault of the text, the first line that claims something by what is no condition, or want of memory; or a
+/// Why they aren't printed: the first fault of the text, the first line that claims something by what is no condition, or want of memory; or a
 /// schedule of theirs was to be saved, and wasn't.
 fn answer_race<R: Files + Clock + Alloc<A = Global>, E: Write>(
     rt: &R,
@@ -192,7 +192,7 @@ fn answer_file<R: Files + Clock + Alloc<A = Global>, E: Write>(
 ///
 /// # Errors
 ///
-/// What is told of the first line that doesn't, or that memory was refused.
+/// What is printed of the first line that doesn't, or that memory was refused.
 fn expect_claims(source: RaceSource<'_>, core: &Core, asked: Outcomes<'_>) -> Result<(), Unlisted>
     requires { IsRaceIn (lines_in 1048576 source.bytes.now) core.now source.calls.now.race.calls.items }
     ensures claims { OnOk result (ClaimConditions core.now source.entry.calls.now.race.calls.items (race_lines source.entry.bytes.now)) }
@@ -268,7 +268,7 @@ fn judge_claims<W: Observer>(
     )
 }
 
-/// In which form verdicts are told.
+/// In which form verdicts are printed.
 fn form_of(asked: Outcomes<'_>) -> VerdictForm
     ensures plain { asked.entry.form ≡ Text → IsPlain result }
     ensures mark { result.mark.now ≡ mark_of (schedules_as asked.entry.schedules) }
@@ -347,7 +347,7 @@ fn list_race<W: Observer>(
 ///
 /// # Errors
 ///
-/// That one wasn't saved: why is told on the writer of faults.
+/// That one wasn't saved: why is printed on the writer of faults.
 fn save<R: Files + Alloc<A = Global>, E: Write>(
     rt: &R,
     source: RaceSource<'_>,
@@ -387,7 +387,7 @@ fn tell_verdicts(asked: Outcomes<'_>, verdicts: &Output, told: &mut Output)
     }
 }
 
-/// What is told under the line of an outcome.
+/// What is printed under the line of an outcome.
 fn details_of(asked: Outcomes<'_>) -> Details
     ensures { result ≡ details_of asked.entry }
 {
@@ -398,7 +398,7 @@ fn details_of(asked: Outcomes<'_>) -> Details
     }
 }
 
-/// In which form schedules are told.
+/// In which form schedules are printed.
 fn schedules_of(asked: ScheduleForm) -> Schedules
     ensures { result ≡ schedules_as asked }
 {

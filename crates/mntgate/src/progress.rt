@@ -53,7 +53,7 @@ impl<R: Clock> Observer for SearchProgress<'_, R> {
     }
 }
 
-/// Tells so many states, in groups of three digits, in the place of what was told before.
+/// Tells so many states, in groups of three digits, in the place of what was printed before.
 fn tell<E: Write>(states: u64, errors: &mut E) -> std::io::Result<()> {
     let (millions, thousands, ones) = (states / 1_000_000, states / 1_000 % 1_000, states % 1_000);
     let (billions, rest) = (millions / 1_000, millions % 1_000);

@@ -1,4 +1,4 @@
-//! Why the outcomes of a race aren't told, or not written whole.
+//! Why the outcomes of a race aren't printed, or not written whole.
 
 ghost use Rattle.std.specs.Prelude.{◌≡◌};
 ghost use Rattle.exit_status.specs.declared.ends.ProgramEnding.TheVariants.{Refused};
@@ -13,16 +13,16 @@ use schedule_lines::bytes::ReplayFault;
 use std::alloc::Global;
 use std::io::Write;
 
-/// Why the outcomes of a race aren't told, or not written whole.
+/// Why the outcomes of a race aren't printed, or not written whole.
 #[derive(Drop)]
 pub enum Unlisted {
     /// The race's text has this fault.
     Faulty(ReplayFault),
-    /// A line claims something by what is no condition. This is told of it.
+    /// A line claims something by what is no condition. This is printed of it.
     BadClaim(String),
     /// The search was stopped.
     Stopped(Stop),
-    /// A schedule was not saved. Why is told already.
+    /// A schedule was not saved. Why is printed already.
     Unsaved,
     /// A write failed, with this fault.
     Unwritten(Fault),

@@ -43,7 +43,7 @@ pub fn run_validation<R: Files + Clock + Alloc<A = Global>, I: Read, W: Write, E
     }
 }
 
-/// Writes what is told of a verdict, and returns how the program ends then.
+/// Writes what is printed of a verdict, and returns how the program ends then.
 fn write_told<W: Write, E: Write>(told: &Told, writer: &mut W, errors: &mut E) -> ProgramEnding
     ensures possible { told.now.fault ≡ None → ((result ≡ Possible) × Appends (W.contents writer.old) (W.contents writer.new) told.now.text.bytes.items)
         ⊎ ((result ≡ Refused) × AppendsPart (W.contents writer.old) (W.contents writer.new) told.now.text.bytes.items) }

@@ -127,7 +127,7 @@ impl Member {
         };
     }
 
-    /// Brings two tasks of the same gates together: what either has done stands in one world, which both have seen from then on.
+    /// Brings two tasks of the same gates together: what either has done stands in one state, which both have seen from then on.
     pub(crate) fn meet(&mut self, other: &mut Member)
         requires same { (other.old.table ≡ self.old.table) × (other.old.config ≡ self.old.config) }
         ensures { Meets self.old other.old self.new other.new }

@@ -10,8 +10,8 @@ ghost use Rattle.vfs_gates.specs.TaskStates.{SeatedTask, IsFrom, IsIdle};
 
 use vfs_gates::{Gates, Progress, Task};
 
-/// Does the next event of the operation under way, which reads what a hook answered, if it reads one. Does more, as long as the operation
-/// goes on and its next event reads no hook, up to `most` in all; one if `most` is 0. A task with no operation under way does nothing.
+/// Does the next step of the operation under way, which reads what a hook answered, if it reads one. Does more, as long as the operation
+/// goes on and its next step reads no hook, up to `most` in all; one if `most` is 0. A task with no operation under way does nothing.
 /// Returns how the operation stands then.
 pub fn run(task: &mut Task, gates: &Gates, hook: Result<(), u16>, most: u32) -> Progress
     requires { IsFrom task.old gates.now }

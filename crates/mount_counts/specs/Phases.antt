@@ -1,4 +1,4 @@
--- The order of events of want, drop and change: which word an event touches and how, and what comes after it.
+-- The order of steps of want, drop and change: which word a step touches and how, and what comes after it.
 use Rattle.std.specs.Prelude.{ℕ, ◌+◌, Bool, true, false, not, ◌==◌, if◌then◌else◌, Option, Some, None, Ok, Err, bit_and}
 use Rattle.access_model.specs.declared.actions.{Action.{Action, TheVariants.{Grant, Return, MountRo, MountRw}}, Gate.TheVariants.{Mount}}
 use Rattle.access_model.specs.declared.{errors.GateError.TheVariants.{Again, Busy, ReadOnly}, replies.Next.{Next}}
@@ -35,7 +35,7 @@ abbrev pub hold_found : Want → Bool → Next Want
 hold_found w true = Wait (at_want w LoadsHold)
 hold_found w false = Go (at_want w (CountsDown Again))
 
--- what comes after each event of a want, in the want's own phases: it is granted by the last of its questions
+-- what comes after each step of a want, in the want's own phases: it is granted by the last of its questions
 abbrev pub want_after : Want → WantStep → ℕ → Next Want × Option Action
 want_after w CountsUp found = (Go (at_want w LoadsHold), None)
 want_after w LoadsHold found = (if has_flag found 2 then hold_found w w.wait else Go (at_want w LoadsRemount), None)
@@ -88,7 +88,7 @@ step_summed (Total total) = if total == 0 then SetsReadOnly else ClearsHold (Err
 abbrev pub change_summed : Change → Sum → ℕ → ChangeStep
 change_summed x sum word = step_summed (sum_taking sum word x.processors)
 
--- what comes after each event of a change, in the change's own phases: HOLD stands from before the sum to the end
+-- what comes after each step of a change, in the change's own phases: HOLD stands from before the sum to the end
 abbrev pub change_after : Change → ChangeStep → ℕ → Next Change × Option Action
 change_after x Locks found = (if found == 0 then Go (at_change x LoadsFlags) else lock_failed x x.wait, None)
 change_after x LoadsFlags found = (if has_flag found 1 then Go (at_change x (change_from x true)) else Go (at_change x LoadsSb), None)
@@ -100,13 +100,13 @@ change_after x SetsReadOnly found = (Go (at_change x (ClearsHold (Ok UnitReply))
 change_after x (ClearsHold answer) found = (Go (at_change x (Releases answer)), None)
 change_after x (Releases answer) found = (Done answer, None)
 
--- the word and the touch of the next event
+-- the word and the touch of the next step
 abbrev pub next : MountPhase → HookAnswer → WordName × Touch
 next (Wants w) hook = want_next w w.step
 next (Drops m p) hook = (MountCount m p, Sub 1)
 next (Changes x) hook = change_next x x.step
 
--- what comes after the event that found this value, and the action that the event adds
+-- what comes after the step that found this value, and the action that the step adds
 abbrev pub after : MountPhase → ℕ → HookAnswer → Next MountPhase × Option Action
 after (Wants w) found hook = (map_next Wants (want_after w w.step found).0, (want_after w w.step found).1)
 after (Drops m p) found hook = (Done (Ok UnitReply), Some (Return (Mount m)))

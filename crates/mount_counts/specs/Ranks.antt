@@ -1,4 +1,4 @@
--- How many events of a call at a mount may still come after its next one, where its way is free and no other task does anything.
+-- How many steps of a call at a mount may still come after its next one, where its way is free and no other task does anything.
 use Rattle.std.specs.Prelude.{ℕ, ◌+◌, ◌-◌}
 use Rattle.mount_counts.specs.declared.phases.{ChangeStep.{ChangeStep, TheVariants.{Locks, LoadsFlags, LoadsSuperblock as LoadsSb, ClearsReadOnly}}}
 use Rattle.mount_counts.specs.declared.phases.ChangeStep.TheVariants.{SetsHold, Sums, SetsReadOnly, ClearsHold, Releases}
@@ -26,7 +26,7 @@ change_rank processors SetsReadOnly = 2
 change_rank processors (ClearsHold answer) = 1
 change_rank processors (Releases answer) = 0
 
--- a phase of these; that of another is one event, after which none comes
+-- a phase of these; that of another is one step, after which none comes
 abbrev pub mount_rank : MountPhase → ℕ
 mount_rank (Wants x) = want_rank x.step
 mount_rank (Changes x) = change_rank x.processors x.step

@@ -1,4 +1,4 @@
--- The order of events of a remount of the superblock: which word an event touches and how, and what comes after it. Two events are
+-- The order of steps of a remount of the superblock: which word a step touches and how, and what comes after it. Two steps are
 -- decided by the answer of the file system.
 use Rattle.std.specs.Prelude.{ℕ, ◌+◌, Bool, true, false, not, ◌==◌, nat_lt, if◌then◌else◌, Option, Some, None, Ok, Err}
 use Rattle.access_model.specs.declared.{actions.Action.{Action, TheVariants.{SbRo, SbRw, Clean}}, errors.GateError.TheVariants.{Busy, Hook}}
@@ -81,7 +81,7 @@ past_node nodes n = if nat_lt (n + 1) nodes then ClearsMark (n + 1) else SetsRea
 abbrev pub mark_cleared : ℕ → ℕ → Option Action
 mark_cleared n found = if has_flag found 4 then Some (Clean n) else None
 
--- what comes after each event of a remount, in its own phases: `remount` stands from after the sums to after the superblock's flag
+-- what comes after each step of a remount, in its own phases: `remount` stands from after the sums to after the superblock's flag
 abbrev pub remount_after : Remount → RemountStep → ℕ → HookAnswer → Next Remount × Option Action
 remount_after x Locks found hook = (if found == 0 then Go (at_remount x LoadsStage) else Wait (at_remount x Locks), None)
 remount_after x LoadsStage found hook = (

@@ -112,7 +112,7 @@ mount_shut flags remount sb (suc (suc zero)) = ro_bit flags ≡ 1
 mount_shut flags remount sb (suc (suc (suc zero))) = sb ≡ 1
 mount_shut flags remount sb _ = ⊥
 
--- what holds at one mount between any two events
+-- what holds at one mount between any two steps
 pub record MountHolds (tasks processors flags remount sb : ℕ) (count : ℕ → ℕ) (at : ℕ → MountView) : Type 0 where
   pub bits : flags < 4
   -- the mount's counts, and HOLD, which is some task's own where it is set

@@ -1,5 +1,5 @@
-//! The laws of one mount, over plain numbers and the roles of tasks: what each event of a want, a drop, a change and a remount keeps
-//! there, as an event of a gate. It has no code: its functions state laws.
+//! The laws of one mount, over plain numbers and the roles of tasks: what each step of a want, a drop, a change and a remount keeps
+//! there, as a step of a gate. It has no code: its functions state laws.
 
 ghost use Rattle.std.specs.Prelude.{◌≡◌, ℕ, ◌%◌, ◌<◌};
 ghost use Rattle.finite_sums.specs.Sums.{total};

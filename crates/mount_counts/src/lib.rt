@@ -1,5 +1,5 @@
 //! Mounts: the writer counts of `mnt_want_write` and `mnt_drop_write`, the change of a mount's own read-only flag, and the remount
-//! of the superblock, each as an order of events on words. A phase says which event comes next, and what comes after it.
+//! of the superblock, each as an order of steps on words. A phase says which step comes next, and what comes after it.
 #![tactic(auto)]
 
 pub mod flags;

@@ -1,4 +1,4 @@
-//! The orders of events of want, drop and change.
+//! The orders of steps of want, drop and change.
 
 ghost use Rattle.std.specs.Prelude.{◌≡◌};
 ghost use Rattle.mount_counts.specs.Phases.{next, after, want_next, want_after, at_change, change_next, change_from, change_summed, change_after};
@@ -10,7 +10,7 @@ use access_model::{Action, Gate, GateError, Next, Reply, map_after};
 use bitflags::Flags;
 use cpu_words::{Sum, Taken, Touch, WordName};
 
-/// What the next event of a want is (`__mnt_want_write`).
+/// What the next step of a want is (`__mnt_want_write`).
 #[derive(Clone, Copy, PartialEq, Eq)]
 pub enum WantStep {
     /// Adds one to the count of its processor.
@@ -36,7 +36,7 @@ pub struct Want {
     pub step: WantStep,
 }
 
-/// What the next event of a change is (`mnt_make_readonly`, `mnt_hold_writers`, `mnt_unhold_writers`).
+/// What the next step of a change is (`mnt_make_readonly`, `mnt_hold_writers`, `mnt_unhold_writers`).
 #[derive(Clone, Copy, PartialEq, Eq)]
 pub enum ChangeStep {
     /// Takes `umount` where it is free.
@@ -71,7 +71,7 @@ pub struct Change {
     pub step: ChangeStep,
 }
 
-/// Where an operation at a mount stands between two of its events.
+/// Where an operation at a mount stands between two of its steps.
 #[derive(Clone, Copy, PartialEq, Eq)]
 pub enum MountPhase {
     /// `mnt_want_write` of a mount.
@@ -83,7 +83,7 @@ pub enum MountPhase {
 }
 
 impl Want {
-    /// A want before its first event.
+    /// A want before its first step.
     #[inline(always)]
     pub fn new(mount: u8, cpu: u8, wait: bool) -> Want
         ensures { result ≡ record { mount = mount; cpu = cpu; wait = wait; step = CountsUp } }
@@ -96,7 +96,7 @@ impl Want {
         }
     }
 
-    /// The word and the touch of the next event.
+    /// The word and the touch of the next step.
     #[inline(always)]
     pub fn next(self) -> (WordName, Touch)
         ensures { result ≡ want_next self self.step }
@@ -114,7 +114,7 @@ impl Want {
         }
     }
 
-    /// The same want, with this step to come.
+    /// Returns the want with this step to come.
     #[inline(always)]
     fn at(self, step: WantStep) -> Want
         ensures { result ≡ record self { step = step } }
@@ -122,7 +122,7 @@ impl Want {
         Want { step, ..self }
     }
 
-    /// What comes after the event, which found this, and the action that the event adds.
+    /// What comes after the step, which found this, and the action that the step adds.
     #[inline(always)]
     pub fn after(self, found: u64) -> (Next<Want>, Option<Action>)
         ensures { result ≡ want_after self self.step found }
@@ -157,7 +157,7 @@ impl Want {
 }
 
 impl Change {
-    /// A change before its first event, among so many processors.
+    /// A change before its first step, among so many processors.
     #[inline(always)]
     pub fn new(mount: u8, read_only: bool, wait: bool, task: u8, processors: u8) -> Change
         ensures { result ≡ record { mount = mount; read_only = read_only; wait = wait; task = task; processors = processors; step = Locks } }
@@ -193,7 +193,7 @@ impl Change {
         }
     }
 
-    /// The same change, with this step to come.
+    /// Returns the change with this step to come.
     #[inline(always)]
     fn at(self, step: ChangeStep) -> Next<Change>
         ensures { result ≡ Go (at_change self step) }
@@ -225,7 +225,7 @@ impl Change {
         }
     }
 
-    /// What comes after the event, which found this, and the action that the event adds.
+    /// What comes after the step, which found this, and the action that the step adds.
     #[inline(always)]
     pub fn after(self, found: u64) -> (Next<Change>, Option<Action>)
         ensures { result ≡ change_after self self.step found }
@@ -261,7 +261,7 @@ impl Change {
 }
 
 impl MountPhase {
-    /// The word and the touch of the next event. No event of a mount reads a hook's answer.
+    /// The word and the touch of the next step. No step of a mount reads a hook's answer.
     #[inline(always)]
     pub fn next(&self, hook: Result<(), u16>) -> (WordName, Touch)
         ensures { result ≡ next self.now hook }
@@ -274,7 +274,7 @@ impl MountPhase {
         }
     }
 
-    /// What comes after the event, which found this, and the action that the event adds.
+    /// What comes after the step, which found this, and the action that the step adds.
     #[inline(always)]
     pub fn after(self, found: u64, hook: Result<(), u16>) -> (Next<MountPhase>, Option<Action>)
         ensures { result ≡ after self found hook }

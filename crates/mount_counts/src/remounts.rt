@@ -1,4 +1,4 @@
-//! The order of events of a remount of the superblock.
+//! The order of steps of a remount of the superblock.
 
 ghost use Rattle.std.specs.Prelude.{◌≡◌, if◌then◌else◌};
 ghost use Rattle.access_model.specs.declared.actions.Action.TheVariants.{Clean};
@@ -14,7 +14,7 @@ use bitflags::Flags;
 use cpu_words::{Sum, Taken, Touch, WordName};
 use node_words::NodeWord;
 
-/// What the next event of a remount is (`reconfigure_super`, `sb_prepare_remount_readonly`). `mount` is the one at which its
+/// What the next step of a remount is (`reconfigure_super`, `sb_prepare_remount_readonly`). `mount` is the one at which its
 /// loop stands, and `held` are the mounts at which it has HOLD set.
 #[derive(Clone, Copy, PartialEq, Eq)]
 pub enum RemountStep {
@@ -42,7 +42,7 @@ pub enum RemountStep {
     SetsRemount { held: MountSet },
     /// Clears HOLD of the lowest mount that it holds, with `remount` set.
     ClearsHold { held: MountSet },
-    /// The same, where the sum of this mount was not 0.
+    /// Clears HOLD of the lowest mount that it holds, as the sum of this mount was not 0.
     GivesUp { mount: u8, held: MountSet },
     /// Clears the dirty mark of a node.
     ClearsMark { node: u8 },
@@ -66,7 +66,7 @@ pub struct Remount {
 }
 
 impl Remount {
-    /// A remount before its first event, among so many processors, mounts and nodes.
+    /// A remount before its first step, among so many processors, mounts and nodes.
     #[inline(always)]
     pub fn new(read_only: bool, task: u8, processors: u8, mounts: u8, nodes: u8) -> Remount
         ensures { result ≡ record { read_only = read_only; task = task; processors = processors; mounts = mounts; nodes = nodes; step = Locks } }
@@ -81,7 +81,7 @@ impl Remount {
         }
     }
 
-    /// The word and the touch of the next event, where the file system answers this. An event that the answer doesn't decide
+    /// The word and the touch of the next step, where the file system answers this. A step that the answer doesn't decide
     /// ignores it.
     #[inline(always)]
     pub fn next(self, hook: Result<(), u16>) -> (WordName, Touch)
@@ -184,14 +184,14 @@ impl Remount {
         }
     }
 
-    /// The same remount, with this step to come.
+    /// Returns the remount with this step to come.
     fn at(self, step: RemountStep) -> Next<Remount>
         ensures { result ≡ Go (at_remount self step) }
     {
         Next::Go(Remount { step, ..self })
     }
 
-    /// What comes after the event, which found this, where the file system answers this.
+    /// What comes after the step, which found this, where the file system answers this.
     fn next_after(self, found: u64, hook: Result<(), u16>) -> Next<Remount>
         ensures { result ≡ (remount_after self self.step found hook).0 }
     {
@@ -235,7 +235,7 @@ impl Remount {
         })
     }
 
-    /// The action that the event adds, which found this, where the file system answers this.
+    /// The action that the step adds, which found this, where the file system answers this.
     fn action_of(self, found: u64, hook: Result<(), u16>) -> Option<Action>
         ensures { result ≡ (remount_after self self.step found hook).1 }
     {
@@ -249,7 +249,7 @@ impl Remount {
         }
     }
 
-    /// What comes after the event, which found this, where the file system answers this, and the action that the event adds.
+    /// What comes after the step, which found this, where the file system answers this, and the action that the step adds.
     #[inline(always)]
     pub fn after(self, found: u64, hook: Result<(), u16>) -> (Next<Remount>, Option<Action>)
         ensures { result ≡ remount_after self self.step found hook }
@@ -269,7 +269,7 @@ fn letting_go(held: MountSet) -> RemountStep
     }
 }
 
-/// The same, where a file was found removed.
+/// What comes where the holds of these mounts are still to be cleared, as a file was found removed.
 fn leaving_holds(held: MountSet) -> RemountStep
     ensures { result ≡ leave_holds held }
 {
@@ -280,7 +280,7 @@ fn leaving_holds(held: MountSet) -> RemountStep
     }
 }
 
-/// The same, where the sum of this mount was not 0.
+/// What comes where the holds of these mounts are still to be cleared, as the sum of this mount was not 0.
 fn giving_up(mount: u8, held: MountSet) -> RemountStep
     ensures { result ≡ give_up mount held }
 {

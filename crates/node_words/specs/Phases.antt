@@ -1,4 +1,4 @@
--- What comes after a look at a node, and the order of events of a clearing of all dirty marks.
+-- What comes after a look at a node, and the order of steps of a clearing of all dirty marks.
 use Rattle.std.specs.Prelude.{ℕ, ◌==◌, if◌then◌else◌, Option, Some, None, Result, Ok, Err}
 use Rattle.access_model.specs.declared.{actions.Action.{Action, TheVariants.{Clean}}, errors.GateError.{GateError}, replies.Next.{Next}}
 use Rattle.access_model.specs.declared.replies.{Next.TheVariants.{Go, Done}, Reply.TheVariants.{Unit as UnitReply}}
@@ -21,7 +21,7 @@ abbrev pub clears_at : ClearMarks → Option ℕ → Next ClearMarks
 clears_at x (Some node) = Go (record x { node = node })
 clears_at x None = Done (Ok UnitReply)
 
--- what comes after an event of a clearing: a node whose mark was set is clean now
+-- what comes after a step of a clearing: a node whose mark was set is clean now
 abbrev pub clear_after : ClearMarks → ℕ → Next ClearMarks × Option Action
 clear_after x found = (
   clears_at x (node_after x.node x.nodes),

@@ -22,15 +22,15 @@ impl ClearMarks {
         ClearMarks { node: 1, nodes }
     }
 
-    /// The word and the touch of the next event.
+    /// The word and the touch of the next step.
     pub fn next(self) -> (WordName, Touch)
         ensures { result ≡ clear_next self }
     {
         (WordName::Node(self.node), Touch::And(!NodeWord::DIRTY))
     }
 
-    /// What comes after the event, which found this, and the action that the event adds: Clean, where the mark was set. The last
-    /// node's event ends it.
+    /// What comes after the step, which found this, and the action that the step adds: Clean, where the mark was set. The last
+    /// node's step ends it.
     pub fn after(self, found: u64) -> (Next<ClearMarks>, Option<Action>)
         ensures { result ≡ clear_after self found }
     {

@@ -96,7 +96,7 @@ impl NodeWord {
         NodeWord::of(word)
     }
 
-    /// The same.
+    /// Returns the node of a word, if the word is that of one.
     #[inline]
     fn of(word: u64) -> Option<NodeWord>
         ensures { result ≡ unpacked word }

@@ -1,4 +1,4 @@
-//! What is told of the outcomes of a race, and of which.
+//! What is printed of the outcomes of a race, and of which.
 
 ghost use Rattle.std.specs.Prelude.{◌≡◌, ◌↔◌, IsTrue, false};
 ghost use Rattle.outcome_forms.specs.Told.{AsksNone, margin_of, mark_of};
@@ -8,7 +8,7 @@ use replay_forms::{Form, Style};
 /// How wide all columns are together: with the two spaces before them 100.
 const WIDTH: usize = 98;
 
-/// In which form a schedule of each outcome is told, if it is.
+/// In which form a schedule of each outcome is printed, if it is.
 #[derive(Clone, Copy)]
 pub enum Schedules {
     Untold,
@@ -39,7 +39,7 @@ impl Schedules {
         }
     }
 
-    /// Returns the form in which the steps of a schedule are shown; None if its own lines are told.
+    /// Returns the form in which the steps of a schedule are shown; None if its own lines are printed.
     pub fn form(self) -> Option<Form> {
         match self {
             Schedules::Untold | Schedules::Lines => None,
@@ -47,17 +47,17 @@ impl Schedules {
         }
     }
 
-    /// Returns whether a schedule is told.
+    /// Returns whether a schedule is printed.
     pub fn are_told(self) -> bool {
         !matches!(self, Schedules::Untold)
     }
 }
 
-/// What is told of each outcome under its line.
+/// What is printed of each outcome under its line.
 #[derive(Clone, Copy)]
 pub struct Details {
     pub schedules: Schedules,
-    /// Whether the final model is told, or how many there are.
+    /// Whether the final model is printed, or how many there are.
     pub model: bool,
     /// How words and their values are printed in columns, and in records and pictures.
     pub style: Style,

@@ -1,4 +1,4 @@
-//! An execution for each outcome of a race, as it is told: with few switches between tasks, and with each task that waits at its wait.
+//! An execution for each outcome of a race, as it is printed: with few switches between tasks, and with each task that waits at its wait.
 
 ghost use Rattle.std.specs.Prelude.{◌<◌, ◌≡◌, ◌≤◌, ◌*◌, length};
 ghost use Rattle.exploration.specs.Tables.{IsTable};

@@ -21,11 +21,11 @@ use std::rt::Files;
 const OLDER: &str = "it was there before, has no outcome of this list, and stays";
 
 /// Writes a schedule of each outcome to a file in a folder: `1.schedule` and so on, in the order in which they are listed. Each has the set-up,
-/// a comment with the outcome, and an execution that ends in it. What else is in the folder stays: a file of the next number is told.
+/// a comment with the outcome, and an execution that ends in it. What else is in the folder stays: a file of the next number is printed.
 ///
 /// # Errors
 ///
-/// How the program ends if a file can't be written, or there is no memory, which is told. Files before it are written.
+/// How the program ends if a file can't be written, or there is no memory, which is printed. Files before it are written.
 pub fn save_outcomes<R: Files + Alloc<A = Global>, E: Write>(
     rt: &R,
     source: RaceSource<'_>,

@@ -1,4 +1,4 @@
--- The order of events of a callback of a level's rcu_sync: which word an event touches and how, and what comes after it.
+-- The order of steps of a callback of a level's rcu_sync: which word a step touches and how, and what comes after it.
 use Rattle.std.specs.Prelude.{ℕ, true, false, Option, None, Ok}
 use Rattle.access_model.specs.declared.{actions.Action.{Action}, replies.Next.{Next, TheVariants.{Go, Wait, Done}}}
 use Rattle.access_model.specs.declared.replies.Reply.TheVariants.{Ran}
@@ -19,7 +19,7 @@ callback_next b (CallsBack transition) = transition_next b.level transition
 abbrev pub at_callback : Callback → CallbackStep → Callback
 at_callback b step = record b { step = step }
 
--- what comes after an event of the claim: where none is queued, no callback ran
+-- what comes after a step of the claim: where none is queued, no callback ran
 abbrev pub claimed : Callback → TransitionNext → Next Callback
 claimed b (More transition) = Go (at_callback b (Claims transition))
 claimed b Undefined = Done (Ok (Ran false))
@@ -31,13 +31,13 @@ callback_looked b (MoreSections grace) = Go (at_callback b (AwaitsSections grace
 callback_looked b (WaitsFor grace) = Wait (at_callback b (AwaitsSections grace))
 callback_looked b Ended = Go (at_callback b (CallsBack Loads))
 
--- what comes after an event of its own transition
+-- what comes after a step of its own transition
 abbrev pub called_back : Callback → TransitionNext → Next Callback
 called_back b (More transition) = Go (at_callback b (CallsBack transition))
 called_back b Undefined = Go (at_callback b (CallsBack Loads))
 called_back b (Made state) = Done (Ok (Ran true))
 
--- what comes after each event of a callback, in its own phases, none of which adds an action
+-- what comes after each step of a callback, in its own phases, none of which adds an action
 abbrev pub callback_after : Callback → CallbackStep → ℕ → Next Callback × Option Action
 callback_after b (Claims transition) found = (claimed b (transition_after on_claim transition found), None)
 callback_after b (AwaitsSections grace) found = (callback_looked b (looked grace found), None)

@@ -1,4 +1,4 @@
--- The order of events of any operation at a level.
+-- The order of steps of any operation at a level.
 use Rattle.std.specs.Prelude.{ℕ, Option}
 use Rattle.access_model.specs.{declared.{actions.Action.{Action}, replies.Next.{Next}}, Replies.{map_next}}
 use Rattle.cpu_words.specs.{declared.{names.WordName.{WordName}, events.Touch.{Touch}}, Hooks.{HookAnswer}}
@@ -9,7 +9,7 @@ use Rattle.percpu_rwsem.specs.Readers.{down_read_next, down_read_after, up_read_
 use Rattle.percpu_rwsem.specs.Writers.{down_write_next, down_write_after, up_write_next, up_write_after}
 use Rattle.percpu_rwsem.specs.Callbacks.{callback_next, callback_after}
 
--- the word and the touch of the next event
+-- the word and the touch of the next step
 abbrev pub next : SemPhase → HookAnswer → WordName × Touch
 next (DownReads r) hook = down_read_next r r.step
 next (UpReads r) hook = up_read_next r
@@ -17,7 +17,7 @@ next (DownWrites d) hook = down_write_next d d.step
 next (UpWrites u) hook = up_write_next u u.step
 next (Callbacks b) hook = callback_next b b.step
 
--- what comes after the event that found this value, and the action that the event adds
+-- what comes after the step that found this value, and the action that the step adds
 abbrev pub after : SemPhase → ℕ → HookAnswer → Next SemPhase × Option Action
 after (DownReads r) found hook = (map_next DownReads (down_read_after r r.step found).0, (down_read_after r r.step found).1)
 after (UpReads r) found hook = (map_next UpReads (up_read_after r).0, (up_read_after r).1)

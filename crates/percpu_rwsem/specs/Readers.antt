@@ -1,4 +1,4 @@
--- The order of events of a down-read and an up-read: which word an event touches and how, and what comes after it.
+-- The order of steps of a down-read and an up-read: which word a step touches and how, and what comes after it.
 use Rattle.std.specs.Prelude.{ℕ, Bool, true, false, ◌==◌, if◌then◌else◌, Option, Some, None, Ok, Err}
 use Rattle.access_model.specs.declared.actions.{Action.{Action, TheVariants.{Grant, Return}}, Gate.TheVariants.{Level}}
 use Rattle.access_model.specs.declared.{errors.GateError.TheVariants.{Again}, replies.Next.{Next, TheVariants.{Go, Wait, Done}}}
@@ -44,7 +44,7 @@ abbrev pub left_blocked : DownRead → Bool → Next DownRead
 left_blocked r true = Wait (at_down_read r EntersSection)
 left_blocked r false = Done (Err Again)
 
--- what comes after each event of a down-read, in its own phases: it is granted by its addition in GP_IDLE, else by its load of `block`
+-- what comes after each step of a down-read, in its own phases: it is granted by its addition in GP_IDLE, else by its load of `block`
 abbrev pub down_read_after : DownRead → DownReadStep → ℕ → Next DownRead × Option Action
 down_read_after r EntersSection found = (Go (at_down_read r LoadsSync), None)
 down_read_after r LoadsSync found = (Go (at_down_read r (step_found (unpack found))), None)

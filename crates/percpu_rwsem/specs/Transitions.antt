@@ -5,7 +5,7 @@ use Rattle.percpu_rwsem.specs.declared.{sync_word.SyncWord.{SyncWord}, transitio
 use Rattle.percpu_rwsem.specs.declared.transitions.TransitionNext.{TransitionNext, TheVariants.{More, Undefined, Made}}
 use Rattle.percpu_rwsem.specs.SyncWords.{pack, unpack}
 
--- the word and the touch of the next event
+-- the word and the touch of the next step
 abbrev pub transition_next : ℕ → Transition → WordName × Touch
 transition_next level Loads = (Sync level, Load)
 transition_next level (Exchanges from to) = (Sync level, Cas (pack from) (pack to))
@@ -20,7 +20,7 @@ abbrev pub word_loaded : (SyncWord → Option SyncWord) → Option SyncWord → 
 word_loaded makes None = More Loads
 word_loaded makes (Some from) = exchange_for from (makes from)
 
--- what comes after the event that found this: a word that was changed before the exchange is loaded again
+-- what comes after the step that found this: a word that was changed before the exchange is loaded again
 abbrev pub transition_after : (SyncWord → Option SyncWord) → Transition → ℕ → TransitionNext
 transition_after makes Loads found = word_loaded makes (unpack found)
 transition_after makes (Exchanges from to) found = if found == pack from then Made from.state else More Loads

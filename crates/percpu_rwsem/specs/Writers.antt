@@ -1,4 +1,4 @@
--- The order of events of a down-write and an up-write: which word an event touches and how, and what comes after it.
+-- The order of steps of a down-write and an up-write: which word a step touches and how, and what comes after it.
 use Rattle.std.specs.Prelude.{ℕ, ◌==◌, if◌then◌else◌, Option, Some, None, Ok}
 use Rattle.access_model.specs.declared.{actions.Action.{Action, TheVariants.{Pass, Reopen}}, replies.Next.{Next}}
 use Rattle.access_model.specs.declared.replies.{Next.TheVariants.{Go, Wait, Done}, Reply.TheVariants.{Unit as UnitReply}}
@@ -36,13 +36,13 @@ entered_from tasks Passed = SetsBlock
 entered_from tasks Exit = SetsBlock
 entered_from tasks Replay = SetsBlock
 
--- the step after an event of the enter
+-- the program point after a step of the enter
 abbrev pub enter_step : ℕ → TransitionNext → DownWriteStep
 enter_step tasks (More transition) = Enters transition
 enter_step tasks Undefined = Enters Loads
 enter_step tasks (Made state) = entered_from tasks state
 
--- the step after an event of the transition that ends the grace period
+-- the program point after a step of the transition that ends the grace period
 abbrev pub callback_step : TransitionNext → DownWriteStep
 callback_step (More transition) = CallsBack transition
 callback_step Undefined = CallsBack Loads
@@ -71,7 +71,7 @@ down_write_summed d (Total total) = (
   if total == 0 then Some (Pass d.level) else None,
 )
 
--- what comes after each event of a down-write, in its own phases
+-- what comes after each step of a down-write, in its own phases
 abbrev pub down_write_after : DownWrite → DownWriteStep → ℕ → Next DownWrite × Option Action
 down_write_after d (Enters transition) found =
     (Go (at_down_write d (enter_step d.tasks (transition_after on_enter transition found))), None)
@@ -87,17 +87,17 @@ abbrev pub up_write_next : UpWrite → UpWriteStep → WordName × Touch
 up_write_next u ClearsBlock = (Block u.level, Store 0)
 up_write_next u (Exits transition) = transition_next u.level transition
 
--- the same up-write, with this event of its transition to come
+-- the same up-write, with this step of its transition to come
 abbrev pub at_up_write : UpWrite → Transition → UpWrite
 at_up_write u transition = record u { step = Exits transition }
 
--- what comes after an event of its transition
+-- what comes after a step of its transition
 abbrev pub exit_made : UpWrite → TransitionNext → Next UpWrite
 exit_made u (More transition) = Go (at_up_write u transition)
 exit_made u Undefined = Go (at_up_write u Loads)
 exit_made u (Made state) = Done (Ok UnitReply)
 
--- what comes after each event of an up-write, in its own phases: the level is reopened by the store
+-- what comes after each step of an up-write, in its own phases: the level is reopened by the store
 abbrev pub up_write_after : UpWrite → UpWriteStep → ℕ → Next UpWrite × Option Action
 up_write_after u ClearsBlock found = (Go (at_up_write u Loads), Some (Reopen u.level))
 up_write_after u (Exits transition) found = (exit_made u (transition_after on_exit transition found), None)

@@ -1,4 +1,4 @@
-//! The order of events of a callback of a level's `rcu_sync`.
+//! The order of steps of a callback of a level's `rcu_sync`.
 
 ghost use Rattle.std.specs.Prelude.{◌≡◌};
 ghost use Rattle.percpu_rwsem.specs.Callbacks.{at_callback, callback_next, claimed, callback_looked, called_back, callback_after};
@@ -11,7 +11,7 @@ use crate::transitions::{Transition, TransitionNext};
 use access_model::{Action, Next, Reply};
 use cpu_words::{Touch, WordName};
 
-/// What the next event of a callback is (`rcu_sync_func`, and before it the wait of `call_rcu`).
+/// What the next step of a callback is (`rcu_sync_func`, and before it the wait of `call_rcu`).
 #[derive(Clone, Copy, PartialEq, Eq)]
 pub enum CallbackStep {
     /// Takes the callback that is queued, where one is.
@@ -31,7 +31,7 @@ pub struct Callback {
 }
 
 impl Callback {
-    /// A callback before its first event.
+    /// A callback before its first step.
     #[inline(always)]
     pub fn new(level: u8, tasks: u8) -> Callback
         ensures { result ≡ record { level = level; tasks = tasks; step = Claims Loads } }
@@ -43,7 +43,7 @@ impl Callback {
         }
     }
 
-    /// The word and the touch of the next event.
+    /// The word and the touch of the next step.
     #[inline(always)]
     pub fn next(self) -> (WordName, Touch)
         ensures { result ≡ callback_next self self.step }
@@ -56,7 +56,7 @@ impl Callback {
         }
     }
 
-    /// The same callback, with this step to come.
+    /// Returns the callback with this step to come.
     #[inline(always)]
     fn at(self, step: CallbackStep) -> Callback
         ensures { result ≡ at_callback self step }
@@ -64,7 +64,7 @@ impl Callback {
         Callback { step, ..self }
     }
 
-    /// What comes after an event of the claim: where none is queued, no callback ran.
+    /// What comes after a step of the claim: where none is queued, no callback ran.
     #[inline(always)]
     fn after_claim(self, next: TransitionNext) -> Next<Callback>
         ensures { result ≡ claimed self next }
@@ -93,7 +93,7 @@ impl Callback {
         }
     }
 
-    /// What comes after an event of the callback's own transition.
+    /// What comes after a step of the callback's own transition.
     #[inline(always)]
     fn after_callback(self, next: TransitionNext) -> Next<Callback>
         ensures { result ≡ called_back self next }
@@ -109,7 +109,7 @@ impl Callback {
         }
     }
 
-    /// What comes after the event, which found this. No event of a callback adds an action.
+    /// What comes after the step, which found this. No step of a callback adds an action.
     #[inline(always)]
     pub fn after(self, found: u64) -> (Next<Callback>, Option<Action>)
         ensures { result ≡ callback_after self self.step found }

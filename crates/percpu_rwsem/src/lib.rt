@@ -1,5 +1,5 @@
 //! Freeze levels: the per-processor reader-writer semaphore of a level, with its `rcu_sync` and its grace periods, each operation as an
-//! order of events on words. A phase says which event comes next, and what comes after it.
+//! order of steps on words. A phase says which step comes next, and what comes after it.
 #![tactic(auto)]
 
 pub mod callbacks;

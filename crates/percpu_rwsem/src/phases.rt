@@ -1,4 +1,4 @@
-//! Where an operation at a level stands between two of its events.
+//! Where an operation at a level stands between two of its steps.
 
 ghost use Rattle.std.specs.Prelude.{◌≡◌};
 ghost use Rattle.percpu_rwsem.specs.Phases.{next, after};
@@ -9,7 +9,7 @@ use crate::writers::{DownWrite, UpWrite};
 use access_model::{Action, Next, map_after};
 use cpu_words::{Touch, WordName};
 
-/// Where an operation at a level stands between two of its events.
+/// Where an operation at a level stands between two of its steps.
 #[derive(Clone, Copy)]
 pub enum SemPhase {
     /// `percpu_down_read`, as by `sb_start_write`.
@@ -25,7 +25,7 @@ pub enum SemPhase {
 }
 
 impl SemPhase {
-    /// The word and the touch of the next event. No event of a level reads a hook's answer.
+    /// The word and the touch of the next step. No step of a level reads a hook's answer.
     #[inline(always)]
     pub fn next(&self, hook: Result<(), u16>) -> (WordName, Touch)
         ensures { result ≡ next self.now hook }
@@ -40,7 +40,7 @@ impl SemPhase {
         }
     }
 
-    /// What comes after the event, which found this, and the action that the event adds.
+    /// What comes after the step, which found this, and the action that the step adds.
     #[inline(always)]
     pub fn after(self, found: u64, hook: Result<(), u16>) -> (Next<SemPhase>, Option<Action>)
         ensures { result ≡ after self found hook }

@@ -1,4 +1,4 @@
-//! The orders of events of a down-read and of an up-read.
+//! The orders of steps of a down-read and of an up-read.
 
 ghost use Rattle.std.specs.Prelude.{◌≡◌};
 ghost use Rattle.percpu_rwsem.specs.SyncWords.{unpack};
@@ -9,7 +9,7 @@ use crate::sync_word::{GpState, SyncWord};
 use access_model::{Action, Gate, GateError, Next, Reply};
 use cpu_words::{Touch, WordName};
 
-/// What the next event of a down-read is (`percpu_down_read`, `percpu_down_read_trylock`).
+/// What the next step of a down-read is (`percpu_down_read`, `percpu_down_read_trylock`).
 #[derive(Clone, Copy, PartialEq, Eq)]
 pub enum DownReadStep {
     /// Adds one to its section word, which is odd from then on (`preempt_disable`).
@@ -26,7 +26,7 @@ pub enum DownReadStep {
     CountsDown,
     /// Adds one to its section word, which is even from then on, with the level held.
     LeavesAdmitted,
-    /// The same, with `block` found set.
+    /// Adds one to its section word, which is even from then on, with `block` found set.
     LeavesBlocked,
 }
 
@@ -69,7 +69,7 @@ impl DownReadStep {
 }
 
 impl DownRead {
-    /// A down-read before its first event.
+    /// A down-read before its first step.
     #[inline(always)]
     pub fn new(level: u8, cpu: u8, task: u8, wait: bool) -> DownRead
         ensures { result ≡ record { level = level; cpu = cpu; task = task; wait = wait; step = EntersSection } }
@@ -83,7 +83,7 @@ impl DownRead {
         }
     }
 
-    /// The word and the touch of the next event.
+    /// The word and the touch of the next step.
     #[inline(always)]
     pub fn next(self) -> (WordName, Touch)
         ensures { result ≡ down_read_next self self.step }
@@ -101,7 +101,7 @@ impl DownRead {
         }
     }
 
-    /// The same down-read, with this step to come.
+    /// Returns the down-read with this step to come.
     #[inline(always)]
     fn at(self, step: DownReadStep) -> DownRead
         ensures { result ≡ record self { step = step } }
@@ -109,7 +109,7 @@ impl DownRead {
         DownRead { step, ..self }
     }
 
-    /// What comes after the event, which found this, and the action that the event adds.
+    /// What comes after the step, which found this, and the action that the step adds.
     #[inline(always)]
     pub fn after(self, found: u64) -> (Next<DownRead>, Option<Action>)
         ensures { result ≡ down_read_after self self.step found }
@@ -134,7 +134,7 @@ impl DownRead {
 }
 
 impl UpRead {
-    /// The word and the touch of its event.
+    /// The word and the touch of its step.
     #[inline(always)]
     pub fn next(self) -> (WordName, Touch)
         ensures { result ≡ up_read_next self }
@@ -142,7 +142,7 @@ impl UpRead {
         (WordName::LevelCount(self.level, self.cpu), Touch::Sub(1))
     }
 
-    /// What comes after the event, and the action that the event adds.
+    /// What comes after the step, and the action that the step adds.
     #[inline(always)]
     pub fn after(self) -> (Next<UpRead>, Option<Action>)
         ensures { result ≡ up_read_after self }

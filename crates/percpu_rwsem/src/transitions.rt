@@ -7,7 +7,7 @@ ghost use Rattle.percpu_rwsem.specs.Transitions.{transition_next, transition_aft
 use crate::sync_word::{GpState, SyncWord};
 use cpu_words::{Touch, WordName};
 
-/// What the next event of a transition is. Which transition it is, its phase knows.
+/// What the next step of a transition is. Which transition it is, its phase knows.
 #[derive(Clone, Copy, PartialEq, Eq)]
 pub enum Transition {
     /// Loads the word.
@@ -16,10 +16,10 @@ pub enum Transition {
     Exchanges { from: SyncWord, to: SyncWord },
 }
 
-/// What an event of a transition leads to.
+/// What a step of a transition leads to.
 #[derive(Clone, Copy)]
 pub enum TransitionNext {
-    /// The transition goes on with this event.
+    /// The transition goes on with this step.
     More(Transition),
     /// There is no such transition of the word that was loaded.
     Undefined,
@@ -28,7 +28,7 @@ pub enum TransitionNext {
 }
 
 impl Transition {
-    /// The word and the touch of the next event, at a level.
+    /// The word and the touch of the next step, at a level.
     #[inline(always)]
     pub fn next(self, level: u8) -> (WordName, Touch)
         ensures { result ≡ transition_next level self }
@@ -43,7 +43,7 @@ impl Transition {
         (WordName::Sync(level), touch)
     }
 
-    /// What comes after the event, which found this, of the transition that `on` makes. A number that is no word is loaded again, and
+    /// What comes after the step, which found this, of the transition that `on` makes. A number that is no word is loaded again, and
     /// so is one that another task changed before the exchange.
     #[inline(always)]
     pub fn after<F: FnOnce(SyncWord) -> Option<SyncWord>>(self, found: u64, on: F) -> TransitionNext

@@ -1,4 +1,4 @@
-//! The orders of events of a down-write and of an up-write.
+//! The orders of steps of a down-write and of an up-write.
 
 ghost use Rattle.std.specs.Prelude.{◌≡◌};
 ghost use Rattle.access_model.specs.declared.replies.Next.TheVariants.{Go};
@@ -24,7 +24,7 @@ use crate::transitions::{Transition, TransitionNext};
 use access_model::{Action, Next, Reply};
 use cpu_words::{Sum, Taken, Touch, WordName};
 
-/// What the next event of a down-write is (`percpu_down_write`).
+/// What the next step of a down-write is (`percpu_down_write`).
 #[derive(Clone, Copy, PartialEq, Eq)]
 pub enum DownWriteStep {
     /// Enters the level's `rcu_sync` (`rcu_sync_enter`).
@@ -50,7 +50,7 @@ pub struct DownWrite {
     pub step: DownWriteStep,
 }
 
-/// What the next event of an up-write is (`percpu_up_write`).
+/// What the next step of an up-write is (`percpu_up_write`).
 #[derive(Clone, Copy, PartialEq, Eq)]
 pub enum UpWriteStep {
     /// Sets `block` to 0.
@@ -67,7 +67,7 @@ pub struct UpWrite {
 }
 
 impl DownWriteStep {
-    /// What comes after an event of the enter, among so many tasks.
+    /// What comes after a step of the enter, among so many tasks.
     #[inline(always)]
     fn after_enter(next: TransitionNext, tasks: u8) -> DownWriteStep
         ensures { result ≡ enter_step tasks next }
@@ -85,7 +85,7 @@ impl DownWriteStep {
         }
     }
 
-    /// What comes after an event of the transition that ends the grace period.
+    /// What comes after a step of the transition that ends the grace period.
     #[inline(always)]
     fn after_callback(next: TransitionNext) -> DownWriteStep
         ensures { result ≡ callback_step next }
@@ -99,7 +99,7 @@ impl DownWriteStep {
 }
 
 impl DownWrite {
-    /// The word and the touch of the next event.
+    /// The word and the touch of the next step.
     #[inline(always)]
     pub fn next(self) -> (WordName, Touch)
         ensures { result ≡ down_write_next self self.step }
@@ -117,7 +117,7 @@ impl DownWrite {
         }
     }
 
-    /// The same down-write, with this step to come.
+    /// Returns the down-write with this step to come.
     #[inline(always)]
     fn at(self, step: DownWriteStep) -> DownWrite
         ensures { result ≡ at_down_write self step }
@@ -165,7 +165,7 @@ impl DownWrite {
         }
     }
 
-    /// What comes after the event, which found this, and the action that the event adds.
+    /// What comes after the step, which found this, and the action that the step adds.
     #[inline(always)]
     pub fn after(self, found: u64) -> (Next<DownWrite>, Option<Action>)
         ensures { result ≡ down_write_after self self.step found }
@@ -192,7 +192,7 @@ impl DownWrite {
 }
 
 impl UpWrite {
-    /// The word and the touch of the next event.
+    /// The word and the touch of the next step.
     #[inline(always)]
     pub fn next(self) -> (WordName, Touch)
         ensures { result ≡ up_write_next self self.step }
@@ -203,7 +203,7 @@ impl UpWrite {
         }
     }
 
-    /// The same up-write, with this event of its transition to come.
+    /// Returns the up-write with this step of its transition to come.
     #[inline(always)]
     fn at(self, transition: Transition) -> Next<UpWrite>
         ensures { result ≡ Go (at_up_write self transition) }
@@ -214,7 +214,7 @@ impl UpWrite {
         })
     }
 
-    /// What comes after the event, which found this, and the action that the event adds.
+    /// What comes after the step, which found this, and the action that the step adds.
     #[inline(always)]
     pub fn after(self, found: u64) -> (Next<UpWrite>, Option<Action>)
         ensures { result ≡ up_write_after self self.step found }

@@ -56,7 +56,7 @@ impl Counts {
 }
 
 /// Writes what the schedules and races of some files print into them, in the place of what they say of it. Writes how many were written, stayed as
-/// they were, and failed; a file that has a fault, or can't be read or written, is told on the writer of faults, and stays as it is. So does one that is no
+/// they were, and failed; a file that has a fault, or can't be read or written, is printed on the writer of faults, and stays as it is. So does one that is no
 /// regular file, or has other names. Of a link the file is written to which it leads.
 pub fn run_blessings<R: Files + Alloc<A = Global>, I: Read, W: Write, E: Write>(
     rt: &R,

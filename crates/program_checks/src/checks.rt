@@ -22,7 +22,7 @@ struct Checks {
     alloc: Global,
     passed: u64,
     failed: u64,
-    /// Whether all that was to be told so far is written.
+    /// Whether all that was to be printed so far is written.
     is_written: bool,
 }
 
@@ -50,7 +50,7 @@ impl Checks {
         }
     }
 
-    /// Checks a schedule, counts it, and writes what differs. Want of memory is told on the writer of faults, and then it has failed.
+    /// Checks a schedule, counts it, and writes what differs. Want of memory is printed on the writer of faults, and then it has failed.
     fn add<W: Write, E: Write>(&mut self, source: Source<'_>, writer: &mut W, errors: &mut E)
         requires { self.old.passed + self.old.failed + 1 < 2 ^ 64 }
         ensures counted { self.new.passed + self.new.failed ≡ self.old.passed + self.old.failed + 1 }
@@ -119,7 +119,7 @@ fn tell_counts(passed: u64, failed: u64, told: &mut Output)
 }
 
 /// Checks the schedules of some files, or that of the reader, where none is named. Writes what differs, file by file, and last how many passed and
-/// failed; a file that can't be read is told on the writer of faults, and has failed.
+/// failed; a file that can't be read is printed on the writer of faults, and has failed.
 pub fn run_checks<R: Files + Alloc<A = Global>, I: Read, W: Write, E: Write>(
     rt: &R,
     alloc: Global,

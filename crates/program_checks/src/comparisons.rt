@@ -240,7 +240,7 @@ impl Comparison<'_> {
     }
 }
 
-/// Returns what is told of the first line of a race's file that claims something by what is no condition.
+/// Returns what is printed of the first line of a race's file that claims something by what is no condition.
 fn bad_claim_in(
     alloc: Global,
     source: Source<'_>,

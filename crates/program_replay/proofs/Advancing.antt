@@ -1,4 +1,4 @@
--- After a step of one task, and after all have met, the gates show the world that the step's entry makes.
+-- After a step of one task, and after all have met, the gates show the state that the step's transition makes.
 use Rattle.std.proofs.{Common.{◌≡◌, ◌≢◌, ℕ, ◌<◌, ◌≤◌, List, [], ◌∷◌, length, refl, sym, ap, ◌∙◌, subst, inl, inr, arith}, Math.ListN.{length-set}}
 use Rattle.std.proofs.lemmas.{Bool.{lt-ltb, Decides.eqb_tells}, List.{get_or_default}}
 use Rattle.std.specs.Prelude.{Option, Some, slice_index_or, slice_set}
@@ -18,7 +18,7 @@ use Rattle.vfs_gates.specs.TaskStates.{SeatedTask, own_number, own_view}
 use Rattle.program_replay.specs.{Shown.{IsShown, TasksShow}, Standing.{AreGathered, Stands, StandsLater}}
 use Rattle.program_replay.proofs.{Reading.{StepRead, come_on, step_read, view_on, world_on}, Still.{come, under_way}}
 
--- who is at the same phase after the same events has come as far
+-- who is at the same phase after the same steps has come as far
 come_same : (v u : View) → v.phase ≡ u.phase → v.events ≡ u.events → come v ≡ come u
 come_same v u phases events =
     let one : under_way v.phase ≡ under_way u.phase = ap under_way phases in
@@ -85,7 +85,7 @@ module _ (c : Config) (w : World) (old mid new : List SeatedTask) (list : List �
   same_last : (k : ℕ) → k < c.tasks → last k ≡ record (then k) { seen = (last k).seen }
   same_last k lk = gathered.same k d (within_mid k lk)
 
-  -- how far a task has come that did not step, in each world from the first to one after the step
+  -- how far a task has come that did not step, in each state from the first to one after the step
   rests : (k : ℕ) → k < c.tasks → k ≢ t → (es : List Entry) → IsPrefix es read_of.now →
       come ((world_after c es).views k) ≤ come ((world_after c shows.entries).views k)
   rests k lk ne es on =
@@ -118,7 +118,7 @@ module _ (c : Config) (w : World) (old mid new : List SeatedTask) (list : List �
       come_same ((world_after c shows.entries).views t) (own_view (first t).items) (was t lt).stands.phase (was t lt).stands.events in
       omega (arith, there, near)
 
-  -- the world of the step is that of the tasks
+  -- the state of the step is that of the tasks
   same_past : world_after c read_of.past ≡ world_after c shows.entries
   same_past = world_on c shows.entries read_of.past before (λ n ln. elim (eqb_tells n t) [
     | inl is ↦ subst (λ (k : ℕ). come ((world_after c read_of.past).views k) ≤ come ((world_after c shows.entries).views k)) (sym is.1) own_rests

@@ -1,4 +1,4 @@
--- The calls of the gates that one thread drives, in the world that they show.
+-- The calls of the gates that one thread drives, in the state that they show.
 use Rattle.std.proofs.{Common.{◌≡◌, ℕ, zero, suc, ◌-◌, ◌<◌, List, ◌∷◌, length, refl, sym, ap, ◌∙◌, subst, inl, inr, arith}, lemmas.{Bool.{lt-ltb, Decides.eqb_tells}, List.{get_or_default}}}
 use Rattle.std.specs.Prelude.{Option, Some, None, Result, Ok, Err, OnOk, OnErr, slice_index_or, slice_set}
 use Rattle.access_model.specs.declared.errors.GateError.{GateError}
@@ -13,7 +13,7 @@ use Rattle.program_replay.specs.{Driven.{AreOthersKept, GatesShow, task_in, task
 use Rattle.program_replay.specs.{Standing.{AreGathered, with_begun}, declared.gates_driver.GatesDriver.{GatesDriver}}
 use Rattle.program_replay.proofs.{Advancing.{step_answered, step_shown}, Beginning.{begin_answered, begin_shown, refused_shown}, Idle.{idle_steps}}
 
--- a step that has an event is not that of an idle task
+-- a step that touches a word is not that of an idle task
 not_idle : {B : Type 0} (done : Step) (event : Event) → done ≡ idle_step → done.event ≡ Some event → B
 not_idle done event is its = absurd (let no : None ≡ Some event = sym (ap (λ (s : Step). s.event) is) ∙ its in let never : ⊥ = cc in never)
 

@@ -11,7 +11,7 @@ use Rattle.program_replay.specs.Standing.{AreGathered, HasMet, HasOnlySeen, Stan
 seen_on : (a b : List (List Entry)) → StaySeen a b → (e : List Entry) → HasSeen e a → HasSeen e b
 seen_on a b stay e h = let r = stay h.0 h.1 h.2 in (r.0, r.1, r.2, after_more e h.1 r.1 h.3 r.3)
 
--- the own number of the first of two tasks whose numbers stand in one world
+-- the own number of the first of two tasks whose numbers stand in one state
 first_view : (views : ℕ → View) (mine others : DealtNumbers) → HaveViews views (mine ++ others) → 1 ≤ length mine →
     views (own_number mine) ≡ own_view mine
 first_view views [] others have there = absurd (omega (arith, there))

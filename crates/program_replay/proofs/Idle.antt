@@ -1,4 +1,4 @@
--- Entries of tasks that are idle or that there aren't.
+-- Transitions of tasks that are idle or that there aren't.
 use Rattle.std.proofs.{Common.{◌≡◌, ℕ, ◌≤◌, refl}, lemmas.Bool.{le-ltb, lt-ltb}}
 use Rattle.std.specs.Prelude.{◌<◌, None, Err}
 use Rattle.access_model.specs.declared.errors.GateError.TheVariants.{Invalid}

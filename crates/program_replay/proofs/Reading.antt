@@ -15,7 +15,7 @@ use Rattle.gate_steps.proofs.call_events.{Grown.{after_more, only_seen}, Moments
 use Rattle.gate_steps.specs.declared.seating.Numbered.{Numbered}
 use Rattle.program_replay.proofs.Still.{come, grows_on, view_stays, world_stays}
 
--- the world after an execution, from the one after an earlier one
+-- the state after an execution, from the one after an earlier one
 later_world : (c : Config) (a b : List Entry) (p : IsPrefix a b) → world_after c b ≡ run c (world_after c a) p.0
 later_world c a b p = ap (λ (l : List Entry). run c opening l) p.1 ∙ run_append c a p.0 opening
 
@@ -32,7 +32,7 @@ view_on c a b p n no_more =
     view_stays c p.0 (world_after c a) n
     (subst (λ (x : World). come (x.views n) ≤ come ((world_after c a).views n)) (later_world c a b p) no_more)
 
--- where no task has, the world is the same
+-- where no task has, the state is the same
 pub world_on : (c : Config) (a b : List Entry) → IsPrefix a b →
     ((n : ℕ) → n < c.tasks → come ((world_after c b).views n) ≤ come ((world_after c a).views n)) → world_after c b ≡ world_after c a
 world_on c a b p no_more =

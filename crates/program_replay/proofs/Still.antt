@@ -1,4 +1,4 @@
--- A number that has come no further has its view still, and a world in which no task has come further is the same world.
+-- A number that has come no further has its view still, and a state in which no task has come further is the same state.
 use Rattle.std.proofs.{Common.{◌≡◌, ℕ, suc, ◌+◌, ◌*◌, ◌<◌, ◌≤◌, ◌⊎◌, List, [], ◌∷◌, length, refl, sym, ap, ◌∙◌, subst, inl, inr, arith}}
 use Rattle.std.proofs.lemmas.Bool.{ltb-true, cases_Bool, Decides.eqb_tells}
 use Rattle.std.specs.Prelude.{nat_lt, is_some, Option, Some, None}
@@ -15,7 +15,7 @@ abbrev pub under_way : Option Phase → ℕ
 under_way None = 0
 under_way (Some phase) = 1
 
--- how far a number has come: two for each event, and one for an operation under way
+-- how far a number has come: two for each step, and one for an operation under way
 abbrev pub come : View → ℕ
 come v = 2 * length v.events + under_way v.phase
 
@@ -25,7 +25,7 @@ pub record Moved (c : Config) (w next : World) (t : ℕ) : Type 0 where
   pub further : come (w.views t) < come (next.views t)
   pub others : (n : ℕ) → (n ≡ t → ⊥) → next.views n ≡ w.views n
 
--- one event more, whatever is under way then
+-- one step more, whatever is under way then
 one_more : (n k : ℕ) → 2 * n + 1 < 2 * suc n + k
 one_more n k = omega arith
 
@@ -54,7 +54,7 @@ begin_moves c w t op lt None e =
     let more : come v ≡ 2 * length (w.views t).events + 1 = refl in
     inr (record { task = lt; further = omega (arith, was, is, more); others = λ n ne. update_off w.views t v n ne })
 
--- an entry changes nothing, or its task has come further
+-- a transition changes nothing, or its task has come further
 moves : (c : Config) (w : World) (e : Entry) → (happens c w e ≡ w) ⊎ Moved c w (happens c w e) (task_of e)
 moves c w (Begins t op) =
     elim (cases_Bool (nat_lt t c.tasks)) [
@@ -93,7 +93,7 @@ one_stays c w e n no_more =
       ]
     ]
 
--- the world stays, where its task has come no further
+-- the state stays, where its task has come no further
 entry_stays : (c : Config) (w : World) (e : Entry) →
     (task_of e < c.tasks → come ((happens c w e).views (task_of e)) ≤ come (w.views (task_of e))) → happens c w e ≡ w
 entry_stays c w e no_more =
@@ -102,7 +102,7 @@ entry_stays c w e no_more =
       | inr moved ↦ (let further = moved.further in let bound = no_more moved.task in absurd (omega (arith, further, bound)))
     ]
 
--- no entry takes a number back
+-- no transition takes a number back
 pub grows_on : (c : Config) (es : List Entry) (w : World) (n : ℕ) → come (w.views n) ≤ come ((run c w es).views n)
 grows_on c [] w n = omega arith
 grows_on c (e ∷ es) w n =
@@ -121,7 +121,7 @@ view_stays c (e ∷ es) w n no_more =
     let first : come ((happens c w e).views n) ≤ come (w.views n) = omega (arith, on, no_more) in
     view_stays c es (happens c w e) n still ∙ one_stays c w e n first
 
--- where no task has, the world is the same
+-- where no task has, the state is the same
 pub world_stays : (c : Config) (es : List Entry) (w : World) →
     ((n : ℕ) → n < c.tasks → come ((run c w es).views n) ≤ come (w.views n)) → run c w es ≡ w
 world_stays c [] w no_more = refl

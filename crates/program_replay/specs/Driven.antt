@@ -1,4 +1,4 @@
--- What a call of the gates that one thread drives does to their tasks, and which world they show.
+-- What a call of the gates that one thread drives does to their tasks, and which state they show.
 use Rattle.std.specs.Prelude.{◌≡◌, ◌≢◌, ℕ, List, ◌∷◌, slice_index_or, vec_len}
 use Rattle.gate_world.specs.{Worlds.{World}, declared.config.Config.{Config}}
 use Rattle.vfs_gates.specs.TaskStates.{SeatedTask}
@@ -17,7 +17,7 @@ abbrev pub AreOthersKept : ℕ → GatesDriver → GatesDriver → Type 0
 AreOthersKept number old left = (left.config ≡ old.config) × (left.gates ≡ old.gates) × (vec_len left.others ≡ vec_len old.others) ×
     ((k : ℕ) (t : SeatedTask) → k ≢ number → task_in left k t ≡ task_in old k t)
 
--- the gates of this configuration show the world that their tasks and their list of words show
+-- the gates of this configuration show the state that their tasks and their list of words show
 pub record GatesShow (driver : GatesDriver) (c : Config) (w : World) : Type 0 where
   pub config : driver.config ≡ c
   pub shows : TasksShow (tasks_of driver) driver.words.items c w

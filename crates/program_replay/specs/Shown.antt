@@ -1,4 +1,4 @@
--- Which world the gates show that one thread drives.
+-- Which state the gates show that one thread drives.
 use Rattle.std.specs.Prelude.{◌≡◌, ℕ, ◌<◌, ◌≤◌, None, List, [], ◌∷◌, length, slice_index_or}
 use Rattle.cpu_words.specs.{Lists.{ListShows}, Names.{words_in_all}}
 use Rattle.gate_world.specs.{Configs.{IsWithin, extents_kept}, Fits.{Fits}, Headline.{world_after}, Views.{held_of, opening_view}, Worlds.{World}}
@@ -7,7 +7,7 @@ use Rattle.gate_steps.specs.{Seating.{DealtNumbers}, call_events.Grown.{HasSeen}
 use Rattle.vfs_gates.specs.TaskStates.{SeatedTask, own_number, own_view}
 use Rattle.program_replay.specs.Standing.{Stands}
 
--- These entries are the execution on the table. The task has seen them, and stands after them as it knows. In the world that is shown its number has
+-- These transitions are the execution on the table. The task has seen them, and stands after them as it knows. In the state that is shown its number has
 -- done what the task knows, and is at the task's phase: that of an operation that has begun, too, of which the table knows nothing yet.
 pub record IsShown (c : Config) (entries : List Entry) (w : World) (number : ℕ) (s : SeatedTask) : Type 0 where
   pub there : 1 ≤ length s.items
@@ -19,7 +19,7 @@ pub record IsShown (c : Config) (entries : List Entry) (w : World) (number : ℕ
   pub actions : (w.views number).actions ≡ (own_view s.items).actions
   pub fits : Fits c number (held_of (own_view s.items)) s.phase
 
--- Such tasks, one for each number, and a list of words show this world: it has the words of the table, which are those of the list.
+-- Such tasks, one for each number, and a list of words show this state: it has the words of the table, which are those of the list.
 pub record TasksShow (tasks : List SeatedTask) (list : List ℕ) (c : Config) (w : World) : Type 0 where
   pub within : IsWithin c
   pub count : length tasks ≡ c.tasks

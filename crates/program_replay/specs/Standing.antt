@@ -13,7 +13,7 @@ with_begun op s = record s { begins = Some op; phase = Some (first_phase s.confi
 abbrev pub HasOnlySeen : SeatedTask → SeatedTask → Type 0
 HasOnlySeen old left = left ≡ record old { seen = left.seen }
 
--- the own number of a task stands in this world as the task knows it: at this phase, after these events
+-- the own number of a task stands in this state as the task knows it: at this phase, after these steps
 pub record Stands (w : World) (number : ℕ) (s : SeatedTask) : Type 0 where
   pub phase : (w.views number).phase ≡ (own_view s.items).phase
   pub events : (w.views number).events ≡ (own_view s.items).events

@@ -1,4 +1,4 @@
--- A law of drivers, of the gates that one thread drives: what they tell of a word is its value in the world that they show. It is the core's law, of a
+-- A law of drivers, of the gates that one thread drives: what they tell of a word is its value in the state that they show. It is the core's law, of a
 -- core with these words.
 use Rattle.std.specs.Prelude.{◌≡◌, ℕ, Option, Some, List, [], slice_get}
 use Rattle.std.proofs.{Common.{ap, refl, ◌∙◌, arith}, lemmas.Option.{slice_get-get_or}}

@@ -30,7 +30,7 @@ use std::alloc::Global;
 use std::io::{Read, Write};
 use vfs_gates::{Gates, Task};
 
-/// The gates with a task for each number, none of which is ever joined, and the words as the events of all steps have left them.
+/// The gates with a task for each number, none of which is ever joined, and the words as all steps have left them.
 /// Gates that are open tell no word: another thread might change it. Here there is none. That shows after each step, when all tasks meet.
 #[derive(Drop)]
 pub struct GatesDriver {
@@ -86,7 +86,7 @@ impl GatesDriver {
         }
     }
 
-    /// Does the next event of a task that there is; none of an idle one.
+    /// Does the next step of a task that there is; none of an idle one.
     fn step_there(&mut self, number: usize, hook: Result<(), u16>) -> Step
         requires there { number ≤ vec_len self.old.others }
         ensures event { (t : SeatedTask) (phase : Phase) → (task_in self.old number t).phase ≡ Some phase →
@@ -116,7 +116,7 @@ impl GatesDriver {
         meet_each(&self.gates, &mut self.first, self.others.as_mut_slice());
     }
 
-    /// Notes what an event left of its word.
+    /// Notes what a step left of its word.
     fn note(&mut self, event: Event)
         ensures words { self.new.words.items ≡ words_after (Some event) self.old.words.items }
         ensures config { self.new.config ≡ self.old.config }
@@ -129,8 +129,8 @@ impl GatesDriver {
     }
 }
 
-/// The gates that threads use show the same worlds as the core, since no other thread moves them. Their words, which `words` and `tree` print, are
-/// those of a list that each step moves by its event.
+/// The gates that threads use show the same states as the core, since no other thread moves them. Their words, which `words` and `tree` print, are
+/// those of a list that each step moves.
 impl Driver for GatesDriver {
     ghost use Rattle.std.specs.Prelude.{true};
     ghost use Rattle.program_replay.specs.Driven.{GatesShow};
@@ -161,7 +161,7 @@ impl Driver for GatesDriver {
         self.begin_there(number, op)
     }
 
-    /// Does the next event of a task's operation, and notes what it left of its word; none of a task that is idle or that there isn't.
+    /// Does the next step of a task's operation, and notes what it left of its word; none of a task that is idle or that there isn't.
     fn step(&mut self, task: u8, hook: Result<(), u16>) -> Step {
         let number = task as usize;
         if number > self.others.len() {
@@ -185,7 +185,7 @@ impl Driver for GatesDriver {
         }
     }
 
-    /// The value of a word, as the events so far have left it; None where the configuration has no such word.
+    /// The value of a word, as the steps so far have left it; None where the configuration has no such word.
     fn word(&self, name: WordName) -> Option<u64> {
         if self.config.has_word(name) {
             self.words.get(name.place()).copied()
@@ -197,7 +197,7 @@ impl Driver for GatesDriver {
 
 /// Reads a schedule and replays it over the gates that threads use, driven by this one thread: it prints what `line_players`' `replay` prints of the
 /// same bytes, and ends by the same faults. A task is made for each number by splits, and none is joined. Words and trees are printed from a list
-/// that each step moves by its event, since gates tell their words only once they are closed.
+/// that each step moves, since gates tell their words only once they are closed.
 ///
 /// # Errors
 ///

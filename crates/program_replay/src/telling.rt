@@ -16,18 +16,18 @@ use std::alloc::Global;
 use std::io::{Read, Write};
 use transcripts::{no_memory, settled};
 
-/// What is told of a fault.
+/// What is printed of a fault.
 #[derive(Clone, Copy)]
 pub struct Telling<'a> {
-    /// Where the memory of the replay, and of what is told, comes from.
+    /// Where the memory of the replay, and of what is printed, comes from.
     pub alloc: Global,
     /// The schedule's file, if it has one.
     pub file: Option<&'a str>,
-    /// Whether the faulty line is told too, and how to mend it.
+    /// Whether the faulty line is printed too, and how to mend it.
     pub explains: bool,
 }
 
-/// A schedule over whatever gates. Its fault is told on a writer of faults, and where that can't be done it ends the same.
+/// A schedule over whatever gates. Its fault is printed on a writer of faults, and where that can't be done it ends the same.
 pub fn replay_told<D: Driver, R: Read, W: Write, E: Write>(
     telling: Telling<'_>,
     reader: &mut R,
@@ -48,7 +48,7 @@ pub fn replay_told<D: Driver, R: Read, W: Write, E: Write>(
     ended.result
 }
 
-/// A schedule over the gates that threads use, as `replay_told` does one over whatever gates. Unless a fault's line is told too, it is a plain
+/// A schedule over the gates that threads use, as `replay_told` does one over whatever gates. Unless a fault's line is printed too, it is a plain
 /// `replay_gates`, which keeps no line.
 pub fn replay_gates_told<R: Read, W: Write, E: Write>(
     telling: Telling<'_>,

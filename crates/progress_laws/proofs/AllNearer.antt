@@ -1,27 +1,18 @@
 -- Each phase of each layer; and that its three numbers are small.
-use Rattle.std.proofs.{Common.{Some, ◌≡◌, ℕ, ◌+◌, ◌*◌, ◌≤◌, Bool, true, sym, subst, inl, inr, arith}, lemmas.Bool.cases_Bool, Math.Nat.{le-max_left, le-max_right}}
-use Rattle.std.specs.Prelude.{◌==◌}
+use Rattle.progress_laws.proofs.Prelude.{Bool, CallbackStep, ClosePhase, Config, DownReadStep, DownWriteStep, DownWriteStepFits, Freeze, FreezeFits}
+use Rattle.progress_laws.proofs.Prelude.{FreezeStep, Grace, Holdings, HookAnswer, IsWithin, Next, Phase, PhaseFits, ThawStep, Transition, UpWriteStep}
+use Rattle.progress_laws.proofs.Prelude.{WantStep, Words, WritePhase, after_of, arith, cases_Bool, closing_left, common_steps, exchange_rank}
+use Rattle.progress_laws.proofs.Prelude.{freeze_left, freeze_tries, inl, inr, is_outside, map_next, must_wait, opening_left, start_left, start_steps}
+use Rattle.progress_laws.proofs.Prelude.{steps_left, subst, sym, tries_left, true, ℕ, ◌*◌, ◌+◌, ◌==◌, ◌≡◌, ◌≤◌}
+use Rattle.std.proofs.{Common.Some, Math.Nat.{le-max_left, le-max_right}}
 use Rattle.access_model.specs.declared.actions.Holder.{Holder}
-use Rattle.cpu_words.specs.Words.{Words}
-use Rattle.composite_ops.specs.declared.{file_closes.phases.ClosePhase.ClosePhase, write_access.phases.WritePhase.WritePhase}
-use Rattle.freeze_levels.specs.declared.{freezes.{Freeze.Freeze, FreezeStep.FreezeStep}, thaws.ThawStep.ThawStep}
-use Rattle.percpu_rwsem.specs.declared.{callbacks.CallbackStep.CallbackStep, grace.Grace.Grace, readers.DownReadStep.DownReadStep}
-use Rattle.percpu_rwsem.specs.declared.{transitions.Transition.Transition, writers.{DownWriteStep.DownWriteStep, UpWriteStep.UpWriteStep}}
-use Rattle.gate_world.specs.{Configs.IsWithin, Fits.{DownWriteStepFits, FreezeFits, GraceFits, PhaseFits, ThawFits}, Holdings.Holdings}
-use Rattle.gate_world.specs.declared.{config.Config.Config, work.Phase.Phase}
-use Rattle.gate_schedules.proofs.operations.deadlocks.Bounds.{rank_small}
-use Rattle.gate_schedules.specs.operations.Ranks.{exchange_rank, most_alone}
-use Rattle.mount_counts.specs.{Ranks.want_rank, declared.phases.WantStep.WantStep}
-use Rattle.access_model.specs.{Replies.map_next, declared.replies.Next.Next}
+use Rattle.gate_world.specs.Fits.{GraceFits, ThawFits}
+use Rattle.gate_schedules.{proofs.operations.deadlocks.Bounds.rank_small, specs.operations.Ranks.most_alone}
+use Rattle.mount_counts.specs.Ranks.{want_rank}
 use Rattle.composite_ops.specs.{file_closes.Phases.after as close_after, write_access.Phases.after as write_after}
-use Rattle.cpu_words.specs.Hooks.{HookAnswer}
-use Rattle.gate_world.specs.Work.{after_of}
-use Rattle.std.proofs.lemmas.Grind.{common_steps}
-use Rattle.progress_laws.specs.StepsLeft.{start_room_of, try_room_of, callback_left, close_left, closed_left, closing_left, opening_left, freeze_left, freeze_tries, grace_left, most_steps}
-use Rattle.progress_laws.specs.StepsLeft.{start_left, start_steps, steps_left, thaw_left, tries_left, write_left}
-use Rattle.progress_laws.specs.Waiting.{is_outside, must_wait}
-use Rattle.progress_laws.proofs.{Calls.{callback_phase, close_phase, end_phase, mount_phase, remount_phase, start_phase, tree_phase, write_phase}}
-use Rattle.progress_laws.proofs.{Freezes.{freeze_phase, thaw_phase}, Nearer.NearsPhase}
+use Rattle.progress_laws.proofs.Calls.{callback_phase, close_phase, end_phase, mount_phase, remount_phase, start_phase, tree_phase, write_phase}
+use Rattle.progress_laws.{proofs.{Freezes.{freeze_phase, thaw_phase}, Nearer.NearsPhase}, specs.StepsLeft.{start_room_of, try_room_of, callback_left}}
+use Rattle.progress_laws.specs.StepsLeft.{close_left, closed_left, grace_left, most_steps, thaw_left, write_left}
 
 pub phase_comes : (c : Config) (phase : Phase) → NearsPhase c phase
 phase_comes c (Phase.Mounts x) = mount_phase c x
@@ -43,10 +34,7 @@ start_few : (block : ℕ) (wait : Bool) (s : DownReadStep) → start_left block 
 start_few block wait s = grind arith
 
 pub starts_small : (w : Words) (phase : Phase) → start_steps w phase ≤ start_room_of (Some phase)
-starts_small w (Phase.DownReads r) = start_few (w.block r.level) r.wait r.step
-starts_small w (Phase.Writes (WritePhase.Takes m r)) = start_few (w.block r.level) r.wait r.step
-starts_small w (Phase.Closes (ClosePhase.Enters f node r)) = start_few (w.block r.level) r.wait r.step
-starts_small w phase = omega arith
+starts_small w phase = grind (arith, start_few)
 
 pub exchange_few : (sync : ℕ) (x : Transition) → exchange_rank sync x ≤ 2
 exchange_few sync x = grind arith
@@ -63,17 +51,10 @@ pub grace_few : (g : Grace) → grace_left g ≤ 2 * g.tasks + 1
 grace_few g = grind arith
 
 pub callback_few : (tasks : ℕ) (s : CallbackStep) → GraceFits tasks s → callback_left tasks s ≤ 2 * tasks + 3
-callback_few tasks (CallbackStep.Claims x) f = omega arith
-callback_few tasks (CallbackStep.AwaitsSections g) f = omega (arith, grace_few g, f.0)
-callback_few tasks (CallbackStep.CallsBack x) f = omega arith
+callback_few tasks s f = grind (arith, grace_few)
 
 closing_few : (c : Config) (tasks : ℕ) (s : DownWriteStep) → tasks ≡ c.tasks → DownWriteStepFits c s → closing_left tasks s ≤ 2 * c.tasks + 5
-closing_few c tasks (DownWriteStep.Enters x) e f = omega (arith, e)
-closing_few c tasks (DownWriteStep.AwaitsSections g) e f = omega (arith, grace_few g, f.0)
-closing_few c tasks (DownWriteStep.CallsBack x) e f = omega arith
-closing_few c tasks DownWriteStep.AwaitsPassed e f = omega arith
-closing_few c tasks DownWriteStep.SetsBlock e f = omega arith
-closing_few c tasks (DownWriteStep.Sums sum) e f = omega arith
+closing_few c tasks s e f = grind (arith, grace_few)
 
 closed_few : (x : Freeze) (level : ℕ) → closed_left x level ≤ 4 * x.tasks + x.nodes + 23
 closed_few x level =
@@ -88,13 +69,7 @@ opening_few level (UpWriteStep.Exits x) = omega arith
 
 pub freeze_steps : (c : Config) (x : Freeze) (s : FreezeStep) → x.tasks ≡ c.tasks → x.nodes ≡ c.nodes → FreezeFits c x.holder s →
     freeze_left x s ≤ 6 * c.tasks + c.nodes + 33
-freeze_steps c x (FreezeStep.Closes d) tasks nodes f = omega (arith, closing_few c d.tasks d.step f.2 f.4, closed_few x d.level, tasks, nodes)
-freeze_steps c x (FreezeStep.Waits d) tasks nodes f = omega (arith, closing_few c d.tasks d.step f.0.2 f.0.4, closed_few x d.level, tasks, nodes)
-freeze_steps c x (FreezeStep.Undoes level transition code) tasks nodes f = omega (arith, f.1)
-freeze_steps c x (FreezeStep.GivesUp level code) tasks nodes f = omega (arith, f.1)
-freeze_steps c x (FreezeStep.Cleans marks) tasks nodes f = omega (arith, f.0, tasks)
-freeze_steps c x (FreezeStep.Reopens u code) tasks nodes f = omega (arith, opening_few u.level u.step, f.1)
-freeze_steps c x s tasks nodes f = omega (arith, tasks, nodes)
+freeze_steps c x s tasks nodes f = grind (arith, closing_few, closed_few, opening_few)
 
 pub thaw_steps : (x : Holder) (s : ThawStep) → ThawFits x s → thaw_left s ≤ 14
 thaw_steps x (ThawStep.Reopens u) f = omega (arith, opening_few u.level u.step, f.1)
@@ -141,9 +116,7 @@ RoomFalls c p (Next.Done answer) = Unit {0}
 room_in : {A : Type 0} (c : Config) (to : A → Phase) (p : Phase) (next : Next A) →
     ((x : A) → (start_room_of (Some (to x)) ≤ start_room_of (Some p)) × (try_room_of c.processors (Some (to x)) ≤ try_room_of c.processors (Some p))) →
     RoomFalls c p (map_next to next)
-room_in c to p (Next.Go x) h = h x
-room_in c to p (Next.Wait x) h = h x
-room_in c to p (Next.Done answer) h = tt
+room_in c to p next h = grind arith
 
 writes_left : (m cpu : ℕ) (found : ℕ) (x : WritePhase) (c : Config) → RoomFalls c (Phase.Writes x) (map_next Phase.Writes (write_after x found).0)
 writes_left m cpu found x c = grind arith
@@ -152,13 +125,4 @@ closes_left : (found : ℕ) (x : ClosePhase) (c : Config) → RoomFalls c (Phase
 closes_left found x c = grind (arith, common_steps)
 
 pub room_falls : (c : Config) (p : Phase) (found : ℕ) (hook : HookAnswer) → RoomFalls c p (after_of p found hook).0
-room_falls c (Phase.Mounts x) found hook = room_in c Phase.Mounts (Phase.Mounts x) _ (λ y. (omega arith, omega arith))
-room_falls c (Phase.Remounts x) found hook = room_in c Phase.Remounts (Phase.Remounts x) _ (λ y. (omega arith, omega arith))
-room_falls c (Phase.DownReads x) found hook = room_in c Phase.DownReads (Phase.DownReads x) _ (λ y. (omega arith, omega arith))
-room_falls c (Phase.UpReads x) found hook = tt
-room_falls c (Phase.Callbacks x) found hook = room_in c Phase.Callbacks (Phase.Callbacks x) _ (λ y. (omega arith, omega arith))
-room_falls c (Phase.Writes x) found hook = writes_left 0 0 found x c
-room_falls c (Phase.Freezes x) found hook = room_in c Phase.Freezes (Phase.Freezes x) _ (λ y. (omega arith, omega arith))
-room_falls c (Phase.Thaws x) found hook = room_in c Phase.Thaws (Phase.Thaws x) _ (λ y. (omega arith, omega arith))
-room_falls c (Phase.Trees x) found hook = room_in c Phase.Trees (Phase.Trees x) _ (λ y. (omega arith, omega arith))
-room_falls c (Phase.Closes x) found hook = closes_left found x c
+room_falls c p found hook = grind (arith, room_in, writes_left, closes_left)

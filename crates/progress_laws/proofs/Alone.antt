@@ -1,16 +1,13 @@
 -- One task alone: its own numbers fall with each step that needn't wait.
-use Rattle.std.proofs.Common.{◌≡◌, ℕ, zero, suc, ◌+◌, ◌*◌, ◌<◌, ◌≤◌, false, true≢false, refl, sym, ap, ◌∙◌, inl, inr, subst, arith}
-use Rattle.std.proofs.lemmas.Bool.{Decides.eqb_tells}
-use Rattle.std.specs.Prelude.{Option, None, Some, Ok}
-use Rattle.access_model.specs.declared.replies.Next.{Next}
-use Rattle.cpu_words.specs.{Hooks.HookAnswer, Words.Words}
-use Rattle.gate_world.specs.{Configs.IsWithin, Fits.PhaseFits, Holdings.Holdings, Rules.IsGood, Views.{held_of, phase_after}, Work.after_of}
-use Rattle.gate_world.specs.{Worlds.{World, after_step, found_at}, declared.{config.Config.Config, work.Phase.Phase}}
-use Rattle.gate_schedules.proofs.operations.deadlocks.{RankDecreases.{happens_is, stands_after}, WhoCanStep.fits_at}
-use Rattle.progress_laws.specs.{Alone.{SettlesAlone, all_but, alone_left, most_turns_alone, turns_alone}, LostTasks.SettlesAmong, Waiting.must_wait}
-use Rattle.progress_laws.specs.StepsLeft.{changes_left, most_steps, start_room_of, start_steps, start_steps_of, steps_left, tries_left, tries_of, try_room_of}
-use Rattle.progress_laws.proofs.{AllNearer.{RoomFalls, phase_comes, room_falls, starts_small, steps_small, tries_small}, Changes.{CountsChanges, changes_count, changes_small}}
-use Rattle.progress_laws.proofs.{Nearer.{ComesNearer, goes_on}, Potentials.{as_one_small, moves_fall, steps_fall, tries_fall}, Settling.{step_good, wait_or_go}}
+use Rattle.progress_laws.proofs.Prelude.{Config, Holdings, HookAnswer, IsGood, IsWithin, Next, None, Ok, Option, Phase, PhaseFits, Some, Words, World}
+use Rattle.progress_laws.proofs.Prelude.{after_of, after_step, ap, arith, eqb_tells, false, fits_at, found_at, happens_is, held_of, inl, inr}
+use Rattle.progress_laws.proofs.Prelude.{must_wait, phase_after, refl, stands_after, start_steps, steps_left, subst, suc, sym, tries_left, true≢false}
+use Rattle.progress_laws.proofs.Prelude.{zero, ℕ, ◌*◌, ◌+◌, ◌<◌, ◌∙◌, ◌≡◌, ◌≤◌}
+use Rattle.progress_laws.proofs.{AllNearer.{RoomFalls, phase_comes, room_falls, starts_small, steps_small, tries_small}, Changes.CountsChanges}
+use Rattle.progress_laws.proofs.{Changes.{changes_count, changes_small}, Nearer.{ComesNearer, goes_on}, Potentials.{as_one_small, moves_fall}}
+use Rattle.progress_laws.{proofs.{Potentials.{steps_fall, tries_fall}, Settling.{step_good, wait_or_go}}, specs.Alone.{SettlesAlone, all_but}}
+use Rattle.progress_laws.specs.{Alone.{alone_left, most_turns_alone, turns_alone}, LostTasks.SettlesAmong, StepsLeft.{changes_left, most_steps}}
+use Rattle.progress_laws.specs.StepsLeft.{start_room_of, start_steps_of, tries_of, try_room_of}
 
 -- one step, by what it leaves
 module _ (starts tries : ℕ) (w after : Words) (phase : Phase) where
@@ -18,9 +15,7 @@ module _ (starts tries : ℕ) (w after : Words) (phase : Phase) where
   turn = starts + 1
 
   fewer : (q : Phase) → ComesNearer w after phase (Next.Go q) → steps_left q + 1 ≤ steps_left phase + 1
-  fewer q (inl h) = omega (arith, h)
-  fewer q (inr (inl h)) = omega (arith, h.0)
-  fewer q (inr (inr h)) = omega (arith, h.0)
+  fewer q h = grind arith
 
   goes : (q : Phase) → ComesNearer w after phase (Next.Go q) → CountsChanges turn w after phase (Next.Go q) → start_steps after q ≤ starts →
       tries_left after q ≤ tries → alone_left starts tries after (Some q) < alone_left starts tries w (Some phase)
@@ -43,14 +38,7 @@ module _ (starts tries : ℕ) (w after : Words) (phase : Phase) where
   falls : (coming : Next Phase) → ComesNearer w after phase coming → CountsChanges turn w after phase coming →
       (start_steps_of after (phase_after coming) ≤ starts) × (tries_of after (phase_after coming) ≤ tries) →
       alone_left starts tries after (phase_after coming) < alone_left starts tries w (Some phase)
-  falls (Next.Go q) nears counts few = goes q nears counts few.0 few.1
-  falls (Next.Wait q) nears counts few = goes q nears counts few.0 few.1
-  falls (Next.Done answer) nears (inl same) few =
-      steps_fall tries (steps_left phase + 1) 0 (changes_left turn phase) 0 (start_steps w phase) 0 (tries_left w phase) 0
-      (omega arith) (omega arith) (omega arith)
-  falls (Next.Done answer) nears (inr m) few =
-      moves_fall tries (steps_left phase + 1) 0 (changes_left turn phase) 0 (start_steps w phase) 0 (tries_left w phase) 0
-      (omega arith) (omega (arith, m.0)) (omega arith)
+  falls coming nears counts few = grind (arith, goes, steps_fall, moves_fall)
 
 module _ (c : Config) (lim : IsWithin c) (t : ℕ) (lt : t < c.tasks) where
   -- what it is at, and what comes after, has no more room than this
@@ -67,9 +55,7 @@ module _ (c : Config) (lim : IsWithin c) (t : ℕ) (lt : t < c.tasks) where
 
   room_after : (starts tries : ℕ) (phase : Phase) (coming : Next Phase) → RoomFalls c phase coming → HasRoom starts tries (Some phase) →
       HasRoom starts tries (phase_after coming)
-  room_after starts tries phase (Next.Go q) h room = (omega (arith, h.0, room.0), omega (arith, h.1, room.1))
-  room_after starts tries phase (Next.Wait q) h room = (omega (arith, h.0, room.0), omega (arith, h.1, room.1))
-  room_after starts tries phase (Next.Done answer) h room = (omega arith, omega arith)
+  room_after starts tries phase coming h room = grind arith
 
   pub step_alone : (starts tries : ℕ) (w : World) → IsGood c w → (phase : Phase) → (w.views t).phase ≡ Some phase → must_wait w.words phase ≡ false →
       HasRoom starts tries (Some phase) → (hook : HookAnswer) →
@@ -122,16 +108,7 @@ module _ (c : Config) (lim : IsWithin c) (t : ℕ) (lt : t < c.tasks) where
   -- none has more changes, with the steps of its start, than a freeze
   moves_alone : (w : Words) (held : Holdings) (phase : Phase) → PhaseFits c t held phase →
       changes_left (start_room_of (Some phase) + 1) phase + start_steps w phase ≤ 15
-  moves_alone w held (Phase.Mounts x) f = omega arith
-  moves_alone w held (Phase.Remounts x) f = omega arith
-  moves_alone w held (Phase.DownReads r) f = omega (arith, changes_small 1 c w t held (Phase.DownReads r) f)
-  moves_alone w held (Phase.UpReads u) f = omega arith
-  moves_alone w held (Phase.Callbacks b) f = omega (arith, changes_small 1 c w t held (Phase.Callbacks b) f)
-  moves_alone w held (Phase.Writes x) f = omega (arith, changes_small 1 c w t held (Phase.Writes x) f)
-  moves_alone w held (Phase.Freezes x) f = omega (arith, changes_small 1 c w t held (Phase.Freezes x) f)
-  moves_alone w held (Phase.Thaws x) f = omega (arith, changes_small 1 c w t held (Phase.Thaws x) f)
-  moves_alone w held (Phase.Trees x) f = omega arith
-  moves_alone w held (Phase.Closes x) f = omega (arith, changes_small 1 c w t held (Phase.Closes x) f)
+  moves_alone w held phase f = grind (arith, changes_small)
 
   try_room_most : (p : Option Phase) → try_room_of c.processors p ≤ 2 * c.processors + 2
   try_room_most p = grind arith

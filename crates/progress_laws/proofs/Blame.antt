@@ -1,27 +1,20 @@
 -- Where all have to wait, each is kept by what a lost task left, by an idle task, by a frozen level, or by one that is kept so itself.
-use Rattle.std.proofs.Common.{◌≡◌, ℕ, ◌<◌, ◌≤◌, Bool, true, false, true≢false, refl, sym, ap, ◌∙◌, inl, inr, arith}
-use Rattle.std.proofs.lemmas.Bool.{cases_Bool, Decides.eqb_tells}
-use Rattle.std.specs.Prelude.{◌%◌, ◌==◌, ◌&&◌, ◌⊎◌, not, Option, None, Some}
-use Rattle.cpu_words.specs.{Words.Words, gate_counts.{Gates.counted, Levels.level_as_gate}}
-use Rattle.cpu_words.proofs.gate_counts.Events.{words_sum}
-use Rattle.finite_sums.{proofs.Totals.{HasPlace, total_place}, specs.Sums.total}
-use Rattle.composite_ops.specs.declared.{file_closes.phases.ClosePhase.ClosePhase, write_access.phases.WritePhase.WritePhase}
-use Rattle.gated_tree.specs.declared.{phases.TreePhase.TreePhase, snapshots.SnapshotStep.SnapshotStep}
-use Rattle.mount_counts.specs.{Phases.has_flag, Roles.has_hold, declared.phases.{ChangeStep.ChangeStep, MountPhase.MountPhase, Want.Want, WantStep.WantStep}}
-use Rattle.mount_counts.specs.declared.remounts.RemountStep.{RemountStep}
-use Rattle.mount_counts.proofs.laws.Bits.{hold_set}
-use Rattle.percpu_rwsem.specs.declared.{callbacks.CallbackStep.CallbackStep, grace.Grace.Grace, readers.{DownRead.DownRead, DownReadStep.DownReadStep}}
-use Rattle.percpu_rwsem.specs.declared.writers.{DownWrite.DownWrite, DownWriteStep.DownWriteStep}
-use Rattle.freeze_levels.specs.declared.{freezes.{Freeze.Freeze, FreezeStep.FreezeStep}, thaws.ThawStep.ThawStep}
-use Rattle.freeze_laws.specs.levels.Roles.{SyncRole, closed}
-use Rattle.gate_world.specs.{Fits.{DownWriteStepFits, FreezeFits, GraceFits, PhaseFits}, Levels.{at_level, inside, sync_role_of}}
-use Rattle.gate_world.specs.{Rules.{AtLevel, AtMount, IsGood, LevelHoldsIn, Sections, SyncAt, SyncHoldsIn, owns, role_of}, Views.held_of, Worlds.World}
-use Rattle.gate_world.specs.declared.{config.Config.Config, work.Phase.Phase}
-use Rattle.gate_schedules.proofs.{frames.Owners.{hold_owns, owns_le, who_holds}, operations.deadlocks.WhoCanStep.{HasOwner, fits_at, has_owner}}
-use Rattle.progress_laws.specs.{LostTasks.{AllWait, CallbackIsBlockedBy, ClosingIsBlockedBy, CountIsStuck, EachIsBlockedBy, FreezeIsBlockedBy}}
-use Rattle.progress_laws.specs.LostTasks.{HoldIsLost, IsBlockedBy, IsStuck, LevelIsStuck, LockIsStuck, SectionIsLost}
-use Rattle.progress_laws.specs.Waiting.{callback_waits, change_waits, closing_waits, freeze_waits, grace_waits, lock_taken, must_wait, remount_waits}
-use Rattle.progress_laws.specs.Waiting.{snapshot_waits, start_waits, thaw_waits, want_waits}
+use Rattle.progress_laws.proofs.Prelude.{AllWait, AtLevel, Bool, CallbackIsBlockedBy, CallbackStep, ChangeStep, ClosePhase, ClosingIsBlockedBy}
+use Rattle.progress_laws.proofs.Prelude.{Config, DownRead, DownReadStep, DownWrite, DownWriteStep, DownWriteStepFits, Freeze, FreezeFits}
+use Rattle.progress_laws.proofs.Prelude.{FreezeIsBlockedBy, FreezeStep, Grace, IsGood, MountPhase, None, Option, Phase, PhaseFits, RemountStep}
+use Rattle.progress_laws.proofs.Prelude.{SnapshotStep, Some, SyncAt, SyncHoldsIn, ThawStep, TreePhase, Want, WantStep, Words, World, WritePhase, ap}
+use Rattle.progress_laws.proofs.Prelude.{arith, at_level, callback_waits, cases_Bool, closed, closing_waits, eqb_tells, false, fits_at, freeze_waits}
+use Rattle.progress_laws.proofs.Prelude.{grace_waits, has_flag, held_of, inl, inr, level_as_gate, must_wait, not, owns, refl, start_waits, sym}
+use Rattle.progress_laws.proofs.Prelude.{sync_role_of, thaw_waits, total, true, true≢false, ℕ, ◌&&◌, ◌<◌, ◌==◌, ◌∙◌, ◌≡◌, ◌≤◌, ◌⊎◌}
+use Rattle.std.specs.Prelude.{◌%◌}
+use Rattle.cpu_words.{proofs.gate_counts.Events.words_sum, specs.gate_counts.Gates.counted}
+use Rattle.finite_sums.proofs.Totals.{HasPlace, total_place}
+use Rattle.mount_counts.{proofs.laws.Bits.hold_set, specs.Roles.has_hold}
+use Rattle.freeze_laws.specs.levels.Roles.{SyncRole}
+use Rattle.gate_world.specs.{Fits.GraceFits, Levels.inside, Rules.{AtMount, LevelHoldsIn, Sections, role_of}}
+use Rattle.gate_schedules.proofs.{frames.Owners.{hold_owns, owns_le, who_holds}, operations.deadlocks.WhoCanStep.{HasOwner, has_owner}}
+use Rattle.progress_laws.specs.LostTasks.{CountIsStuck, EachIsBlockedBy, HoldIsLost, IsBlockedBy, IsStuck, LevelIsStuck, LockIsStuck, SectionIsLost}
+use Rattle.progress_laws.specs.Waiting.{change_waits, lock_taken, remount_waits, snapshot_waits, want_waits}
 
 -- an owner of `umount` that has to wait is a freeze
 pub owner_goes : (w : Words) (phase : Phase) → owns (Some phase) ≡ 1 → (must_wait w phase ≡ false) ⊎ ((x : Freeze) × (phase ≡ Phase.Freezes x))
@@ -137,19 +130,10 @@ module _ (c : Config) (lost : ℕ → Bool) (w : World) (good : IsGood c w) (all
 
   closing_blocked : (d : DownWrite) (s : DownWriteStep) → 1 ≤ d.level → d.level ≤ 3 → d.processors ≡ c.processors → DownWriteStepFits c s →
       closing_waits w.words d s ≡ true → ClosingIsBlockedBy c lost w d s
-  closing_blocked d (DownWriteStep.AwaitsSections g) one three processors fits waits = section_lost g (omega (arith, fits.0, fits.1)) waits
-  closing_blocked d (DownWriteStep.Sums sum) one three processors fits waits =
-      count_stuck d.level one three (λ none. not_zero (total d.processors (w.words.level d.level) % 18446744073709551616)
-      (both _ _ waits).1 (ap (λ p. total p (w.words.level d.level) % 18446744073709551616) processors ∙ none))
-  closing_blocked d s one three processors fits waits = absurd (true≢false (sym waits))
+  closing_blocked d s one three processors fits waits = grind (arith, section_lost, count_stuck, not_zero, both)
 
   freeze_blocked : (x : Freeze) (s : FreezeStep) → FreezeFits c x.holder s → freeze_waits w.words s ≡ true → FreezeIsBlockedBy c lost w s
-  freeze_blocked x FreezeStep.Locks fits waits = lock_stuck (lock_waits w.words waits)
-  freeze_blocked x (FreezeStep.Closes d) fits waits = closing_blocked d d.step fits.0 fits.1 fits.3 fits.4 waits
-  freeze_blocked x (FreezeStep.Waits d) fits waits = closing_blocked d d.step fits.0.0 fits.0.1 fits.0.3 fits.0.4 waits
-  freeze_blocked x (FreezeStep.LocksToUndo code) fits waits = lock_stuck (lock_waits w.words waits)
-  freeze_blocked x FreezeStep.LocksAgain fits waits = lock_stuck (lock_waits w.words waits)
-  freeze_blocked x s fits waits = absurd (true≢false (sym waits))
+  freeze_blocked x s fits waits = grind (arith, lock_stuck, lock_waits, closing_blocked)
 
   callback_blocked : (s : CallbackStep) → GraceFits c.tasks s → callback_waits w.words s ≡ true → CallbackIsBlockedBy c lost w s
   callback_blocked (CallbackStep.AwaitsSections g) fits waits = section_lost g (omega (arith, fits.0, fits.1)) waits

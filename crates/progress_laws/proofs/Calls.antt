@@ -1,36 +1,32 @@
 -- Calls at a mount, at a level and at the tree, remounts, write accesses, closes and callbacks: each step that doesn't wait comes nearer.
-use Rattle.std.proofs.{Common.{◌≡◌, ℕ, ◌+◌, ◌*◌, ◌<◌, ◌≤◌, Bool, true, false, true≢false, refl, sym, ap, ◌∙◌, inl, inr, subst, arith}, lemmas.Grind.{common_steps}}
-use Rattle.std.proofs.lemmas.Bool.{eq-eqb}
-use Rattle.std.specs.Prelude.{Err, None, Ok, ◌==◌, ◌&&◌}
-use Rattle.finite_sums.proofs.Totals.{update_at}
-use Rattle.access_model.specs.{Replies.map_next, declared.replies.Next.Next}
-use Rattle.cpu_words.specs.{Hooks.HookAnswer, Touches.{found_by, left}, Words.{Words, read}, declared.names.WordName.WordName}
-use Rattle.composite_ops.specs.file_closes.Phases.{next as close_next, after as close_after, then_frees}
-use Rattle.composite_ops.specs.write_access.Phases.{next as write_next, after as write_after, then_wants, then_gives_back}
-use Rattle.composite_ops.specs.declared.{file_closes.phases.ClosePhase.ClosePhase, write_access.phases.WritePhase.WritePhase}
-use Rattle.gated_tree.specs.declared.{phases.TreePhase.TreePhase, snapshots.{Snapshot.Snapshot, SnapshotStep.SnapshotStep}}
-use Rattle.mount_counts.specs.{Phases.{change_after, change_next, want_after, want_next}, Ranks.{change_rank, want_rank}, Remounts.{remount_after, remount_next}}
+use Rattle.progress_laws.proofs.Prelude.{Bool, Callback, CallbackStep, ChangeStep, ClosePhase, Config, DownRead, DownReadStep, Grace, GraceNext}
+use Rattle.progress_laws.proofs.Prelude.{HookAnswer, IsGood, MountPhase, Next, None, Phase, PhaseFits, RemountStep, SnapshotStep, SyncAt, SyncHoldsIn}
+use Rattle.progress_laws.proofs.Prelude.{Transition, TransitionNext, TreePhase, Want, WantStep, WordName, Words, World, WritePhase, after_event, ap}
+use Rattle.progress_laws.proofs.Prelude.{arith, callback_after, callback_next, callback_waits, common_steps, down_read_after, down_read_next, eq-eqb}
+use Rattle.progress_laws.proofs.Prelude.{exchange_rank, false, found_at, found_by, grace_waits, held_of, inl, is_frozen_whole, is_outside, load_same}
+use Rattle.progress_laws.proofs.Prelude.{looked, map_next, must_wait, read, refl, start_left, start_steps, steps_left, subst, sym, sync_role_of}
+use Rattle.progress_laws.proofs.Prelude.{transition_after, tries_left, true, true≢false, update_at, words_after, ℕ, ◌&&◌, ◌*◌, ◌+◌, ◌<◌, ◌==◌, ◌∙◌}
+use Rattle.progress_laws.proofs.Prelude.{◌≡◌, ◌≤◌}
+use Rattle.cpu_words.specs.Touches.{left}
+use Rattle.composite_ops.specs.{file_closes.Phases.{next as close_next, after as close_after, then_frees}, write_access.Phases.next as write_next}
+use Rattle.composite_ops.specs.write_access.Phases.{after as write_after, then_wants, then_gives_back}
 use Rattle.gated_tree.specs.{Phases.{after as tree_after, next as tree_next, snapshot_after, snapshot_next}, Ranks.{snapshot_rank, tree_rank}}
-use Rattle.mount_counts.specs.declared.phases.{Change.Change, ChangeStep.ChangeStep, MountPhase.MountPhase, Want.Want, WantStep.WantStep}
-use Rattle.mount_counts.specs.declared.remounts.{Remount.Remount, RemountStep.RemountStep}
+use Rattle.gated_tree.specs.declared.snapshots.Snapshot.{Snapshot}
+use Rattle.mount_counts.specs.{Phases.{change_after, change_next, want_after, want_next}, Ranks.{change_rank, want_rank}, Remounts.remount_after}
+use Rattle.mount_counts.specs.{Remounts.remount_next, declared.{phases.Change.Change, remounts.Remount.Remount}}
 use Rattle.node_words.specs.declared.nodes.NodeWord.{NodeWord}
-use Rattle.percpu_rwsem.specs.{Callbacks.{callback_after, callback_looked, callback_next, called_back, claimed}, Graces.looked}
-use Rattle.percpu_rwsem.specs.{Readers.{down_read_after, down_read_next}, SyncWords.{on_callback, on_claim}, Transitions.{transition_after, transition_next}}
-use Rattle.percpu_rwsem.specs.declared.{callbacks.{Callback.Callback, CallbackStep.CallbackStep}, grace.{Grace.Grace, GraceNext.GraceNext}}
-use Rattle.percpu_rwsem.specs.declared.{readers.{DownRead.DownRead, DownReadStep.DownReadStep, UpRead.UpRead}}
-use Rattle.percpu_rwsem.specs.declared.transitions.{Transition.Transition, TransitionNext.TransitionNext}
-use Rattle.freeze_laws.specs.levels.{Operations.callback_role, Roles.{claimed as has_claimed}}
-use Rattle.gate_world.specs.{Fits.{Fits, GraceFits, PhaseFits}, Levels.{is_frozen_whole, sync_role_of}, Roles.sync_role_if, Rules.{Fitting, IsGood, SyncAt}}
-use Rattle.gate_world.specs.{Rules.SyncHoldsIn, traces.TraceStates.{CloseReadIsValid, WordIsValid}, Views.held_of, Worlds.{World, found_at, words_after}}
-use Rattle.gate_world.specs.declared.{config.Config.Config, work.Phase.Phase}
-use Rattle.gate_schedules.proofs.{frames.{ValidWords.events_may_be, Words.load_same}, levels.Facts.{ExchangeFalls, callback_called, defined_falls, exchange_falls}}
-use Rattle.gate_schedules.proofs.mounts.Progress.{change_ends}
-use Rattle.gate_schedules.proofs.operations.{calls.Progress.tree_ends, deadlocks.RankDecreases.after_event, remount.Progress.remount_ends}
-use Rattle.gate_schedules.specs.operations.{Ranks.{exchange_rank, rank, remount_rank}, Unblocked.{ChangeIsUnblocked, IsUnblocked, RemountIsUnblocked, TreeIsUnblocked}}
-use Rattle.progress_laws.specs.StepsLeft.{callback_left, callback_tries, close_left, grace_left, start_left, start_steps, steps_left, tries_left, write_left}
-use Rattle.progress_laws.specs.Waiting.{callback_waits, change_waits, grace_waits, lock_taken, must_wait, remount_waits, snapshot_waits, tree_waits, want_waits, is_outside}
-use Rattle.progress_laws.proofs.Levels.{IfMore, LookNears, LookStays, look_nears, look_stays, more_same, start_nears}
-use Rattle.progress_laws.proofs.Nearer.{FewerLeft, NearsBy, NearsPhase, StaysBy, phase_falls, phase_fewer, phase_nears, phase_stays}
+use Rattle.percpu_rwsem.specs.{Callbacks.{callback_looked, called_back, claimed}, SyncWords.{on_callback, on_claim}, Transitions.transition_next}
+use Rattle.percpu_rwsem.specs.declared.readers.UpRead.{UpRead}
+use Rattle.freeze_laws.specs.levels.{Operations.callback_role, Roles.claimed as has_claimed}
+use Rattle.gate_world.specs.{Fits.{Fits, GraceFits}, Roles.sync_role_if, Rules.Fitting, traces.TraceStates.{CloseReadIsValid, WordIsValid}}
+use Rattle.gate_schedules.proofs.{frames.ValidWords.events_may_be, levels.Facts.{ExchangeFalls, callback_called, defined_falls, exchange_falls}}
+use Rattle.gate_schedules.proofs.{mounts.Progress.change_ends, operations.{calls.Progress.tree_ends, remount.Progress.remount_ends}}
+use Rattle.gate_schedules.specs.operations.{Ranks.{rank, remount_rank}, Unblocked.{ChangeIsUnblocked, IsUnblocked, RemountIsUnblocked}}
+use Rattle.gate_schedules.specs.operations.Unblocked.{TreeIsUnblocked}
+use Rattle.progress_laws.proofs.{Levels.{IfMore, LookNears, LookStays, look_nears, look_stays, more_same, start_nears}, Nearer.{FewerLeft, NearsBy}}
+use Rattle.progress_laws.{proofs.Nearer.{NearsPhase, StaysBy, phase_falls, phase_fewer, phase_nears, phase_stays}, specs.StepsLeft.callback_left}
+use Rattle.progress_laws.specs.{StepsLeft.{callback_tries, close_left, grace_left, write_left}, Waiting.{change_waits, lock_taken, remount_waits}}
+use Rattle.progress_laws.specs.Waiting.{snapshot_waits, tree_waits, want_waits}
 
 -- a lock that is taken is found so, and left so
 pub lock_found : (w : Words) → lock_taken w ≡ true → (w.umount == 0) ≡ false
@@ -64,11 +60,7 @@ change_stays : (w : Words) (x : Change) (s : ChangeStep) → change_waits w x.wa
     (after_event w (change_next x s) ≡ w) ×
     StaysBy (λ (y : Change). change_waits w y.wait y.step ≡ true) (λ (y : Change). change_rank y.processors y.step) (λ (y : Change). 0)
     (λ (y : Change). 0) (change_rank x.processors s) 0 0 (change_after x s (found_by (change_next x s).1 (read w (change_next x s).0))).0
-change_stays w x ChangeStep.Locks waits =
-    let b = both x.wait (lock_taken w) waits in
-    let z : (w.umount == 0) ≡ false = lock_found w b.1 in
-    rw (z, b.0) (load_same w WordName.Umount, (b.1, refl, refl, refl))
-change_stays w x s waits = absurd (true≢false (sym waits))
+change_stays w x s waits = grind (arith, both, lock_found, load_same)
 
 -- a remount
 remount_free : (w : Words) (s : RemountStep) → remount_waits w s ≡ false → RemountIsUnblocked w s
@@ -79,10 +71,7 @@ remount_stays : (w : Words) (x : Remount) (s : RemountStep) (hook : HookAnswer) 
     StaysBy (λ (y : Remount). remount_waits w y.step ≡ true) (λ (y : Remount). remount_rank y.processors y.mounts y.nodes y.step) (λ (y : Remount). 0)
     (λ (y : Remount). 0) (remount_rank x.processors x.mounts x.nodes s) 0 0
     (remount_after x s (found_by (remount_next x s hook).1 (read w (remount_next x s hook).0)) hook).0
-remount_stays w x RemountStep.Locks hook waits =
-    let z : (w.umount == 0) ≡ false = lock_found w waits in
-    rw z (load_same w WordName.Umount, (waits, refl, refl, refl))
-remount_stays w x s hook waits = absurd (true≢false (sym waits))
+remount_stays w x s hook waits = grind (arith, lock_found, load_same)
 
 -- a snapshot, and another call at the tree
 tree_free : (w : Words) (x : TreePhase) → tree_waits w x ≡ false → TreeIsUnblocked w x
@@ -92,11 +81,7 @@ snapshot_stays : (w : Words) (x : Snapshot) (s : SnapshotStep) → snapshot_wait
     (after_event w (snapshot_next x s) ≡ w) ×
     StaysBy (λ (y : Snapshot). snapshot_waits w y.wait y.step ≡ true) (λ (y : Snapshot). snapshot_rank y.nodes y.step) (λ (y : Snapshot). 0)
     (λ (y : Snapshot). 0) (snapshot_rank x.nodes s) 0 0 (snapshot_after x s (found_by (snapshot_next x s).1 (read w (snapshot_next x s).0))).0
-snapshot_stays w x SnapshotStep.Locks waits =
-    let b = both x.wait (lock_taken w) waits in
-    let z : (w.umount == 0) ≡ false = lock_found w b.1 in
-    rw (z, b.0) (load_same w WordName.Umount, (b.1, refl, refl, refl))
-snapshot_stays w x s waits = absurd (true≢false (sym waits))
+snapshot_stays w x s waits = grind (arith, both, lock_found, load_same)
 
 -- a start inside a write access or a close
 abbrev StartNears : Words → DownRead → ℕ → Next DownRead → Type 0
@@ -109,40 +94,27 @@ module _ (w after : Words) where
 
   wants_near_any : (m cpu a : ℕ) (next : Next Want) → FewerLeft (λ (y : Want). want_rank y.step) a next →
       WriteNears (a + 1) 0 (then_gives_back m cpu next)
-  wants_near_any m cpu a (Next.Go y) h = inl (omega (arith, h))
-  wants_near_any m cpu a (Next.Wait y) h = inl (omega (arith, h))
-  wants_near_any m cpu a (Next.Done (Ok reply)) h = tt
-  wants_near_any m cpu a (Next.Done (Err refusal)) h = inl (omega arith)
+  wants_near_any m cpu a next h = grind arith
 
   abbrev CloseNears : ℕ → ℕ → Next ClosePhase → Type 0
   CloseNears a b next =
       NearsBy close_left (λ (y : ClosePhase). start_steps after (Phase.Closes y)) (λ (y : ClosePhase). 0) a b 0 (after.block ≡ w.block) (after ≡ w) next
 
   close_fewer : (a b : ℕ) (next : Next ClosePhase) → FewerLeft close_left a next → CloseNears a b next
-  close_fewer a b (Next.Go y) h = inl h
-  close_fewer a b (Next.Wait y) h = inl h
-  close_fewer a b (Next.Done answer) h = tt
+  close_fewer a b next h = grind arith
 
 module _ (w after : Words) (same : after.block ≡ w.block) where
   read_near : (r : DownRead) (n : ℕ) (next : Next DownRead) → StartNears w r n next →
       NearsBy (λ (y : DownRead). 0) (λ (y : DownRead). start_left (after.block y.level) y.wait y.step) (λ (y : DownRead). 0) 0 n 0
       (after.block ≡ w.block) (after ≡ w) next
-  read_near r n (Next.Go y) h = inr (inl (omega arith, omega (arith, h, ap (λ f. start_left (f y.level) y.wait y.step) same), same))
-  read_near r n (Next.Wait y) h = inr (inl (omega arith, omega (arith, h, ap (λ f. start_left (f y.level) y.wait y.step) same), same))
-  read_near r n (Next.Done answer) h = tt
+  read_near r n next h = grind arith
 
   takes_near : (m cpu : ℕ) (r : DownRead) (n : ℕ) (next : Next DownRead) → StartNears w r n next → WriteNears w after 8 n (then_wants m cpu next)
-  takes_near m cpu r n (Next.Go y) h = inr (inl (omega arith, omega (arith, h, ap (λ f. start_left (f y.level) y.wait y.step) same), same))
-  takes_near m cpu r n (Next.Wait y) h = inr (inl (omega arith, omega (arith, h, ap (λ f. start_left (f y.level) y.wait y.step) same), same))
-  takes_near m cpu r n (Next.Done (Ok reply)) h = inl (omega arith)
-  takes_near m cpu r n (Next.Done (Err refusal)) h = tt
+  takes_near m cpu r n next h = grind arith
 
   frees_near : (f : ℕ) (node : NodeWord) (cpu : ℕ) (r : DownRead) (n : ℕ) (next : Next DownRead) → StartNears w r n next →
       CloseNears w after 4 n (then_frees f node cpu next)
-  frees_near f node cpu r n (Next.Go y) h = inr (inl (omega arith, omega (arith, h, ap (λ g. start_left (g y.level) y.wait y.step) same), same))
-  frees_near f node cpu r n (Next.Wait y) h = inr (inl (omega arith, omega (arith, h, ap (λ g. start_left (g y.level) y.wait y.step) same), same))
-  frees_near f node cpu r n (Next.Done (Ok reply)) h = inl (omega arith)
-  frees_near f node cpu r n (Next.Done (Err refusal)) h = tt
+  frees_near f node cpu r n next h = grind arith
 
 -- a down-read leaves each `block`
 pub read_blocks : (w : Words) (r : DownRead) (s : DownReadStep) → (after_event w (down_read_next r s)).block ≡ w.block
@@ -191,20 +163,14 @@ CallbackNears w after b a n next =
 module _ (w after : Words) (b : Callback) where
   claims_near : (n : ℕ) (undefined : Type 0) (next : TransitionNext) → ExchangeFalls (after.sync b.level) n undefined next →
       IfMore (after ≡ w) next → CallbackNears w after b (2 * b.tasks + 3) n (claimed b next)
-  claims_near n undefined (TransitionNext.More x) h same = inr (inr (omega arith, omega arith, h, same))
-  claims_near n undefined TransitionNext.Undefined h same = tt
-  claims_near n undefined (TransitionNext.Made s) h same = inl (omega arith)
+  claims_near n undefined next h same = grind arith
 
   calls_near : (n : ℕ) (next : TransitionNext) → ExchangeFalls (after.sync b.level) n ⊥ next →
       IfMore (after ≡ w) next → CallbackNears w after b 0 n (called_back b next)
-  calls_near n (TransitionNext.More x) h same = inr (inr (omega arith, omega arith, h, same))
-  calls_near n TransitionNext.Undefined h same = absurd h
-  calls_near n (TransitionNext.Made s) h same = tt
+  calls_near n next h same = grind arith
 
   waits_near : (a n : ℕ) (next : GraceNext) → LookNears a next → CallbackNears w after b (a + 1) n (callback_looked b next)
-  waits_near a n (GraceNext.More g) h = inl (omega (arith, h))
-  waits_near a n (GraceNext.Wait g) h = inl (omega (arith, h))
-  waits_near a n GraceNext.Ended h = inl (omega arith)
+  waits_near a n next h = grind arith
 
 abbrev CallbackStays : Words → Callback → CallbackStep → Next Callback → Type 0
 CallbackStays w b s next =
@@ -213,19 +179,12 @@ CallbackStays w b s next =
 
 looks_stay : (w : Words) (b : Callback) (g : Grace) (next : GraceNext) → grace_waits w g ≡ true → LookStays g next →
     CallbackStays w b (CallbackStep.AwaitsSections g) (callback_looked b next)
-looks_stay w b g (GraceNext.Wait next) waits is =
-    subst (λ (q : Grace). CallbackStays w b (CallbackStep.AwaitsSections g) (callback_looked b (GraceNext.Wait q))) (sym is)
-    (waits, refl, refl, refl)
-looks_stay w b g other waits is = absurd is
+looks_stay w b g next waits is = grind arith
 
 callback_stays : (w : Words) (b : Callback) (s : CallbackStep) → callback_waits w s ≡ true →
     (after_event w (callback_next b s) ≡ w) ×
     CallbackStays w b s (callback_after b s (found_by (callback_next b s).1 (read w (callback_next b s).0))).0
-callback_stays w b (CallbackStep.AwaitsSections g) waits = (
-  load_same w (WordName.Section g.task),
-  looks_stay w b g (looked g (w.section g.task)) waits (look_stays g (w.section g.task) waits),
-)
-callback_stays w b s waits = absurd (true≢false (sym waits))
+callback_stays w b s waits = grind (arith, load_same, looks_stay, look_stays)
 
 module _ (c : Config) (w : World) (good : IsGood c w) (t : ℕ) (lt : t < c.tasks) (b : Callback) (one : 1 ≤ b.level) (three : b.level ≤ 3) where
   claim_by : (x : Transition) (sync : ℕ → ℕ) → sync b.level ≡ left (transition_next b.level x).1 (w.words.sync b.level) →
@@ -306,9 +265,7 @@ want_phase c x = record {
         StaysBy (λ (y : Want). want_waits w y y.step ≡ true) (λ (y : Want). want_rank y.step) (λ (y : Want). 0) (λ (y : Want). 0) a 0 0 next →
         StaysBy (λ (y : MountPhase). must_wait w (Phase.Mounts y) ≡ true) (λ (y : MountPhase). steps_left (Phase.Mounts y))
         (λ (y : MountPhase). start_steps w (Phase.Mounts y)) (λ (y : MountPhase). tries_left w (Phase.Mounts y)) a 0 0 (map_next MountPhase.Want next)
-    waiting w a (Next.Go q) h = h
-    waiting w a (Next.Wait q) h = h
-    waiting w a (Next.Done answer) h = absurd h
+    waiting w a next h = grind arith
 
 change_phase : (c : Config) (x : Change) → NearsPhase c (Phase.Mounts (MountPhase.Change x))
 change_phase c x = record {
@@ -336,12 +293,7 @@ change_phase c x = record {
     waiting w a (Next.Done answer) h = absurd h
 
 pub mount_phase : (c : Config) (x : MountPhase) → NearsPhase c (Phase.Mounts x)
-mount_phase c (MountPhase.Want x) = want_phase c x
-mount_phase c (MountPhase.Change x) = change_phase c x
-mount_phase c x = record {
-  nears = λ lim w good t lt hook at free. tt;
-  stays = λ lim w good t lt hook at waits out. absurd (true≢false (sym waits));
-}
+mount_phase c x = grind (arith, want_phase, change_phase)
 
 pub remount_phase : (c : Config) (x : Remount) → NearsPhase c (Phase.Remounts x)
 remount_phase c x = record {
@@ -386,13 +338,7 @@ tree_phase c x = record {
         StaysBy (λ (y : TreePhase). must_wait w (Phase.Trees y) ≡ true) (λ (y : TreePhase). steps_left (Phase.Trees y))
         (λ (y : TreePhase). start_steps w (Phase.Trees y)) (λ (y : TreePhase). tries_left w (Phase.Trees y)) (tree_rank x) 0 0
         (tree_after x (found_by (tree_next x hook).1 (read w (tree_next x hook).0)) hook).0
-    waiting w (TreePhase.Snapshot x) hook waits =
-        let h = snapshot_stays w x x.step waits in (
-          h.0,
-          snapshots w (snapshot_rank x.nodes x.step)
-              (snapshot_after x x.step (found_by (snapshot_next x x.step).1 (read w (snapshot_next x x.step).0))).0 h.1,
-        )
-    waiting w x hook waits = absurd (true≢false (sym waits))
+    waiting w x hook waits = grind (arith, snapshot_stays, snapshots)
 
 pub start_phase : (c : Config) (r : DownRead) → NearsPhase c (Phase.DownReads r)
 start_phase c r = record {
@@ -440,13 +386,7 @@ write_phase c x = record {
         StaysBy (λ (y : WritePhase). must_wait w (Phase.Writes y) ≡ true) write_left (λ (y : WritePhase). start_steps w (Phase.Writes y))
         (λ (y : WritePhase). tries_left w (Phase.Writes y)) (write_left x) (start_steps w (Phase.Writes x)) 0
         (write_after x (found_by (write_next x).1 (read w (write_next x).0))).0
-    waiting w (WritePhase.Takes m r) waits out = absurd (true≢false (sym waits ∙ out))
-    waiting w (WritePhase.Wants x) waits out = (
-      want_loads w x x.step waits,
-      wants w x.mount x.cpu (want_rank x.step) (want_after x x.step (found_by (want_next x x.step).1 (read w (want_next x x.step).0))).0
-          (want_stays w x x.step waits),
-    )
-    waiting w x waits out = absurd (true≢false (sym waits))
+    waiting w x waits out = grind (arith, want_loads, wants, want_stays)
 
 pub close_phase : (c : Config) (x : ClosePhase) → NearsPhase c (Phase.Closes x)
 close_phase c x = record {

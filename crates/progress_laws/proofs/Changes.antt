@@ -1,36 +1,38 @@
 -- What a step that doesn't wait changes of a level's words is counted: the changes that are left fall with each change of `block`, a sync word or a
 -- count; and a step that changes none of these leaves no more of any number than there was.
-use Rattle.std.proofs.Common.{◌≡◌, ℕ, suc, ◌+◌, ◌*◌, ◌<◌, ◌≤◌, Bool, true, false, true≢false, refl, sym, ap, ◌∙◌, inl, inr, subst, arith}
-use Rattle.std.proofs.{Math.Nat.{suc-mul}, lemmas.{Bool.{cases_Bool, eq-eqb, Decides.eqb_tells}, Grind.{common_steps}}}
-use Rattle.std.specs.Prelude.{Err, Ok, None, Some, nat_lt, ◌-◌, ◌==◌, ◌⊎◌, Option}
-use Rattle.access_model.specs.{Holders.{held_by, is_unheld, with_holder}, Replies.map_next, declared.{actions.Action.Action, replies.Next.Next}}
-use Rattle.cpu_words.specs.{Hooks.HookAnswer, Touches.{found_by}, Words.{Words, put, read}, declared.{events.Touch.Touch, names.WordName.WordName, sums.Sum.Sum}}
-use Rattle.cpu_words.specs.{Sums.sum_taking, declared.sums.Taken.{Taken}}
-use Rattle.composite_ops.specs.file_closes.Phases.{next as close_next, after as close_after, then_frees}
-use Rattle.composite_ops.specs.write_access.Phases.{next as write_next, after as write_after, then_wants, then_gives_back}
-use Rattle.composite_ops.specs.declared.{file_closes.phases.ClosePhase.ClosePhase, write_access.phases.WritePhase.WritePhase}
-use Rattle.freeze_levels.specs.{Freezes.{after_closing, after_reopening, after_undoing, at_freeze, freeze_after, freeze_fails, freeze_next, freeze_undone, level_closed}, Holders.holders_in}
-use Rattle.freeze_levels.specs.{Thaws.{after_opening, thaw_after, thaw_next, thaw_opens}, declared.{freezes.{Freeze.Freeze, FreezeStep.FreezeStep}, thaws.{Thaw.Thaw, ThawStep.ThawStep}}}
-use Rattle.gated_tree.specs.{Phases.{next as tree_next}, declared.phases.TreePhase.{TreePhase}}
-use Rattle.mount_counts.specs.{Phases.{want_next, next as mount_next}, Remounts.{remount_next}, declared.phases.{MountPhase.MountPhase, Want.Want, WantStep.WantStep}}
-use Rattle.mount_counts.specs.declared.remounts.{Remount.Remount, RemountStep.RemountStep}
-use Rattle.node_words.specs.{Nodes.word_of, declared.nodes.NodeWord.{NodeWord}}
-use Rattle.percpu_rwsem.specs.{Callbacks.{callback_after, callback_looked, callback_next, called_back, claimed}, Graces.looked}
-use Rattle.percpu_rwsem.specs.{Readers.{down_read_after, down_read_next}, SyncWords.{is_passed, on_callback, on_claim, on_enter, on_exit, pack, unpack}}
-use Rattle.percpu_rwsem.specs.Writers.{down_write_after, down_write_next, down_write_summed, at_down_write, callback_step, enter_step, entered_from, exit_made, passed_awaited, sections_awaited, up_write_after, up_write_next}
-use Rattle.percpu_rwsem.specs.declared.{callbacks.{Callback.Callback, CallbackStep.CallbackStep}, grace.{Grace.Grace, GraceNext.GraceNext}}
-use Rattle.percpu_rwsem.specs.declared.{readers.{DownRead.DownRead, DownReadStep.DownReadStep}, sync_word.{GpState.GpState, SyncWord.SyncWord}}
-use Rattle.percpu_rwsem.specs.declared.transitions.{Transition.Transition, TransitionNext.TransitionNext}
-use Rattle.percpu_rwsem.specs.declared.writers.{DownWrite.DownWrite, DownWriteStep.DownWriteStep, UpWrite.UpWrite, UpWriteStep.UpWriteStep}
-use Rattle.percpu_rwsem.specs.{Transitions.{transition_next, transition_after}}
-use Rattle.freeze_laws.{proofs.stages.Facts.at_level, specs.levels.{Operations.{down_write_role}, Roles.{SyncRole, closed, entered}}}
-use Rattle.gate_world.specs.{Configs.IsWithin, Fits.{Fits, FreezeFits, PhaseFits, ThawFits}, Levels.{is_frozen_whole, sync_role_of}, Holdings.Holdings, Roles.{freeze_position, position_sync, sync_beside}, Rules.{Fitting, IsGood, SyncAt, SyncHoldsIn}, Work.after_of, Views.held_of}
-use Rattle.gate_world.specs.{traces.TraceStates.{CloseReadIsValid, WordIsValid}, Worlds.{World, found_at, words_after}, declared.{config.Config.Config, work.Phase.Phase}}
-use Rattle.gate_schedules.proofs.{levels.Facts.{block_clear}, frames.{ValidWords.events_may_be, Words.load_same}, operations.deadlocks.{BlockedCloses.{StaysAtLevel, down_stays}, RankDecreases.after_event}}
-use Rattle.progress_laws.specs.StepsLeft.{callback_changes, callback_left, callback_tries, changes_left, closed_changes, closing_changes, closing_left, closing_tries, freeze_changes, freeze_left, freeze_tries, opening_changes}
-use Rattle.progress_laws.specs.StepsLeft.{closed_left, opening_left, opening_tries, start_left, start_steps, steps_left, thaw_changes, thaw_left, thaw_tries, tries_left}
-use Rattle.progress_laws.specs.Waiting.{callback_waits, closing_waits, must_wait, thaw_waits}
-use Rattle.progress_laws.proofs.{Calls.{read_blocks}, Levels.{start_nears}, Nearer.{FewerLeft, by_wait, freeze_waits_on, waits_on}, Potentials.mul_le}
+use Rattle.progress_laws.proofs.Prelude.{Bool, Callback, CallbackStep, ClosePhase, Config, DownRead, DownReadStep, DownWrite, DownWriteStep, Err}
+use Rattle.progress_laws.proofs.Prelude.{Freeze, FreezeFits, FreezeStep, Grace, GraceNext, Holdings, HookAnswer, IsGood, IsWithin, MountPhase, Next}
+use Rattle.progress_laws.proofs.Prelude.{Ok, Option, Phase, PhaseFits, RemountStep, Some, Sum, SyncAt, SyncHoldsIn, ThawStep, Transition}
+use Rattle.progress_laws.proofs.Prelude.{TransitionNext, TreePhase, UpWrite, UpWriteStep, Want, WantStep, WordName, Words, World, WritePhase}
+use Rattle.progress_laws.proofs.Prelude.{after_closing, after_event, after_of, ap, arith, at_freeze, callback_after, callback_next, callback_waits}
+use Rattle.progress_laws.proofs.Prelude.{cases_Bool, closed, closing_left, closing_tries, closing_waits, common_steps, down_read_after}
+use Rattle.progress_laws.proofs.Prelude.{down_read_next, down_write_after, down_write_next, eq-eqb, eqb_tells, false, found_at, found_by}
+use Rattle.progress_laws.proofs.Prelude.{freeze_after, freeze_left, freeze_next, freeze_tries, held_of, inl, inr, is_frozen_whole, level_closed}
+use Rattle.progress_laws.proofs.Prelude.{load_same, looked, map_next, must_wait, nat_lt, opening_left, opening_tries, read, refl, sections_awaited}
+use Rattle.progress_laws.proofs.Prelude.{start_left, start_steps, steps_left, subst, suc, sym, sync_role_of, thaw_after, thaw_waits, transition_after}
+use Rattle.progress_laws.proofs.Prelude.{tries_left, true, true≢false, unpack, words_after, ℕ, ◌*◌, ◌+◌, ◌-◌, ◌<◌, ◌==◌, ◌∙◌, ◌≡◌, ◌≤◌, ◌⊎◌}
+use Rattle.std.proofs.Math.Nat.{suc-mul}
+use Rattle.access_model.specs.{Holders.{held_by, is_unheld, with_holder}, declared.actions.Action.Action}
+use Rattle.cpu_words.specs.{Sums.sum_taking, Words.put, declared.{events.Touch.Touch, sums.Taken.Taken}}
+use Rattle.composite_ops.specs.{file_closes.Phases.{next as close_next, after as close_after, then_frees}, write_access.Phases.next as write_next}
+use Rattle.composite_ops.specs.write_access.Phases.{after as write_after, then_wants, then_gives_back}
+use Rattle.freeze_levels.specs.{Freezes.{after_reopening, after_undoing, freeze_fails, freeze_undone}, Holders.holders_in, Thaws.after_opening}
+use Rattle.freeze_levels.specs.{Thaws.{thaw_next, thaw_opens}, declared.thaws.Thaw.Thaw}
+use Rattle.gated_tree.specs.Phases.{next as tree_next}
+use Rattle.mount_counts.specs.{Phases.{want_next, next as mount_next}, Remounts.remount_next, declared.remounts.Remount.Remount}
+use Rattle.node_words.specs.{Nodes.word_of, declared.nodes.NodeWord.NodeWord}
+use Rattle.percpu_rwsem.specs.{Callbacks.{callback_looked, called_back, claimed}, SyncWords.{on_callback, on_claim, on_enter, on_exit}}
+use Rattle.percpu_rwsem.specs.{Transitions.transition_next, Writers.{down_write_summed, at_down_write, callback_step, enter_step, entered_from}}
+use Rattle.percpu_rwsem.specs.{Writers.{exit_made, passed_awaited, up_write_after, up_write_next}, declared.sync_word.GpState.GpState}
+use Rattle.percpu_rwsem.specs.declared.sync_word.SyncWord.{SyncWord}
+use Rattle.freeze_laws.{proofs.stages.Facts.at_level, specs.levels.{Operations.down_write_role, Roles.{SyncRole, entered}}}
+use Rattle.gate_world.specs.{Fits.{Fits, ThawFits}, Roles.{freeze_position, position_sync, sync_beside}, Rules.Fitting}
+use Rattle.gate_world.specs.traces.TraceStates.{CloseReadIsValid, WordIsValid}
+use Rattle.gate_schedules.proofs.{frames.ValidWords.events_may_be, levels.Facts.block_clear, operations.deadlocks.BlockedCloses.StaysAtLevel}
+use Rattle.gate_schedules.proofs.operations.deadlocks.BlockedCloses.{down_stays}
+use Rattle.progress_laws.proofs.{Calls.read_blocks, Levels.start_nears, Nearer.{FewerLeft, by_wait, freeze_waits_on, waits_on}, Potentials.mul_le}
+use Rattle.progress_laws.specs.StepsLeft.{callback_changes, callback_left, callback_tries, changes_left, closed_changes, closing_changes}
+use Rattle.progress_laws.specs.StepsLeft.{freeze_changes, opening_changes, thaw_changes, thaw_left, thaw_tries}
 
 -- what the numbers of others read of a level is as it was
 abbrev pub SameLevels : Words → Words → Type 0
@@ -68,19 +70,14 @@ is_of_level (WordName.LevelCount i p) = true
 is_of_level name = false
 
 beside_levels : (w : Words) (name : WordName) (v : ℕ) → is_of_level name ≡ false → SameLevels w (put w name v)
-beside_levels w (WordName.Block i) v h = absurd (true≢false h)
-beside_levels w (WordName.Sync i) v h = absurd (true≢false h)
-beside_levels w (WordName.LevelCount i p) v h = absurd (true≢false h)
-beside_levels w name v h = (refl, refl, refl)
+beside_levels w name v h = grind arith
 
 -- an operation that touches no level's words
 aside : {A : Type 0} (to : A → Phase) (turn : ℕ) (w after : Words) (p : Phase) (next : Next A) →
     ((y : A) → (changes_left turn (to y) ≤ changes_left turn p) × (start_steps after (to y) ≤ start_steps w p) ×
     (tries_left after (to y) ≤ tries_left w p)) →
     SameLevels w after → CountsChanges turn w after p (map_next to next)
-aside to turn w after p (Next.Go q) h same = inr (inr ((h q).0, (h q).1, λ lt. (h q).2, same))
-aside to turn w after p (Next.Wait q) h same = inr (inr ((h q).0, (h q).1, λ lt. (h q).2, same))
-aside to turn w after p (Next.Done answer) h same = inl same
+aside to turn w after p next h same = grind arith
 
 mount_words : (x : MountPhase) (hook : HookAnswer) → is_of_level (mount_next x hook).0 ≡ false
 mount_words x hook = grind (arith, common_steps)
@@ -103,9 +100,7 @@ not_made A a other = a
 unless_made : (makes : SyncWord → Option SyncWord) (w : Words) (level : ℕ) (x : Transition) →
     UnlessMade (after_event w (transition_next level x) ≡ w)
     (transition_after makes x (found_by (transition_next level x).1 (read w (transition_next level x).0)))
-unless_made makes w level Transition.Loads = not_made _ (load_same w (WordName.Sync level)) _
-unless_made makes w level (Transition.Exchanges from to) =
-    elim (eqb_tells (w.sync level) (pack from)) [ inl e ↦ rw e.0 tt | inr e ↦ rw e.0 (load_same w (WordName.Sync level)) ]
+unless_made makes w level x = grind (arith, not_made, load_same)
 
 transition_blocks : (w : Words) (level : ℕ) (x : Transition) → (after_event w (transition_next level x)).block ≡ w.block
 transition_blocks w level Transition.Loads = refl
@@ -119,49 +114,31 @@ ClosingCounts turn w after d s next =
     (after.block ≡ w.block) (SameLevels w after) ((1 ≤ closing_tries w d s) × SameLevels w after) next
 
 entered_changes : (turn tasks : ℕ) (s : GpState) → closing_changes turn (entered_from tasks s) < turn + 2
-entered_changes turn tasks GpState.Idle = omega arith
-entered_changes turn tasks GpState.Enter = omega arith
-entered_changes turn tasks other = omega arith
+entered_changes turn tasks s = grind arith
 
 module _ (turn : ℕ) (w after : Words) (d : DownWrite) where
   enters_count : (x : Transition) (next : TransitionNext) → UnlessMade (after ≡ w) next → after.block ≡ w.block →
       ClosingCounts turn w after d (DownWriteStep.Enters x) (Next.Go (at_down_write d (enter_step d.tasks next)))
-  enters_count x (TransitionNext.More y) same blocks = inr (inr (omega arith, omega arith, λ lt. omega (arith, lt), levels_same w after same))
-  enters_count x TransitionNext.Undefined same blocks = inr (inr (omega arith, omega arith, λ lt. omega (arith, lt), levels_same w after same))
-  enters_count x (TransitionNext.Made s) same blocks = inr (inl (omega (arith, entered_changes turn d.tasks s), blocks))
+  enters_count x next same blocks = grind (arith, levels_same, entered_changes)
 
   calls_count : (x : Transition) (next : TransitionNext) → UnlessMade (after ≡ w) next → after.block ≡ w.block →
       ClosingCounts turn w after d (DownWriteStep.CallsBack x) (Next.Go (at_down_write d (callback_step next)))
-  calls_count x (TransitionNext.More y) same blocks = inr (inr (omega arith, omega arith, λ lt. omega (arith, lt), levels_same w after same))
-  calls_count x TransitionNext.Undefined same blocks = inr (inr (omega arith, omega arith, λ lt. omega (arith, lt), levels_same w after same))
-  calls_count x (TransitionNext.Made s) same blocks = inr (inl (omega arith, blocks))
+  calls_count x next same blocks = grind (arith, levels_same)
 
   looks_count : (g : Grace) (next : GraceNext) → SameLevels w after →
       ClosingCounts turn w after d (DownWriteStep.AwaitsSections g) (sections_awaited d next)
-  looks_count g (GraceNext.More h) same = inr (inr (omega arith, omega arith, λ lt. omega arith, same))
-  looks_count g (GraceNext.Wait h) same = inr (inr (omega arith, omega arith, λ lt. omega arith, same))
-  looks_count g GraceNext.Ended same = inr (inr (omega arith, omega arith, λ lt. omega arith, same))
+  looks_count g next same = grind arith
 
   passed_counts : (word : Option SyncWord) → SameLevels w after →
       ClosingCounts turn w after d DownWriteStep.AwaitsPassed (passed_awaited d word)
-  passed_counts None same = inr (inr (omega arith, omega arith, λ lt. omega arith, same))
-  passed_counts (Some word) same =
-      elim (cases_Bool (is_passed word.state)) [
-        | inl h ↦ rw h (inr (inr (omega arith, omega arith, λ lt. omega arith, same)))
-        | inr h ↦ rw h (inr (inr (omega arith, omega arith, λ lt. omega arith, same)))
-      ]
+  passed_counts word same = grind arith
 
   sum_some : (sum : Sum) → 1 ≤ closing_tries w d (DownWriteStep.Sums sum)
   sum_some sum = grind arith
 
   sums_count : (sum : Sum) (taken : Taken) → SameLevels w after →
       ClosingCounts turn w after d (DownWriteStep.Sums sum) (down_write_summed d taken).0
-  sums_count sum (Taken.More next) same = inr (inr (omega arith, omega arith, λ lt. omega (arith, lt), same))
-  sums_count sum (Taken.Total total) same =
-      elim (eqb_tells total 0) [
-        | inl h ↦ rw h.0 (sum_some sum, same)
-        | inr h ↦ rw h.0 (inr (inr (omega arith, omega arith, λ lt. omega (arith, lt), same)))
-      ]
+  sums_count sum taken same = grind (arith, sum_some)
 
 module _ (turn : ℕ) (c : Config) (w : World) (good : IsGood c w) (t : ℕ) (lt : t < c.tasks) where
   module _ (d : DownWrite) (one : 1 ≤ d.level) (three : d.level ≤ 3) where
@@ -217,18 +194,12 @@ level_more level k one =
 module _ (turn : ℕ) (w : Words) (u : UpWrite) (one : 1 ≤ u.level) where
   exits_count : (after : Words) (x : Transition) (next : TransitionNext) → UnlessMade (after ≡ w) next → after.block ≡ w.block →
       OpeningCounts turn w after u (UpWriteStep.Exits x) (exit_made u next)
-  exits_count after x (TransitionNext.More y) same blocks = (refl, inr (omega arith, λ lt. omega (arith, lt), levels_same w after same))
-  exits_count after x TransitionNext.Undefined same blocks = (refl, inr (omega arith, λ lt. omega (arith, lt), levels_same w after same))
-  exits_count after x (TransitionNext.Made s) same blocks = (omega arith, blocks)
+  exits_count after x next same blocks = grind (arith, levels_same)
 
   opening_counts : (s : UpWriteStep) →
       OpeningCounts turn w (after_event w (up_write_next u s)) u s
       (up_write_after u s (found_by (up_write_next u s).1 (read w (up_write_next u s).0))).0
-  opening_counts UpWriteStep.ClearsBlock = (refl, inl (omega (arith, level_more u.level (turn + 1) one)))
-  opening_counts (UpWriteStep.Exits x) =
-      let found : ℕ = found_by (transition_next u.level x).1 (read w (transition_next u.level x).0) in
-      exits_count (after_event w (transition_next u.level x)) x (transition_after on_exit x found) (unless_made on_exit w u.level x)
-      (transition_blocks w u.level x)
+  opening_counts s = grind (arith, level_more, exits_count, after_event, unless_made, transition_blocks)
 
 -- what comes after a step of a freeze, and of a thaw
 abbrev FreezeCounts : ℕ → Words → Words → Freeze → FreezeStep → Next Freeze → Type 0
@@ -260,25 +231,12 @@ closed_tries w level nodes =
 
 closes_on : (turn : ℕ) (w after : Words) (x : Freeze) (d y : DownWrite) → y.level ≡ d.level → ClosingCounts turn w after d d.step (Next.Go y) →
     FreezeCounts turn w after x (FreezeStep.Closes d) (Next.Go (at_freeze x (FreezeStep.Closes y)))
-closes_on turn w after x d y level (inl h) = inl (omega (arith, h, ap (closed_changes turn) level))
-closes_on turn w after x d y level (inr (inl h)) = inr (inl (omega (arith, h.0, ap (closed_changes turn) level), h.1))
-closes_on turn w after x d y level (inr (inr h)) =
-    inr (inr (
-      omega (arith, h.0, ap (closed_changes turn) level),
-      omega arith,
-      λ lt. h.2 (omega (arith, lt, ap (closed_left x) level)),
-      h.3,
-    ))
+closes_on turn w after x d y level h = grind arith
 
 closes_count : (turn : ℕ) (w after : Words) (x : Freeze) (d : DownWrite) (next : Next DownWrite) (action : Option Action) →
     StaysAtLevel d next action → ClosingCounts turn w after d d.step next →
     FreezeCounts turn w after x (FreezeStep.Closes d) (after_closing x d.level next)
-closes_count turn w after x d (Next.Go y) action level h = closes_on turn w after x d y level h
-closes_count turn w after x d (Next.Wait y) action level h =
-    by_wait (λ z. FreezeCounts turn w after x (FreezeStep.Closes d) (Next.Wait (at_freeze x z))) y y.step
-    (closes_on turn w after x d y level h) (closes_on turn w after x d y level h)
-closes_count turn w after x d (Next.Done answer) action level h =
-    inr (inr (omega (arith, closed_counts turn d.level x.nodes), omega arith, λ lt. omega (arith, h.0, closed_tries after d.level x.nodes), h.1))
+closes_count turn w after x d next action level h = grind (arith, closes_on, by_wait, closed_counts, closed_tries)
 
 -- the levels below one that is opened
 opens_changes : (turn level code : ℕ) (x : Freeze) → 1 ≤ level →
@@ -295,17 +253,11 @@ fails_tries w level code = elim (eqb_tells level 0) [ inl h ↦ rw h.0 refl | in
 
 reopens_count : (turn : ℕ) (w after : Words) (x : Freeze) (u : UpWrite) (code : ℕ) (next : Next UpWrite) → 1 ≤ u.level →
     OpeningCounts turn w after u u.step next → FreezeCounts turn w after x (FreezeStep.Reopens u code) (after_reopening x u.level code next)
-reopens_count turn w after x u code (Next.Go y) one (level, inl h) = inl h
-reopens_count turn w after x u code (Next.Go y) one (level, inr h) = inr (inr (h.0, omega arith, h.1, h.2))
-reopens_count turn w after x u code (Next.Wait y) one h = absurd h
-reopens_count turn w after x u code (Next.Done answer) one h = inr (inl (omega (arith, h.0, opens_changes turn u.level code x one), h.1))
+reopens_count turn w after x u code next one h = grind (arith, opens_changes)
 
 thaws_count : (turn : ℕ) (w after : Words) (x : Thaw) (u : UpWrite) (next : Next UpWrite) →
     OpeningCounts turn w after u u.step next → ThawCounts turn w after x (ThawStep.Reopens u) (after_opening x u.level next)
-thaws_count turn w after x u (Next.Go y) (level, inl h) = inl h
-thaws_count turn w after x u (Next.Go y) (level, inr h) = inr (inr (h.0, omega arith, h.1, h.2))
-thaws_count turn w after x u (Next.Wait y) h = absurd h
-thaws_count turn w after x u (Next.Done answer) h = inr (inl (omega (arith, h.0, thaw_opens_changes turn u.level), h.1))
+thaws_count turn w after x u next h = grind (arith, thaw_opens_changes)
 
 -- a level that is given up: its `block` is cleared, and the rest is that of its rcu_sync and of the levels below
 gives_up_changes : (turn level : ℕ) → 1 ≤ level → level ≤ 3 → (level - 1) * (turn + 1) + 1 + turn ≤ closed_changes turn level
@@ -316,12 +268,7 @@ undone_changes turn level code = elim (eqb_tells level 1) [ inl h ↦ rw h.0 (om
 
 undoes_count : (turn : ℕ) (w after : Words) (x : Freeze) (level code : ℕ) (transition : Transition) (n : TransitionNext) → UnlessMade (after ≡ w) n →
     after.block ≡ w.block → FreezeCounts turn w after x (FreezeStep.Undoes level transition code) (after_undoing x level code n)
-undoes_count turn w after x level code transition (TransitionNext.More y) same blocks =
-    inr (inr (omega arith, omega arith, λ lt. absurd (omega (arith, lt)), levels_same w after same))
-undoes_count turn w after x level code transition TransitionNext.Undefined same blocks =
-    inr (inr (omega arith, omega arith, λ lt. absurd (omega (arith, lt)), levels_same w after same))
-undoes_count turn w after x level code transition (TransitionNext.Made s) same blocks =
-    inr (inl (omega (arith, undone_changes turn level code), blocks))
+undoes_count turn w after x level code transition n same blocks = grind (arith, levels_same, undone_changes)
 
 freeze_counts : (turn : ℕ) (c : Config) (w : World) → IsGood c w → (t : ℕ) → t < c.tasks → (x : Freeze) (hook : HookAnswer) (s : FreezeStep) →
     ((i : ℕ) → sync_role_of i (w.views t).phase ≡ position_sync i (freeze_position s)) → FreezeFits c x.holder s →
@@ -442,21 +389,15 @@ CallbackCounts turn w after b s next =
 module _ (turn : ℕ) (w after : Words) (b : Callback) where
   claims_count : (x : Transition) (next : TransitionNext) → UnlessMade (after ≡ w) next → after.block ≡ w.block →
       CallbackCounts turn w after b (CallbackStep.Claims x) (claimed b next)
-  claims_count x (TransitionNext.More y) same blocks = inr (inr (omega arith, omega arith, λ lt. omega (arith, lt), levels_same w after same))
-  claims_count x TransitionNext.Undefined same blocks = inl (levels_same w after same)
-  claims_count x (TransitionNext.Made s) same blocks = inr (inl (omega arith, blocks))
+  claims_count x next same blocks = grind (arith, levels_same)
 
   ends_count : (x : Transition) (next : TransitionNext) → UnlessMade (after ≡ w) next → after.block ≡ w.block →
       CallbackCounts turn w after b (CallbackStep.CallsBack x) (called_back b next)
-  ends_count x (TransitionNext.More y) same blocks = inr (inr (omega arith, omega arith, λ lt. omega (arith, lt), levels_same w after same))
-  ends_count x TransitionNext.Undefined same blocks = inr (inr (omega arith, omega arith, λ lt. omega (arith, lt), levels_same w after same))
-  ends_count x (TransitionNext.Made s) same blocks = inr (omega arith, blocks)
+  ends_count x next same blocks = grind (arith, levels_same)
 
   awaits_count : (g : Grace) (next : GraceNext) → SameLevels w after →
       CallbackCounts turn w after b (CallbackStep.AwaitsSections g) (callback_looked b next)
-  awaits_count g (GraceNext.More h) same = inr (inr (omega arith, omega arith, λ lt. omega arith, same))
-  awaits_count g (GraceNext.Wait h) same = inr (inr (omega arith, omega arith, λ lt. omega arith, same))
-  awaits_count g GraceNext.Ended same = inr (inr (omega arith, omega arith, λ lt. omega arith, same))
+  awaits_count g next same = grind arith
 
 callback_counts : (turn : ℕ) (w : Words) (b : Callback) (s : CallbackStep) →
     CallbackCounts turn w (after_event w (callback_next b s)) b s
@@ -480,12 +421,7 @@ LastIs A other = Unit {0}
 
 start_last : (w : Words) (r : DownRead) (s : DownReadStep) (found : ℕ) →
     LastIs (SameLevels w (after_event w (down_read_next r s))) (down_read_after r s found).0
-start_last w r DownReadStep.LoadsBlock found =
-    elim (eqb_tells found 0) [ inl h ↦ rw h.0 tt | inr h ↦ rw h.0 tt ]
-start_last w r DownReadStep.LeavesAdmitted found = (refl, refl, refl)
-start_last w r DownReadStep.LeavesBlocked found =
-    elim (cases_Bool r.wait) [ inl h ↦ rw h tt | inr h ↦ rw h (refl, refl, refl) ]
-start_last w r other found = tt
+start_last w r s found = grind arith
 
 module _ (w after : Words) (same : after.block ≡ w.block) where
   start_same : (y : DownRead) → start_left (after.block y.level) y.wait y.step ≡ start_left (w.block y.level) y.wait y.step
@@ -494,26 +430,18 @@ module _ (w after : Words) (same : after.block ≡ w.block) where
   reads_count : (turn : ℕ) (r : DownRead) (next : Next DownRead) →
       FewerLeft (λ (y : DownRead). start_left (w.block y.level) y.wait y.step) (start_left (w.block r.level) r.wait r.step) next →
       LastIs (SameLevels w after) next → CountsChanges turn w after (Phase.DownReads r) (map_next Phase.DownReads next)
-  reads_count turn r (Next.Go y) h last = inr (inl (omega (arith, h, start_same y), same))
-  reads_count turn r (Next.Wait y) h last = inr (inl (omega (arith, h, start_same y), same))
-  reads_count turn r (Next.Done answer) h last = inl last
+  reads_count turn r next h last = grind (arith, start_same)
 
   takes_count : (turn m p : ℕ) (r : DownRead) (next : Next DownRead) →
       FewerLeft (λ (y : DownRead). start_left (w.block y.level) y.wait y.step) (start_left (w.block r.level) r.wait r.step) next →
       LastIs (SameLevels w after) next → CountsChanges turn w after (Phase.Writes (WritePhase.Takes m r)) (map_next Phase.Writes (then_wants m p next))
-  takes_count turn m p r (Next.Go y) h last = inr (inl (omega (arith, h, start_same y), same))
-  takes_count turn m p r (Next.Wait y) h last = inr (inl (omega (arith, h, start_same y), same))
-  takes_count turn m p r (Next.Done (Ok reply)) h last = inr (inr (omega arith, omega arith, λ lt. omega arith, last))
-  takes_count turn m p r (Next.Done (Err refusal)) h last = inl last
+  takes_count turn m p r next h last = grind (arith, start_same)
 
   frees_count : (turn f : ℕ) (node : NodeWord) (p : ℕ) (r : DownRead) (next : Next DownRead) →
       FewerLeft (λ (y : DownRead). start_left (w.block y.level) y.wait y.step) (start_left (w.block r.level) r.wait r.step) next →
       LastIs (SameLevels w after) next →
       CountsChanges turn w after (Phase.Closes (ClosePhase.Enters f node r)) (map_next Phase.Closes (then_frees f node p next))
-  frees_count turn f node p r (Next.Go y) h last = inr (inl (omega (arith, h, start_same y), same))
-  frees_count turn f node p r (Next.Wait y) h last = inr (inl (omega (arith, h, start_same y), same))
-  frees_count turn f node p r (Next.Done (Ok reply)) h last = inr (inr (omega arith, omega arith, λ lt. omega arith, last))
-  frees_count turn f node p r (Next.Done (Err refusal)) h last = inl last
+  frees_count turn f node p r next h last = grind (arith, start_same)
 
 write_counts : (turn : ℕ) (w : Words) (x : WritePhase) → WordIsValid (write_next x).0 (read w (write_next x).0) → must_wait w (Phase.Writes x) ≡ false →
     CountsChanges turn w (after_event w (write_next x)) (Phase.Writes x)
@@ -570,9 +498,7 @@ phase_counts : {A : Type 0} (to : A → Phase) (turn : ℕ) (w after : Words) (p
     (steps_left p) (changes_left turn p) (start_steps w p) (tries_left w p) turn (after.block ≡ w.block) (SameLevels w after)
     (EndsBy w after (changes_left turn p + start_steps w p)) next →
     CountsChanges turn w after p (map_next to next)
-phase_counts to turn w after p (Next.Go q) h = h
-phase_counts to turn w after p (Next.Wait q) h = h
-phase_counts to turn w after p (Next.Done answer) h = h
+phase_counts to turn w after p next h = grind arith
 
 pub changes_count : (turn : ℕ) (c : Config) → IsWithin c → (w : World) → IsGood c w → (t : ℕ) → t < c.tasks → (hook : HookAnswer) (phase : Phase) →
     (w.views t).phase ≡ Some phase → waits_on w.words phase hook ≡ false →
@@ -614,33 +540,23 @@ KeepsBy changes k (Next.Done answer) = Unit {0}
 
 keeps_in : {A : Type 0} (to : A → Phase) (turn k : ℕ) (next : Next A) → KeepsBy (λ y. changes_left turn (to y)) k next →
     KeepsBy (changes_left turn) k (map_next to next)
-keeps_in to turn k (Next.Go q) h = h
-keeps_in to turn k (Next.Wait q) h = h
-keeps_in to turn k (Next.Done answer) h = tt
+keeps_in to turn k next h = grind arith
 
 keeps_all : {P : Type 0} (changes : P → ℕ) (k : ℕ) → ((y : P) → changes y ≡ k) → (next : Next P) → KeepsBy changes k next
-keeps_all changes k h (Next.Go q) = h q
-keeps_all changes k h (Next.Wait q) = h q
-keeps_all changes k h (Next.Done answer) = tt
+keeps_all changes k h next = grind arith
 
 looks_keep : (turn : ℕ) (x : Freeze) (d : DownWrite) (next : GraceNext) →
     KeepsBy (λ (y : Freeze). freeze_changes turn y.step) (turn + 1 + closed_changes turn d.level) (after_closing x d.level (sections_awaited d next))
-looks_keep turn x d (GraceNext.More g) = refl
-looks_keep turn x d (GraceNext.Wait g) = refl
-looks_keep turn x d GraceNext.Ended = refl
+looks_keep turn x d next = grind arith
 
 sums_keep : (turn : ℕ) (x : Freeze) (d : DownWrite) (taken : Taken) →
     KeepsBy (λ (y : Freeze). freeze_changes turn y.step) (0 + closed_changes turn d.level) (after_closing x d.level (down_write_summed d taken).0)
-sums_keep turn x d (Taken.More sum) = refl
-sums_keep turn x d (Taken.Total total) =
-    elim (eqb_tells total 0) [ inl h ↦ rw h.0 (omega (arith, closed_counts turn d.level x.nodes)) | inr h ↦ rw h.0 refl ]
+sums_keep turn x d taken = grind (arith, closed_counts)
 
 closing_keeps : (turn : ℕ) (w : Words) (x : Freeze) (d : DownWrite) (s : DownWriteStep) → closing_waits w d s ≡ true → (found : ℕ) →
     KeepsBy (λ (y : Freeze). freeze_changes turn y.step) (closing_changes turn s + closed_changes turn d.level)
     (after_closing x d.level (down_write_after d s found).0)
-closing_keeps turn w x d (DownWriteStep.AwaitsSections g) waits found = looks_keep turn x d (looked g found)
-closing_keeps turn w x d (DownWriteStep.Sums sum) waits found = sums_keep turn x d (sum_taking sum found d.processors)
-closing_keeps turn w x d s waits found = absurd (true≢false (sym waits))
+closing_keeps turn w x d s waits found = grind (arith, looks_keep, sums_keep)
 
 freeze_keeps : (turn : ℕ) (w : Words) (x : Freeze) (s : FreezeStep) (hook : HookAnswer) → freeze_waits_on w s hook ≡ true → (found : ℕ) →
     KeepsBy (λ (y : Freeze). freeze_changes turn y.step) (freeze_changes turn s) (freeze_after x s found hook).0
@@ -658,9 +574,7 @@ thaw_keeps turn w x ThawStep.Locks hook waits found = elim (eqb_tells found 0) [
 thaw_keeps turn w x s hook waits found = absurd (true≢false (sym waits))
 
 looked_keeps : (b : Callback) (next : GraceNext) → KeepsBy (λ (y : Callback). callback_changes y.step) 1 (callback_looked b next)
-looked_keeps b (GraceNext.More g) = refl
-looked_keeps b (GraceNext.Wait g) = refl
-looked_keeps b GraceNext.Ended = refl
+looked_keeps b next = grind arith
 
 callback_keeps : (w : Words) (b : Callback) (s : CallbackStep) → callback_waits w s ≡ true → (found : ℕ) →
     KeepsBy (λ (y : Callback). callback_changes y.step) (callback_changes s) (callback_after b s found).0
@@ -682,11 +596,7 @@ waits_keep turn w hook (Phase.Closes x) waits found = keeps_in Phase.Closes turn
 
 -- no operation has more changes, with the steps of a start, than a freeze
 closing_few : (turn : ℕ) (s : DownWriteStep) → closing_changes turn s ≤ turn + 2
-closing_few turn (DownWriteStep.Enters x) = omega arith
-closing_few turn (DownWriteStep.AwaitsSections g) = omega arith
-closing_few turn (DownWriteStep.CallsBack x) = omega arith
-closing_few turn (DownWriteStep.Sums sum) = omega arith
-closing_few turn s = omega arith
+closing_few turn s = grind arith
 
 closed_few : (turn level : ℕ) → closed_changes turn level ≤ 5 * turn + 7
 closed_few turn level =
@@ -700,12 +610,7 @@ opening_few turn level UpWriteStep.ClearsBlock one three = omega (arith, mul_le 
 opening_few turn level (UpWriteStep.Exits x) one three = omega (arith, level_more level (turn + 1) one, mul_le level 3 (turn + 1) three)
 
 freeze_few : (turn : ℕ) (c : Config) (x : Freeze) (s : FreezeStep) → FreezeFits c x.holder s → freeze_changes turn s ≤ 6 * turn + 9
-freeze_few turn c x (FreezeStep.Closes d) f = omega (arith, closing_few turn d.step, closed_few turn d.level)
-freeze_few turn c x (FreezeStep.Waits d) f = omega (arith, closing_few turn d.step, closed_few turn d.level)
-freeze_few turn c x (FreezeStep.Undoes level transition code) f = omega (arith, gives_up_changes turn level f.0 f.1, closed_few turn level)
-freeze_few turn c x (FreezeStep.GivesUp level code) f = omega (arith, gives_up_changes turn level f.0 f.1, closed_few turn level)
-freeze_few turn c x (FreezeStep.Reopens u code) f = omega (arith, opening_few turn u.level u.step f.0 f.1)
-freeze_few turn c x s f = omega arith
+freeze_few turn c x s f = grind (arith, closing_few, closed_few, gives_up_changes, opening_few)
 
 pub thaw_few : (turn : ℕ) (x : Thaw) (s : ThawStep) → ThawFits x.holder s → thaw_changes turn s ≤ 3 * turn + 3
 thaw_few turn x (ThawStep.Reopens u) f = omega (arith, opening_few turn u.level u.step f.0 f.1)
@@ -716,10 +621,4 @@ callback_few s = grind arith
 
 pub changes_small : (turn : ℕ) (c : Config) (w : Words) (t : ℕ) (held : Holdings) (phase : Phase) → PhaseFits c t held phase →
     changes_left turn phase + start_steps w phase ≤ 6 * turn + 9
-changes_small turn c w t held (Phase.Freezes x) f = omega (arith, freeze_few turn c x x.step f.5)
-changes_small turn c w t held (Phase.Thaws x) f = omega (arith, thaw_few turn x x.step f.2)
-changes_small turn c w t held (Phase.Callbacks b) f = omega (arith, callback_few b.step)
-changes_small turn c w t held (Phase.DownReads r) f = omega (arith, start_few (w.block r.level) r.wait r.step)
-changes_small turn c w t held (Phase.Writes (WritePhase.Takes m r)) f = omega (arith, start_few (w.block r.level) r.wait r.step)
-changes_small turn c w t held (Phase.Closes (ClosePhase.Enters x node r)) f = omega (arith, start_few (w.block r.level) r.wait r.step)
-changes_small turn c w t held phase f = omega arith
+changes_small turn c w t held phase f = grind (arith, freeze_few, thaw_few, callback_few, start_few)

@@ -1,24 +1,21 @@
 -- With no task lost, an operation that has to wait is blocked.
-use Rattle.std.proofs.Common.{◌≡◌, ℕ, ◌<◌, ◌≤◌, Bool, true, false, true≢false, refl, sym, ap, ◌∙◌, inl, inr, subst, arith}
-use Rattle.std.proofs.lemmas.Bool.{cases_Bool, ltb-true}
-use Rattle.std.specs.Prelude.{nat_lt, if◌then◌else◌, Option, Some}
-use Rattle.cpu_words.specs.{Words.Words, gate_counts.{Gates.{below, counted, unread}, Levels.{level_as_gate, processor_of}}}
-use Rattle.composite_ops.specs.declared.{file_closes.phases.ClosePhase.ClosePhase, write_access.phases.WritePhase.WritePhase}
-use Rattle.gated_tree.specs.declared.{phases.TreePhase.TreePhase, snapshots.SnapshotStep.SnapshotStep}
-use Rattle.mount_counts.specs.declared.{phases.{ChangeStep.ChangeStep, MountPhase.MountPhase}, remounts.RemountStep.RemountStep}
-use Rattle.percpu_rwsem.specs.declared.{callbacks.CallbackStep.CallbackStep, readers.{DownRead.DownRead, DownReadStep.DownReadStep}}
-use Rattle.percpu_rwsem.specs.declared.writers.{DownWrite.DownWrite, DownWriteStep.DownWriteStep}
-use Rattle.freeze_levels.specs.{Freezes.at_freeze, declared.{freezes.{Freeze.Freeze, FreezeStep.FreezeStep}, thaws.ThawStep.ThawStep}}
-use Rattle.gate_world.specs.{Configs.IsWithin, Fits.{FreezeFits, PhaseFits, ReadStepFits}, Levels.{at_level, level_role_of}, Operations.holds_none_from, Roles.freeze_owns}
-use Rattle.gate_world.specs.{Rules.{AtLevel, IsGood, owns}, Views.{held_of, holds_level}, Worlds.World, declared.{config.Config.Config, work.Phase.Phase}}
-use Rattle.gate_schedules.proofs.{levels.Counts.held_bit, operations.deadlocks.WhoCanStep.{fits_at, holds_below, holds_not_none, open_above}}
-use Rattle.gate_schedules.specs.operations.Progress.{AllAreBlocked, BlockedIfFreeze, ChangeIsBlocked, FreezeIsBlocked, HeldLevelAhead, IsBlockedAt, IsHeldIdle}
-use Rattle.gate_schedules.specs.operations.Progress.{LockIsBlocked, RemountIsBlocked, SnapshotIsBlocked, StartIsBlocked, ThawIsBlocked, is_admitted, is_first_lock, next_level}
-use Rattle.progress_laws.specs.{FairRounds.{BlockedAfterRounds, nobody, run_all}, LostTasks.{AllWait, CallbackIsBlockedBy, ClosingIsBlockedBy}}
-use Rattle.progress_laws.specs.{LostTasks.{CountIsStuck, FreezeIsBlockedBy, HoldIsLost, LockIsStuck}, StepsLeft.turns_left}
-use Rattle.progress_laws.specs.Waiting.{change_waits, freeze_waits, lock_taken, must_wait, remount_waits, snapshot_waits, start_waits, thaw_waits}
-use Rattle.progress_laws.proofs.{Blame.{each_is_blocked, lock_stuck, lock_waits, nonzero, owner_goes}, OneFreeze.{freezing_at, one_freezes, owner_later}, Rounds.settles_fairly}
-use Rattle.progress_laws.proofs.Measured.{rounds_good}
+use Rattle.progress_laws.proofs.Prelude.{AllWait, AtLevel, Bool, CallbackIsBlockedBy, CallbackStep, ChangeStep, ClosePhase, ClosingIsBlockedBy}
+use Rattle.progress_laws.proofs.Prelude.{Config, DownRead, DownReadStep, DownWrite, DownWriteStep, Freeze, FreezeFits, FreezeIsBlockedBy, FreezeStep}
+use Rattle.progress_laws.proofs.Prelude.{IsGood, IsWithin, MountPhase, Option, Phase, PhaseFits, RemountStep, SnapshotStep, Some, ThawStep, TreePhase}
+use Rattle.progress_laws.proofs.Prelude.{Words, World, WritePhase, ap, arith, at_freeze, at_level, cases_Bool, false, fits_at, freeze_owns}
+use Rattle.progress_laws.proofs.Prelude.{freeze_waits, held_of, if◌then◌else◌, inl, inr, level_as_gate, must_wait, nat_lt, owns, refl, start_waits}
+use Rattle.progress_laws.proofs.Prelude.{subst, sym, thaw_waits, true, true≢false, turns_left, ℕ, ◌<◌, ◌∙◌, ◌≡◌, ◌≤◌}
+use Rattle.std.proofs.lemmas.Bool.{ltb-true}
+use Rattle.cpu_words.specs.gate_counts.{Gates.{below, counted, unread}, Levels.processor_of}
+use Rattle.gate_world.specs.{Fits.ReadStepFits, Levels.level_role_of, Operations.holds_none_from, Views.holds_level}
+use Rattle.gate_schedules.proofs.{levels.Counts.held_bit, operations.deadlocks.WhoCanStep.{holds_below, holds_not_none, open_above}}
+use Rattle.gate_schedules.specs.operations.Progress.{AllAreBlocked, BlockedIfFreeze, ChangeIsBlocked, FreezeIsBlocked, HeldLevelAhead, IsBlockedAt}
+use Rattle.gate_schedules.specs.operations.Progress.{IsHeldIdle, LockIsBlocked, RemountIsBlocked, SnapshotIsBlocked, StartIsBlocked, ThawIsBlocked}
+use Rattle.gate_schedules.specs.operations.Progress.{is_admitted, is_first_lock, next_level}
+use Rattle.progress_laws.proofs.{Blame.{each_is_blocked, lock_stuck, lock_waits, nonzero, owner_goes}, Measured.rounds_good, OneFreeze.freezing_at}
+use Rattle.progress_laws.{proofs.{OneFreeze.{one_freezes, owner_later}, Rounds.settles_fairly}, specs.FairRounds.{BlockedAfterRounds, nobody}}
+use Rattle.progress_laws.specs.{FairRounds.run_all, LostTasks.{CountIsStuck, HoldIsLost, LockIsStuck}, Waiting.{change_waits, lock_taken}}
+use Rattle.progress_laws.specs.Waiting.{remount_waits, snapshot_waits}
 
 abbrev as_number : Bool → ℕ
 as_number b = if b then 1 else 0
@@ -105,9 +102,7 @@ module _ (c : Config) (w : World) (good : IsGood c w) (all : AllWait c nobody w)
       absurd (waiter z lz i one three (holds_there i z some none) phase at (fits_at c w good z lz phase at) waits)
 
   closing_kept : (d : DownWrite) (s : DownWriteStep) → 1 ≤ d.level → d.level ≤ 3 → ClosingIsBlockedBy c nobody w d s → IsHeldIdle c w d.level
-  closing_kept d (DownWriteStep.AwaitsSections g) one three h = none_lost g.task h.1
-  closing_kept d (DownWriteStep.Sums sum) one three h = count_kept d.level one three h
-  closing_kept d s one three h = absurd h
+  closing_kept d s one three h = grind (arith, none_lost, count_kept)
 
   second : (level : ℕ) → as_number (nat_lt 1 level) ≡ 1 → 2 ≤ level
   second level o = elim (cases_Bool (nat_lt 1 level)) [
@@ -118,14 +113,7 @@ module _ (c : Config) (w : World) (good : IsGood c w) (all : AllWait c nobody w)
   -- a freeze that owns `umount` and has to wait is blocked
   owner_kept : (x : Freeze) (s : FreezeStep) → FreezeFits c x.holder s → freeze_owns s ≡ 1 → freeze_waits w.words s ≡ true →
       FreezeIsBlockedBy c nobody w s → (2 ≤ next_level w.words s) × HeldLevelAhead c w s
-  owner_kept x (FreezeStep.Closes d) fits own waits h =
-      (second d.level own, (d.level, omega arith, fits.1, closing_kept d d.step fits.0 fits.1 h))
-  owner_kept x (FreezeStep.Waits d) fits own waits h =
-      (second d.level own, (d.level, omega arith, fits.0.1, closing_kept d d.step fits.0.0 fits.0.1 h))
-  owner_kept x FreezeStep.Locks fits own waits h = absurd (omega (arith, own))
-  owner_kept x (FreezeStep.LocksToUndo code) fits own waits h = absurd (omega (arith, own))
-  owner_kept x FreezeStep.LocksAgain fits own waits h = absurd (omega (arith, own))
-  owner_kept x s fits own waits h = absurd (true≢false (sym waits))
+  owner_kept x s fits own waits h = grind (arith, second, closing_kept)
 
   lock_kept : LockIsStuck c nobody w → LockIsBlocked c w
   lock_kept (y, ly, own, inl dead) = none_lost y dead

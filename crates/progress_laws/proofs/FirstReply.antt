@@ -1,27 +1,22 @@
 -- The first reply: what is left once the starts, the wants and the claimed callbacks wait is one freeze, and one operation that waits for nobody.
-use Rattle.std.proofs.Common.{◌≡◌, ℕ, zero, suc, ◌+◌, ◌*◌, ◌<◌, ◌≤◌, Bool, true, false, true≢false, refl, sym, ap, ◌∙◌, inl, inr, subst, arith}
-use Rattle.std.proofs.{Math.Nat.{le-max_right}, lemmas.Bool.{cases_Bool, eq-eqb, ne_eqb, Decides.eqb_tells}}
-use Rattle.std.specs.Prelude.{Err, Result, ◌==◌, ◌⊎◌, not, if◌then◌else◌, Option, None, Some}
-use Rattle.access_model.specs.{Replies.map_next, declared.{errors.GateError.GateError, replies.{Next.Next, Reply.Reply}}}
-use Rattle.cpu_words.specs.{Hooks.HookAnswer, Words.Words}
-use Rattle.freeze_levels.specs.{Freezes.{at_freeze, freeze_after}, declared.freezes.{Freeze.Freeze, FreezeStep.FreezeStep}}
-use Rattle.freeze_laws.specs.stages.Roles.{KnowsStage, freezes, under_way}
-use Rattle.freeze_laws.proofs.stages.Facts.{other_zero}
-use Rattle.gate_world.specs.{Configs.IsWithin, Fits.{PhaseFits}, Roles.{freeze_stage_role, reopening_role}, Rules.{IsGood, Stages, stage_role_of, stage_roles}}
-use Rattle.gate_world.specs.{Views.{held_of, phase_after}, Work.after_of, Worlds.{World, after_step, found_at, happens, words_after}}
-use Rattle.gate_world.specs.declared.{config.Config.Config, entries.Entry.TheVariants.Steps, views.View.View, work.Phase.Phase}
-use Rattle.gate_schedules.proofs.operations.deadlocks.{RankDecreases.stands_after, WhoCanStep.fits_at}
-use Rattle.gate_schedules.specs.operations.{Progress.{is_first_lock}, Ranks.most_alone}
-use Rattle.mount_counts.specs.declared.phases.MountPhase.{MountPhase}
-use Rattle.percpu_rwsem.specs.declared.{callbacks.CallbackStep.CallbackStep, writers.UpWriteStep.UpWriteStep}
-use Rattle.finite_sums.{proofs.Totals.{total_at}}
-use Rattle.progress_laws.specs.{Alone.{alone_left}, FirstReply.{ReplyOr, RepliesOrWaits, most_of_kinds, most_to_reply}, LostTasks.AllWait}
-use Rattle.progress_laws.specs.{StepsLeft.{freeze_left, freeze_tries, most_steps}, Waiting.{freeze_waits, must_wait}}
-use Rattle.progress_laws.proofs.{AllNearer.{freeze_steps, phase_comes, steps_small, thaw_steps, tries_small}, Alone.HasRoom, Changes.thaw_few, Calls.lock_free}
-use Rattle.progress_laws.proofs.FreezeAlone.{ahead_falls, ahead_small, freeze_ahead, freeze_room, tries_in_room}
-use Rattle.progress_laws.proofs.RunAlone.{Makes, NoneGoes, Stopped, and_then, no_nearer, runs, some_or_none, step_to}
-use Rattle.progress_laws.proofs.{LostStays.same_entry, Nearer.{ComesNearer, goes_on}, OneFreeze.{few_freeze, freezing_at, under_le}, Settling.{others_same, step_good}, Sweeps.{AllBelow, Falls, WaitsBelow, below_kept, falls_alone, first_kinds}}
-use Rattle.progress_laws.proofs.WaitKinds.{FreezeGoes, NeverWaits, NextIs, callback_kind, fails_now, freeze_goes, freeze_keeps, graces_kept, is_failing, kind, never_next}
+use Rattle.progress_laws.proofs.Prelude.{AllWait, Bool, CallbackStep, Config, Err, Freeze, FreezeStep, GateError, HookAnswer, IsGood, IsWithin}
+use Rattle.progress_laws.proofs.Prelude.{MountPhase, Next, None, Option, Phase, PhaseFits, Some, Steps, UpWriteStep, View, Words, World, after_of}
+use Rattle.progress_laws.proofs.Prelude.{after_step, ap, arith, at_freeze, cases_Bool, eq-eqb, eqb_tells, false, fits_at, found_at, freeze_after}
+use Rattle.progress_laws.proofs.Prelude.{freeze_left, freeze_tries, freeze_waits, happens, held_of, if◌then◌else◌, inl, inr, map_next, must_wait, not}
+use Rattle.progress_laws.proofs.Prelude.{phase_after, refl, stands_after, subst, suc, sym, total_at, true, true≢false, words_after, zero, ℕ, ◌*◌, ◌+◌}
+use Rattle.progress_laws.proofs.Prelude.{◌<◌, ◌==◌, ◌∙◌, ◌≡◌, ◌≤◌, ◌⊎◌}
+use Rattle.std.{proofs.{Math.Nat.le-max_right, lemmas.Bool.ne_eqb}, specs.Prelude.Result}
+use Rattle.access_model.specs.declared.replies.Reply.{Reply}
+use Rattle.freeze_laws.{proofs.stages.Facts.other_zero, specs.stages.Roles.{KnowsStage, freezes, under_way}}
+use Rattle.gate_world.specs.{Roles.{freeze_stage_role, reopening_role}, Rules.{Stages, stage_role_of, stage_roles}}
+use Rattle.gate_schedules.specs.operations.{Progress.is_first_lock, Ranks.most_alone}
+use Rattle.progress_laws.proofs.{AllNearer.{freeze_steps, phase_comes, steps_small, thaw_steps, tries_small}, Alone.HasRoom, Calls.lock_free}
+use Rattle.progress_laws.proofs.{Changes.thaw_few, FreezeAlone.{ahead_falls, ahead_small, freeze_ahead, freeze_room, tries_in_room}}
+use Rattle.progress_laws.proofs.{LostStays.same_entry, Nearer.{ComesNearer, goes_on}, OneFreeze.{few_freeze, freezing_at, under_le}, RunAlone.Makes}
+use Rattle.progress_laws.proofs.{RunAlone.{NoneGoes, Stopped, and_then, no_nearer, runs, some_or_none, step_to}, Settling.{others_same, step_good}}
+use Rattle.progress_laws.proofs.{Sweeps.{AllBelow, Falls, WaitsBelow, below_kept, falls_alone, first_kinds}, WaitKinds.{FreezeGoes, NeverWaits}}
+use Rattle.progress_laws.proofs.WaitKinds.{NextIs, callback_kind, fails_now, freeze_goes, freeze_keeps, graces_kept, is_failing, kind, never_next}
+use Rattle.progress_laws.specs.{Alone.alone_left, FirstReply.{ReplyOr, RepliesOrWaits, most_of_kinds, most_to_reply}, StepsLeft.most_steps}
 
 -- need not wait
 abbrev is_free : Words → Phase → Bool
@@ -52,17 +47,7 @@ reopening_stage stage sb level (UpWriteStep.Exits x) known = known.0
 
 is_busy : (stage sb nodes : ℕ) (s : FreezeStep) → under_way stage ≡ 1 → KnowsStage stage sb (freeze_stage_role nodes s) →
     freezes (freeze_stage_role nodes s) ≡ 0 → IsBusy s
-is_busy stage sb nodes FreezeStep.Locks under known none = inl refl
-is_busy stage sb nodes FreezeStep.LoadsStage under known none = inr (inl refl)
-is_busy stage sb nodes FreezeStep.LoadsHolders under known none = absurd (omega (arith, under, ap under_way known.0))
-is_busy stage sb nodes (FreezeStep.Holds beside) under known none = absurd (omega (arith, under, ap under_way known.0))
-is_busy stage sb nodes FreezeStep.LoadsSuperblock under known none = absurd (omega (arith, under, ap under_way known.0))
-is_busy stage sb nodes FreezeStep.CompletesReadOnly under known none = absurd (omega (arith, under, ap under_way known.0))
-is_busy stage sb nodes FreezeStep.SetsWrite under known none = absurd (omega (arith, under, ap under_way known.0))
-is_busy stage sb nodes (FreezeStep.Reopens u code) under known none =
-    absurd (omega (arith, under, ap under_way (reopening_stage stage sb u.level u.step known)))
-is_busy stage sb nodes (FreezeStep.Releases answer) under known none = inr (inr (answer, refl))
-is_busy stage sb nodes s under known none = absurd (omega (arith, none))
+is_busy stage sb nodes s under known none = grind (arith, reopening_stage)
 
 -- each phase is of one of the first two kinds, or a freeze, or of the last kind
 kinds : (phase : Phase) → (kind phase < 2) ⊎ (((x : Freeze) × (phase ≡ Phase.Freezes x)) ⊎ (kind phase ≡ 3))
@@ -149,13 +134,7 @@ module _ (c : Config) (lim : IsWithin c) (lost : ℕ → Bool) where
     GoesOn v = (q : Phase) × ((v.views t).phase ≡ Some q) × (kind q ≡ 3) × (must_wait v.words q ≡ false)
 
     last_room : (phase : Phase) → kind phase ≡ 3 → HasRoom c lim t lt 0 2 (Some phase)
-    last_room (Phase.Mounts x) is = (omega arith, omega arith)
-    last_room (Phase.Remounts x) is = (omega arith, omega arith)
-    last_room (Phase.UpReads x) is = (omega arith, omega arith)
-    last_room (Phase.Thaws x) is = (omega arith, omega arith)
-    last_room (Phase.Trees x) is = (omega arith, omega arith)
-    last_room (Phase.Callbacks b) is = (omega arith, omega arith)
-    last_room phase is = absurd (omega (arith, is))
+    last_room phase is = grind arith
 
     last_small : (w : World) → IsGood c w → (phase : Phase) → (w.views t).phase ≡ Some phase → kind phase ≡ 3 →
         alone_left 0 2 w.words (Some phase) ≤ most_steps c

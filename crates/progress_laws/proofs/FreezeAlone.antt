@@ -1,23 +1,18 @@
 -- A freeze alone: a number of its own falls with each step that it need not wait for.
-use Rattle.std.proofs.Common.{◌≡◌, ℕ, ◌+◌, ◌*◌, ◌<◌, ◌≤◌, refl, ap, inl, inr, arith}
-use Rattle.std.proofs.lemmas.Bool.{cases_Bool, Decides.eqb_tells}
-use Rattle.std.specs.Prelude.{Err, Ok, None, Some, ◌-◌, ◌==◌, if◌then◌else◌, Option}
-use Rattle.access_model.specs.{Holders.held_by, declared.{actions.Action.Action, replies.Next.Next}}
-use Rattle.cpu_words.specs.{Hooks.HookAnswer, Sums.sum_taking, Words.Words, declared.sums.{Sum.Sum, Taken.Taken}}
-use Rattle.freeze_levels.specs.{Freezes.{after_clearing, after_closing, after_reopening, after_undoing, at_freeze, freeze_after, freeze_fails, freeze_undone, level_closed}, Holders.holders_in}
+use Rattle.progress_laws.proofs.Prelude.{Config, DownWrite, DownWriteStep, Err, Freeze, FreezeFits, FreezeStep, Grace, GraceNext, HookAnswer, Next}
+use Rattle.progress_laws.proofs.Prelude.{Ok, Option, Sum, Transition, TransitionNext, UpWrite, UpWriteStep, Words, after_closing, ap, arith}
+use Rattle.progress_laws.proofs.Prelude.{at_freeze, cases_Bool, closing_left, closing_tries, down_write_after, eqb_tells, exchange_rank, freeze_after}
+use Rattle.progress_laws.proofs.Prelude.{freeze_left, freeze_tries, if◌then◌else◌, inl, inr, level_closed, opening_left, opening_tries, refl}
+use Rattle.progress_laws.proofs.Prelude.{sections_awaited, transition_after, ℕ, ◌*◌, ◌+◌, ◌-◌, ◌<◌, ◌==◌, ◌≡◌, ◌≤◌}
+use Rattle.access_model.specs.{Holders.held_by, declared.actions.Action.Action}
+use Rattle.cpu_words.specs.declared.sums.Taken.{Taken}
+use Rattle.freeze_levels.specs.{Freezes.{after_clearing, after_reopening, after_undoing, freeze_fails, freeze_undone}, Holders.holders_in}
 use Rattle.freeze_laws.proofs.stages.Facts.{at_level}
-use Rattle.freeze_levels.specs.declared.freezes.{Freeze.Freeze, FreezeStep.FreezeStep}
 use Rattle.node_words.specs.{Phases.clear_after, declared.marks.ClearMarks.ClearMarks}
-use Rattle.percpu_rwsem.specs.Writers.{at_down_write, callback_step, down_write_after, down_write_summed, enter_step, exit_made, passed_awaited, sections_awaited, up_write_after}
-use Rattle.percpu_rwsem.specs.{Graces.looked, SyncWords.{is_passed, on_callback, on_enter, on_exit, unpack}, Transitions.transition_after}
-use Rattle.percpu_rwsem.specs.declared.{grace.{Grace.Grace, GraceNext.GraceNext}, sync_word.{GpState.GpState, SyncWord.SyncWord}}
-use Rattle.percpu_rwsem.specs.declared.{transitions.{Transition.Transition, TransitionNext.TransitionNext}, writers.{DownWrite.DownWrite, DownWriteStep.DownWriteStep}}
-use Rattle.percpu_rwsem.specs.declared.writers.{UpWrite.UpWrite, UpWriteStep.UpWriteStep}
-use Rattle.gate_world.specs.{Fits.FreezeFits, declared.config.Config.Config}
+use Rattle.percpu_rwsem.specs.{SyncWords.on_exit, Writers.{at_down_write, callback_step, down_write_summed, enter_step, exit_made, passed_awaited}}
+use Rattle.percpu_rwsem.specs.{Writers.up_write_after, declared.sync_word.{GpState.GpState, SyncWord.SyncWord}}
 use Rattle.gate_schedules.proofs.operations.deadlocks.BlockedCloses.{StaysAtLevel, down_stays}
-use Rattle.progress_laws.specs.StepsLeft.{closed_left, closing_left, closing_tries, freeze_left, freeze_tries, opening_left, opening_tries}
-use Rattle.gate_schedules.specs.operations.Ranks.{exchange_rank}
-use Rattle.progress_laws.proofs.{AllNearer.exchange_few, Nearer.by_wait, WaitKinds.NextIs}
+use Rattle.progress_laws.{proofs.{AllNearer.exchange_few, Nearer.by_wait, WaitKinds.NextIs}, specs.StepsLeft.closed_left}
 
 -- the loads of a sum, which may begin again once
 abbrev sum_tries : ℕ → ℕ
@@ -83,11 +78,7 @@ pub tries_in_room : (c : Config) (w : Words) (x : Freeze) (s : FreezeStep) → F
 tries_in_room c w x s f = grind (arith, exchange_few)
 
 closing_small : (p : ℕ) (s : DownWriteStep) → closing_ahead p s + closing_room p s ≤ sum_tries p + 5
-closing_small p (DownWriteStep.Enters x) = omega arith
-closing_small p (DownWriteStep.AwaitsSections g) = omega arith
-closing_small p (DownWriteStep.CallsBack x) = omega arith
-closing_small p (DownWriteStep.Sums sum) = omega arith
-closing_small p s = omega arith
+closing_small p s = grind arith
 
 closed_small : (p level : ℕ) → closed_ahead p level ≤ 2 * sum_tries p + 17
 closed_small p level =
@@ -101,12 +92,7 @@ opening_small level UpWriteStep.ClearsBlock three = omega (arith, three)
 opening_small level (UpWriteStep.Exits x) three = omega (arith, three)
 
 pub ahead_small : (c : Config) (p : ℕ) (x : Freeze) (s : FreezeStep) → FreezeFits c x.holder s → freeze_ahead p s + freeze_room p s ≤ 6 * p + 25
-ahead_small c p x (FreezeStep.Closes d) f = omega (arith, closing_small p d.step, closed_small p d.level)
-ahead_small c p x (FreezeStep.Waits d) f = omega (arith, closing_small p d.step, closed_small p d.level)
-ahead_small c p x (FreezeStep.Undoes level transition code) f = omega (arith, f.1)
-ahead_small c p x (FreezeStep.GivesUp level code) f = omega (arith, f.1)
-ahead_small c p x (FreezeStep.Reopens u code) f = omega (arith, opening_small u.level u.step f.1)
-ahead_small c p x s f = omega arith
+ahead_small c p x s f = grind (arith, closing_small, closed_small, opening_small)
 
 -- Of what comes next: the tries ahead don't rise, and if fewer steps are left, they and those of its own come out of those that there were.
 abbrev Ahead : {P : Type 0} (left ahead room : P → ℕ) (a b tries : ℕ) → P → Type 0
@@ -130,49 +116,25 @@ LevelAhead p w d s (Next.Done answer) = 1 ≤ closing_ahead p s
 module _ (p : ℕ) (w : Words) where
   module _ (d : DownWrite) where
     entered_ahead : (x : Transition) (s : GpState) → LevelAhead p w d (DownWriteStep.Enters x) (Next.Go (at_down_write d (enter_step d.tasks (TransitionNext.Made s))))
-    entered_ahead x GpState.Idle = (omega arith, λ lt. omega arith)
-    entered_ahead x GpState.Enter = (omega arith, λ lt. omega arith)
-    entered_ahead x other = (omega arith, λ lt. omega arith)
+    entered_ahead x s = grind arith
 
     enters_ahead : (x : Transition) (next : TransitionNext) → LevelAhead p w d (DownWriteStep.Enters x) (Next.Go (at_down_write d (enter_step d.tasks next)))
-    enters_ahead x (TransitionNext.More y) = (omega arith, λ lt. absurd (omega (arith, lt)))
-    enters_ahead x TransitionNext.Undefined = (omega arith, λ lt. absurd (omega (arith, lt)))
-    enters_ahead x (TransitionNext.Made s) = entered_ahead x s
+    enters_ahead x next = grind (arith, entered_ahead)
 
     calls_ahead : (x : Transition) (next : TransitionNext) → LevelAhead p w d (DownWriteStep.CallsBack x) (Next.Go (at_down_write d (callback_step next)))
-    calls_ahead x (TransitionNext.More y) = (omega arith, λ lt. absurd (omega (arith, lt)))
-    calls_ahead x TransitionNext.Undefined = (omega arith, λ lt. absurd (omega (arith, lt)))
-    calls_ahead x (TransitionNext.Made s) = (omega arith, λ lt. omega arith)
+    calls_ahead x next = grind arith
 
     looks_ahead : (g : Grace) (next : GraceNext) → LevelAhead p w d (DownWriteStep.AwaitsSections g) (sections_awaited d next)
-    looks_ahead g (GraceNext.More h) = (omega arith, λ lt. omega arith)
-    looks_ahead g (GraceNext.Wait h) = (omega arith, λ lt. omega arith)
-    looks_ahead g GraceNext.Ended = (omega arith, λ lt. omega arith)
+    looks_ahead g next = grind arith
 
     passed_ahead : (word : Option SyncWord) → LevelAhead p w d DownWriteStep.AwaitsPassed (passed_awaited d word)
-    passed_ahead None = (omega arith, λ lt. omega arith)
-    passed_ahead (Some word) =
-        elim (cases_Bool (is_passed word.state)) [
-          | inl h ↦ rw h (omega arith, λ lt. omega arith)
-          | inr h ↦ rw h (omega arith, λ lt. omega arith)
-        ]
+    passed_ahead word = grind arith
 
     sums_ahead : (sum : Sum) (taken : Taken) → LevelAhead p w d (DownWriteStep.Sums sum) (down_write_summed d taken).0
-    sums_ahead sum (Taken.More next) = (omega arith, λ lt. absurd (omega (arith, lt)))
-    sums_ahead sum (Taken.Total total) =
-        elim (eqb_tells total 0) [
-          | inl h ↦ rw h.0 (omega arith)
-          | inr h ↦ rw h.0 (omega arith, λ lt. absurd (omega (arith, lt)))
-        ]
+    sums_ahead sum taken = grind arith
 
     closing_falls : (s : DownWriteStep) (found : ℕ) → LevelAhead p w d s (down_write_after d s found).0
-    closing_falls (DownWriteStep.Enters x) found = enters_ahead x (transition_after on_enter x found)
-    closing_falls (DownWriteStep.AwaitsSections g) found = looks_ahead g (looked g found)
-    closing_falls (DownWriteStep.CallsBack x) found = calls_ahead x (transition_after on_callback x found)
-    closing_falls DownWriteStep.AwaitsPassed found = passed_ahead (unpack found)
-    closing_falls DownWriteStep.SetsBlock found =
-        elim (eqb_tells found 0) [ inl h ↦ rw h.0 (omega arith, λ lt. omega arith) | inr h ↦ rw h.0 (omega arith, λ lt. omega arith) ]
-    closing_falls (DownWriteStep.Sums sum) found = sums_ahead sum (sum_taking sum found d.processors)
+    closing_falls s found = grind (arith, enters_ahead, looks_ahead, calls_ahead, passed_ahead, sums_ahead)
 
   closed_next : (level nodes : ℕ) → (freeze_ahead p (level_closed level nodes) ≡ closed_ahead p level) × (freeze_room p (level_closed level nodes) ≡ 1)
   closed_next level nodes =
@@ -191,12 +153,7 @@ module _ (p : ℕ) (w : Words) where
     closes_ahead : (d : DownWrite) (next : Next DownWrite) (action : Option Action) → StaysAtLevel d next action → LevelAhead p w d d.step next →
         ComesAhead p (freeze_left x (FreezeStep.Closes d)) (freeze_ahead p (FreezeStep.Closes d)) (freeze_tries w (FreezeStep.Closes d))
         (after_closing x d.level next)
-    closes_ahead d (Next.Go y) action level h = closes_on d y level h
-    closes_ahead d (Next.Wait y) action level h =
-        by_wait (λ z. ComesAhead p (freeze_left x (FreezeStep.Closes d)) (freeze_ahead p (FreezeStep.Closes d)) (freeze_tries w (FreezeStep.Closes d))
-        (Next.Wait (at_freeze x z))) y y.step (closes_on d y level h) (closes_on d y level h)
-    closes_ahead d (Next.Done answer) action level h =
-        let n = closed_next d.level x.nodes in (omega (arith, h, n.0), λ lt. omega (arith, h, n.0, n.1))
+    closes_ahead d next action level h = grind (arith, closes_on, by_wait, closed_next)
 
     fails_next : (level code : ℕ) → (freeze_ahead p (freeze_fails level code) ≤ 3 * level) × (freeze_room p (freeze_fails level code) ≡ 1)
     fails_next level code = elim (eqb_tells level 0) [ inl h ↦ rw h.0 (omega arith, refl) | inr h ↦ rw h.0 (omega arith, refl) ]
@@ -204,10 +161,7 @@ module _ (p : ℕ) (w : Words) where
     exits_ahead : (u : UpWrite) (code : ℕ) (t : Transition) (next : TransitionNext) →
         ComesAhead p (opening_left u.level (UpWriteStep.Exits t)) (opening_ahead u.level (UpWriteStep.Exits t)) (opening_tries w u (UpWriteStep.Exits t))
         (after_reopening x u.level code (exit_made u next))
-    exits_ahead u code t (TransitionNext.More y) = (omega arith, λ lt. absurd (omega (arith, lt)))
-    exits_ahead u code t TransitionNext.Undefined = (omega arith, λ lt. absurd (omega (arith, lt)))
-    exits_ahead u code t (TransitionNext.Made s) =
-        let n = fails_next (u.level - 1) code in (omega (arith, n.0), λ lt. omega (arith, n.0, n.1))
+    exits_ahead u code t next = grind (arith, fails_next)
 
     -- a level that is given up: a sum has a try left, at which it is
     gives_up_ahead : (level : ℕ) → 1 ≤ level → level ≤ 3 → 3 * (level - 1) + 3 ≤ closed_ahead p level
@@ -218,10 +172,7 @@ module _ (p : ℕ) (w : Words) where
 
     undoes_ahead : (level code : ℕ) (t : Transition) (next : TransitionNext) →
         ComesAhead p (2 * level + 2) (3 * (level - 1) + 1) (exchange_rank (w.sync level) t) (after_undoing x level code next)
-    undoes_ahead level code t (TransitionNext.More y) = (omega arith, λ lt. absurd (omega (arith, lt)))
-    undoes_ahead level code t TransitionNext.Undefined = (omega arith, λ lt. absurd (omega (arith, lt)))
-    undoes_ahead level code t (TransitionNext.Made s) =
-        let n = undone_next level code in (omega (arith, n.0), λ lt. omega (arith, n.0, n.1))
+    undoes_ahead level code t next = grind (arith, undone_next)
 
     opens_ahead : (u : UpWrite) (code : ℕ) (s : UpWriteStep) (found : ℕ) → 1 ≤ u.level →
         ComesAhead p (opening_left u.level s) (opening_ahead u.level s) (opening_tries w u s) (after_reopening x u.level code (up_write_after u s found).0)
@@ -230,9 +181,7 @@ module _ (p : ℕ) (w : Words) where
 
     clears_ahead : (marks : ClearMarks) (next : Next ClearMarks) →
         ComesAhead p (freeze_left x (FreezeStep.Cleans marks)) (closed_ahead p 2) 1 (after_clearing x next)
-    clears_ahead marks (Next.Go y) = (omega arith, λ lt. omega arith)
-    clears_ahead marks (Next.Wait y) = (omega arith, λ lt. omega arith)
-    clears_ahead marks (Next.Done answer) = (omega arith, λ lt. omega arith)
+    clears_ahead marks next = grind arith
 
     pub ahead_falls : (c : Config) (s : FreezeStep) (found : ℕ) (hook : HookAnswer) → FreezeFits c x.holder s →
         NextIs (λ (y : Freeze). (freeze_ahead p y.step ≤ freeze_ahead p s) × (freeze_left y y.step < freeze_left x s →

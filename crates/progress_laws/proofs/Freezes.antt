@@ -1,24 +1,22 @@
 -- Freezes and thaws: each step that doesn't wait comes nearer.
-use Rattle.std.proofs.Common.{◌≡◌, ℕ, ◌+◌, ◌*◌, ◌<◌, ◌≤◌, true, false, true≢false, refl, sym, ap, ◌∙◌, inl, inr, subst, arith}
-use Rattle.std.proofs.lemmas.Bool.{cases_Bool, eq-eqb, Decides.eqb_tells}
-use Rattle.std.specs.Prelude.{Err, Ok, nat_lt, ◌==◌, ◌-◌, Option}
-use Rattle.access_model.specs.{Holders.{held_by, is_unheld, with_holder}, declared.{actions.Action.Action, replies.Next.Next}}
-use Rattle.cpu_words.specs.{Hooks.HookAnswer, Touches.{found_by}, Words.{Words, read}, declared.names.WordName.WordName}
-use Rattle.freeze_levels.specs.{Freezes.{after_clearing, after_closing, after_reopening, after_undoing, at_freeze, freeze_after, freeze_fails, freeze_next, freeze_undone, level_closed}, Holders.holders_in}
-use Rattle.freeze_levels.specs.{Thaws.{after_opening, thaw_after, thaw_next, thaw_opens}, declared.{freezes.{Freeze.Freeze, FreezeStep.FreezeStep}, thaws.{Thaw.Thaw, ThawStep.ThawStep}}}
-use Rattle.gate_world.specs.{Fits.{Fits, FreezeFits, PhaseFits, ThawFits}, Levels.sync_role_of, Roles.{freeze_position, position_sync, sync_beside, thaw_position}}
-use Rattle.gate_world.specs.{Rules.{Fitting, IsGood}, Views.held_of, Worlds.{World, found_at, words_after}, declared.{config.Config.Config, work.Phase.Phase}}
-use Rattle.node_words.specs.{Phases.{clear_after, clear_next}, declared.marks.ClearMarks.{ClearMarks}}
+use Rattle.progress_laws.proofs.Prelude.{Config, DownWrite, DownWriteStep, Err, Freeze, FreezeFits, FreezeStep, HookAnswer, IsGood, Next, Ok, Option}
+use Rattle.progress_laws.proofs.Prelude.{Phase, PhaseFits, ThawStep, Transition, TransitionNext, UpWrite, UpWriteStep, WordName, Words, World}
+use Rattle.progress_laws.proofs.Prelude.{after_closing, after_event, ap, arith, at_freeze, cases_Bool, closing_left, closing_tries, down_write_after}
+use Rattle.progress_laws.proofs.Prelude.{down_write_next, eq-eqb, eqb_tells, false, found_at, found_by, freeze_after, freeze_left, freeze_next}
+use Rattle.progress_laws.proofs.Prelude.{freeze_tries, freeze_waits, held_of, inl, inr, level_closed, load_same, nat_lt, opening_left, opening_tries}
+use Rattle.progress_laws.proofs.Prelude.{read, refl, subst, sym, sync_role_of, thaw_after, thaw_waits, transition_after, true, true≢false}
+use Rattle.progress_laws.proofs.Prelude.{words_after, ℕ, ◌*◌, ◌+◌, ◌-◌, ◌<◌, ◌==◌, ◌∙◌, ◌≡◌, ◌≤◌}
+use Rattle.access_model.specs.{Holders.{held_by, is_unheld, with_holder}, declared.actions.Action.Action}
+use Rattle.freeze_levels.specs.{Freezes.{after_clearing, after_reopening, after_undoing, freeze_fails, freeze_undone}, Holders.holders_in}
+use Rattle.freeze_levels.specs.{Thaws.{after_opening, thaw_next, thaw_opens}, declared.thaws.Thaw.Thaw}
+use Rattle.gate_world.specs.{Fits.{Fits, ThawFits}, Roles.{freeze_position, position_sync, sync_beside, thaw_position}, Rules.Fitting}
+use Rattle.node_words.specs.{Phases.{clear_after, clear_next}, declared.marks.ClearMarks.ClearMarks}
 use Rattle.freeze_laws.{proofs.stages.Facts.at_level, specs.levels.Operations.{down_write_role, up_write_role}}
-use Rattle.percpu_rwsem.specs.{SyncWords.on_exit, Transitions.transition_after}
-use Rattle.percpu_rwsem.specs.Writers.{down_write_after, down_write_next, exit_made, up_write_after, up_write_next}
-use Rattle.percpu_rwsem.specs.declared.transitions.{Transition.Transition, TransitionNext.TransitionNext}
-use Rattle.percpu_rwsem.specs.declared.writers.{DownWrite.DownWrite, DownWriteStep.DownWriteStep, UpWrite.UpWrite, UpWriteStep.UpWriteStep}
-use Rattle.gate_schedules.proofs.{frames.Words.load_same, operations.deadlocks.{BlockedCloses.{StaysAtLevel, down_stays}, RankDecreases.after_event}}
-use Rattle.progress_laws.specs.StepsLeft.{closed_left, closing_left, closing_tries, freeze_left, freeze_tries, opening_left, opening_tries, thaw_left, thaw_tries}
-use Rattle.progress_laws.specs.Waiting.{freeze_waits, thaw_waits}
-use Rattle.progress_laws.proofs.{Calls.{lock_found, lock_free}, Levels.{ClosingNears, ClosingStays, OpeningNears, closing_nears, closing_stays, opening_nears}}
-use Rattle.progress_laws.proofs.Nearer.{NearsBy, NearsPhase, StaysBy, by_wait, freeze_waits_on, phase_nears, phase_stays}
+use Rattle.percpu_rwsem.specs.{SyncWords.on_exit, Writers.{exit_made, up_write_after, up_write_next}}
+use Rattle.gate_schedules.proofs.operations.deadlocks.BlockedCloses.{StaysAtLevel, down_stays}
+use Rattle.progress_laws.proofs.{Calls.{lock_found, lock_free}, Levels.{ClosingNears, ClosingStays, OpeningNears, closing_nears, closing_stays}}
+use Rattle.progress_laws.proofs.{Levels.opening_nears, Nearer.{NearsBy, NearsPhase, StaysBy, by_wait, freeze_waits_on, phase_nears, phase_stays}}
+use Rattle.progress_laws.specs.StepsLeft.{closed_left, thaw_left, thaw_tries}
 
 -- what comes after a step of a freeze, and of a thaw
 abbrev FreezeNears : Words → Words → ℕ → ℕ → Next Freeze → Type 0
@@ -38,21 +36,15 @@ closed_next x level some =
       | inr h ↦ elim (cases_Bool (level == 2)) [ inl q ↦ rw (h, q) (omega arith) | inr q ↦ rw (h, q) (omega arith) ]
     ]
 
--- after an event of the closing of a level
+-- after a step of the closing of a level
 closes_on : (w after : Words) (x : Freeze) (d : DownWrite) (s : DownWriteStep) (y : DownWrite) → y.level ≡ d.level → ClosingNears w after d s (Next.Go y) →
     FreezeNears w after (closing_left d.tasks s + closed_left x d.level) (closing_tries w d s) (Next.Go (at_freeze x (FreezeStep.Closes y)))
-closes_on w after x d s y level (inl h) = inl (omega (arith, h, ap (closed_left x) level))
-closes_on w after x d s y level (inr (inl h)) = absurd (omega (arith, h.1))
-closes_on w after x d s y level (inr (inr h)) = inr (inr (omega (arith, h.0, ap (closed_left x) level), omega arith, h.2, h.3))
+closes_on w after x d s y level h = grind arith
 
 closes_near : (w after : Words) (x : Freeze) (d : DownWrite) (s : DownWriteStep) (next : Next DownWrite) (action : Option Action) → 1 ≤ x.nodes →
     StaysAtLevel d next action → ClosingNears w after d s next →
     FreezeNears w after (closing_left d.tasks s + closed_left x d.level) (closing_tries w d s) (after_closing x d.level next)
-closes_near w after x d s (Next.Go y) action some level h = closes_on w after x d s y level h
-closes_near w after x d s (Next.Wait y) action some level h =
-    by_wait (λ z. FreezeNears w after (closing_left d.tasks s + closed_left x d.level) (closing_tries w d s) (Next.Wait (at_freeze x z))) y y.step
-    (closes_on w after x d s y level h) (closes_on w after x d s y level h)
-closes_near w after x d s (Next.Done answer) action some level h = inl (omega (arith, closed_next x d.level some))
+closes_near w after x d s next action some level h = grind (arith, closes_on, by_wait, closed_next)
 
 abbrev FreezeStays : Words → (a n : ℕ) → Next Freeze → Type 0
 FreezeStays w a n next =
@@ -66,11 +58,7 @@ stays_on w x d s y level h = (h.0, omega (arith, h.1, ap (closed_left x) level),
 closes_stay : (w : Words) (x : Freeze) (d : DownWrite) (s : DownWriteStep) (next : Next DownWrite) (action : Option Action) →
     StaysAtLevel d next action → ClosingStays w d s next →
     FreezeStays w (closing_left d.tasks s + closed_left x d.level) (closing_tries w d s) (after_closing x d.level next)
-closes_stay w x d s (Next.Go y) action level h = stays_on w x d s y level h
-closes_stay w x d s (Next.Wait y) action level h =
-    by_wait (λ z. FreezeStays w (closing_left d.tasks s + closed_left x d.level) (closing_tries w d s) (Next.Wait (at_freeze x z))) y y.step
-    (stays_on w x d s y level h) (stays_on w x d s y level h)
-closes_stay w x d s (Next.Done answer) action level h = absurd h
+closes_stay w x d s next action level h = grind (arith, stays_on, by_wait)
 
 clears_near : (w after : Words) (x : Freeze) (marks : ClearMarks) (found : ℕ) → marks.node < marks.nodes →
     FreezeNears w after (freeze_left x (FreezeStep.Cleans marks)) 1 (after_clearing x (clear_after marks found).0)
@@ -97,26 +85,16 @@ module _ (c : Config) (w : World) (good : IsGood c w) (t : ℕ) (lt : t < c.task
   module _ (u : UpWrite) (one : 1 ≤ u.level) (three : u.level ≤ 3) (after : Words) (s : UpWriteStep) where
     reopens_near : (x : Freeze) (code : ℕ) (next : Next UpWrite) → OpeningNears c w good t lt u one three after s next →
         FreezeNears w.words after (opening_left u.level s) (opening_tries w.words u s) (after_reopening x u.level code next)
-    reopens_near x code (Next.Go y) (level, inl h) = inl h
-    reopens_near x code (Next.Go y) (level, inr h) = inr (inr (h.0, omega arith, h.1, h.2))
-    reopens_near x code (Next.Wait y) h = absurd h
-    reopens_near x code (Next.Done answer) h = inl (omega (arith, h, fails_left x u.level code one))
+    reopens_near x code next h = grind (arith, fails_left)
 
     undoes_near : (x : Freeze) (code : ℕ) (transition : Transition) (n : TransitionNext) →
         OpeningNears c w good t lt u one three after (UpWriteStep.Exits transition) (exit_made u n) →
         FreezeNears w.words after (2 * u.level + 2) (opening_tries w.words u (UpWriteStep.Exits transition)) (after_undoing x u.level code n)
-    undoes_near x code transition (TransitionNext.More y) (level, inl h) = absurd (omega (arith, h))
-    undoes_near x code transition (TransitionNext.More y) (level, inr h) = inr (inr (omega arith, omega arith, h.1, h.2))
-    undoes_near x code transition TransitionNext.Undefined (level, inl h) = absurd (omega (arith, h))
-    undoes_near x code transition TransitionNext.Undefined (level, inr h) = inr (inr (omega arith, omega arith, h.1, h.2))
-    undoes_near x code transition (TransitionNext.Made s) h = inl (omega (arith, undone_left x u.level code))
+    undoes_near x code transition n h = grind (arith, undone_left)
 
     thaws_near : (x : Thaw) (next : Next UpWrite) → OpeningNears c w good t lt u one three after s next →
         ThawNears w.words after (opening_left u.level s) (opening_tries w.words u s) (after_opening x u.level next)
-    thaws_near x (Next.Go y) (level, inl h) = inl h
-    thaws_near x (Next.Go y) (level, inr h) = inr (inr (h.0, omega arith, h.1, h.2))
-    thaws_near x (Next.Wait y) h = absurd h
-    thaws_near x (Next.Done answer) h = inl (omega (arith, h, opens_left u.level one))
+    thaws_near x next h = grind (arith, opens_left)
 
   module _ (x : Freeze) (some : 1 ≤ x.nodes) where
     freeze_nears : (hook : HookAnswer) (s : FreezeStep) → ((i : ℕ) → sync_role_of i (w.views t).phase ≡ position_sync i (freeze_position s)) →
@@ -239,10 +217,7 @@ thaw_stays : (w : Words) (x : Thaw) (s : ThawStep) (hook : HookAnswer) → thaw_
     StaysBy (λ (y : Thaw). thaw_waits w y.step ≡ true) (λ (y : Thaw). thaw_left y.step) (λ (y : Thaw). 0)
     (λ (y : Thaw). thaw_tries w y.step) (thaw_left s) 0 (thaw_tries w s)
     (thaw_after x s (found_by (thaw_next x s hook).1 (read w (thaw_next x s hook).0)) hook).0
-thaw_stays w x ThawStep.Locks hook waits =
-    let z : (w.umount == 0) ≡ false = lock_found w waits in
-    rw z (load_same w WordName.Umount, (waits, refl, refl, refl))
-thaw_stays w x s hook waits = absurd (true≢false (sym waits))
+thaw_stays w x s hook waits = grind (arith, lock_found, load_same)
 
 pub freeze_phase : (c : Config) (x : Freeze) → NearsPhase c (Phase.Freezes x)
 freeze_phase c x = record {

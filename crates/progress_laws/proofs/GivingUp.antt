@@ -1,30 +1,28 @@
 -- Where `keep_waiting` says to give up, the loads of a sum run out: so no freeze is left at one, and only a thaw or a lost task is waited for.
-use Rattle.std.proofs.Common.{◌≡◌, ℕ, ◌+◌, ◌*◌, ◌<◌, ◌≤◌, Bool, true, false, true≢false, refl, sym, ap, ◌∙◌, inl, inr, subst, arith, add-one}
-use Rattle.std.proofs.{Math.Nat.suc-mul, lemmas.Bool.{cases_Bool, eq-eqb, ltb-true, Decides.eqb_tells}}
-use Rattle.std.specs.Prelude.{Err, Ok, ◌-◌, ◌&&◌, ◌⊎◌, nat_lt, not, if◌then◌else◌, Option, None, Some, List, length}
-use Rattle.finite_sums.{proofs.Totals.{total_bound, total_le, total_same}, specs.Sums.total}
-use Rattle.access_model.specs.{Replies.map_next, declared.replies.Next.Next}
-use Rattle.cpu_words.specs.{Hooks.HookAnswer, Sums.sum_taking, Touches.wrap_add, Words.Words, declared.sums.Sum.Sum}
-use Rattle.freeze_levels.specs.Freezes.{after_closing, at_freeze, freeze_after, freeze_hook, level_closed}
-use Rattle.freeze_levels.specs.declared.{freezes.{Freeze.Freeze, FreezeStep.FreezeStep}, hooks.HookKind.TheVariants.KeepWaiting}
-use Rattle.composite_ops.specs.declared.{file_closes.phases.ClosePhase.ClosePhase, write_access.phases.WritePhase.WritePhase}
-use Rattle.gated_tree.specs.declared.phases.TreePhase.{TreePhase}
-use Rattle.mount_counts.specs.declared.phases.MountPhase.{MountPhase}
-use Rattle.percpu_rwsem.specs.declared.callbacks.CallbackStep.{CallbackStep}
-use Rattle.percpu_rwsem.specs.{Graces.looked, Readers.up_read_after, Writers.{down_write_after, down_write_summed, sections_awaited}}
-use Rattle.percpu_rwsem.specs.declared.{grace.{Grace.Grace, GraceNext.GraceNext}, writers.{DownWrite.DownWrite, DownWriteStep.DownWriteStep}}
-use Rattle.gate_world.specs.{Configs.IsWithin, Fits.{DownWriteStepFits, FreezeFits, PhaseFits}, Holdings.Holdings, Levels.is_frozen_whole, Roles.freeze_owns, Rules.{IsGood, owns}}
-use Rattle.gate_world.specs.{Shown.{freeze_closing, is_summing}, Views.{held_of, phase_after}, Work.{after_of, hook_of}}
-use Rattle.gate_world.specs.{Worlds.{World, after_step, found_at}, declared.{config.Config.Config, entries.Entry.Entry, work.Phase.Phase}}
+use Rattle.progress_laws.proofs.Prelude.{AllWait, Bool, CallbackIsBlockedBy, CallbackStep, ClosePhase, ClosingIsBlockedBy, Config, DownWrite}
+use Rattle.progress_laws.proofs.Prelude.{DownWriteStep, DownWriteStepFits, Entry, Freeze, FreezeFits, FreezeIsBlockedBy, FreezeStep, Grace, GraceNext}
+use Rattle.progress_laws.proofs.Prelude.{Holdings, HookAnswer, IsGood, IsWithin, KeepWaiting, MountPhase, Next, None, Option, Phase, PhaseFits, Some}
+use Rattle.progress_laws.proofs.Prelude.{Sum, TreePhase, Words, World, WritePhase, after_closing, after_of, after_step, ap, arith, at_freeze}
+use Rattle.progress_laws.proofs.Prelude.{cases_Bool, closing_waits, down_write_after, eq-eqb, eqb_tells, false, fits_at, found_at, freeze_after}
+use Rattle.progress_laws.proofs.Prelude.{freeze_owns, freeze_waits, held_of, hook_of, if◌then◌else◌, inl, inr, is_frozen_whole, is_outside}
+use Rattle.progress_laws.proofs.Prelude.{level_closed, map_next, must_wait, nat_lt, not, owns, phase_after, refl, sections_awaited, stands_after}
+use Rattle.progress_laws.proofs.Prelude.{subst, sym, total, total_le, true, true≢false, turns_left, wrap_add, ℕ, ◌&&◌, ◌*◌, ◌+◌, ◌-◌, ◌<◌, ◌∙◌, ◌≡◌}
+use Rattle.progress_laws.proofs.Prelude.{◌≤◌, ◌⊎◌}
+use Rattle.std.{proofs.{Common.add-one, Math.Nat.suc-mul, lemmas.Bool.ltb-true}, specs.Prelude.{List, length}}
+use Rattle.finite_sums.proofs.Totals.{total_bound, total_same}
+use Rattle.cpu_words.specs.Sums.{sum_taking}
+use Rattle.freeze_levels.specs.Freezes.{freeze_hook}
+use Rattle.percpu_rwsem.specs.Writers.{down_write_summed}
+use Rattle.gate_world.specs.Shown.{freeze_closing, is_summing}
 use Rattle.gate_schedules.specs.operations.Progress.{HasReply, IsUnderWay}
-use Rattle.gate_schedules.proofs.operations.deadlocks.{RankDecreases.stands_after, WhoCanStep.fits_at}
-use Rattle.progress_laws.specs.{Answers.{IsImpatient, RoundsAnswerSo}, FairRounds.{AreRounds, nobody, rests_at, run_all}, GivingUp.{NoFreezeSums, RemainsUnpassed, RepliesOrWaitsForThaw}}
-use Rattle.progress_laws.specs.{GivingUp.{SettlesImpatiently, WaitsForThaw, load_room, load_room_of, most_turns_to_give_up, turns_to_give_up}, LostTasks.{AllWait, CallbackIsBlockedBy, ClosingIsBlockedBy, FreezeIsBlockedBy}}
-use Rattle.progress_laws.specs.LostTasks.{FreezeSums, IsBlockedBy, LockIsStuck, Remains, SectionIsLost}
-use Rattle.progress_laws.specs.{StepsLeft.{most_turns, potential, start_room, try_room, turns_left}, Waiting.{closing_waits, freeze_waits, is_outside, must_wait}}
-use Rattle.progress_laws.proofs.{AllNearer.outside_waits, Blame.{both, each_is_blocked, owner_goes}, Measured.{AllSo, IsStep, Keeps, Leaves, Measures, rounds_good, rounds_settle}}
-use Rattle.progress_laws.proofs.{Nearer.{freeze_waits_on, on_waits, waits_on}, NobodyReplies.is_error, Potentials.{mul_comm, mul_le, total_lower, unit_falls}}
-use Rattle.progress_laws.proofs.{Remaining.waits_for_remains, Settling.{IsRoomy, next_roomy, others_same, step_falls, step_good, step_stays, turns_few, waits_at, waits_of}}
+use Rattle.progress_laws.proofs.{AllNearer.outside_waits, Blame.{both, each_is_blocked, owner_goes}, Measured.{AllSo, IsStep, Keeps, Leaves}}
+use Rattle.progress_laws.proofs.{Measured.{Measures, rounds_good, rounds_settle}, Nearer.{freeze_waits_on, on_waits, waits_on}}
+use Rattle.progress_laws.proofs.{NobodyReplies.is_error, Potentials.{mul_comm, mul_le, total_lower, unit_falls}, Remaining.waits_for_remains}
+use Rattle.progress_laws.proofs.Settling.{IsRoomy, next_roomy, others_same, step_falls, step_good, step_stays, turns_few, waits_at, waits_of}
+use Rattle.progress_laws.specs.{Answers.{IsImpatient, RoundsAnswerSo}, FairRounds.{AreRounds, nobody, rests_at, run_all}, GivingUp.NoFreezeSums}
+use Rattle.progress_laws.specs.GivingUp.{RemainsUnpassed, RepliesOrWaitsForThaw, SettlesImpatiently, WaitsForThaw, load_room, load_room_of}
+use Rattle.progress_laws.specs.{GivingUp.{most_turns_to_give_up, turns_to_give_up}, LostTasks.{FreezeSums, IsBlockedBy, LockIsStuck, Remains}}
+use Rattle.progress_laws.specs.{LostTasks.SectionIsLost, StepsLeft.{most_turns, potential, start_room, try_room}}
 
 -- a freeze sums the counts of a level, or is asked there whether to wait on
 abbrev closing_sums : DownWriteStep → Bool
@@ -70,9 +68,7 @@ module _ (x : Freeze) where
   closing_then d next = phase_after (map_next Phase.Freezes (after_closing x d.level next))
 
   looks_leave : (d : DownWrite) (g : Grace) (n : GraceNext) → LeavesOf d (DownWriteStep.AwaitsSections g) (closing_then d (sections_awaited d n))
-  looks_leave d g (GraceNext.More h) = (λ sums. absurd (true≢false (sym sums)), λ out. (refl, refl))
-  looks_leave d g (GraceNext.Wait h) = (λ sums. absurd (true≢false (sym sums)), λ out. (refl, refl))
-  looks_leave d g GraceNext.Ended = (λ sums. absurd (true≢false (sym sums)), λ out. (refl, refl))
+  looks_leave d g n = grind arith
 
   sums_leave : (d : DownWrite) (sum : Sum) (found : ℕ) → sum.words < d.processors →
       LeavesOf d (DownWriteStep.Sums sum) (closing_then d (down_write_summed d (sum_taking sum found d.processors)).0)
@@ -87,53 +83,21 @@ module _ (x : Freeze) where
 
   closing_leaves : (w : Words) (d : DownWrite) (s : DownWriteStep) (c : Config) → d.processors ≡ c.processors → DownWriteStepFits c s →
       closing_waits w d s ≡ true → (found : ℕ) → LeavesOf d s (closing_then d (down_write_after d s found).0)
-  closing_leaves w d (DownWriteStep.AwaitsSections g) c processors fits waits found = looks_leave d g (looked g found)
-  closing_leaves w d (DownWriteStep.Sums sum) c processors fits waits found = sums_leave d sum found (omega (arith, fits, processors))
-  closing_leaves w d s c processors fits waits found = absurd (true≢false (sym waits))
+  closing_leaves w d s c processors fits waits found = grind (arith, looks_leave, sums_leave)
 
   freeze_leaves : (c : Config) (w : Words) (s : FreezeStep) (hook : HookAnswer) → FreezeFits c x.holder s → freeze_waits_on w s hook ≡ true →
       (freeze_hook s ≡ Some KeepWaiting → IsImpatient 0 hook) → (found : ℕ) →
       LeavesLoads (Some (Phase.Freezes (at_freeze x s))) (phase_after (map_next Phase.Freezes (freeze_after x s found hook).0))
-  freeze_leaves c w FreezeStep.Locks hook fits waits impatient found =
-      elim (eqb_tells found 0) [
-        | inl h ↦ rw h.0 (λ sums. absurd (true≢false (sym sums)), λ out. (refl, refl))
-        | inr h ↦ rw h.0 (λ sums. absurd (true≢false (sym sums)), λ out. (refl, refl))
-      ]
-  freeze_leaves c w FreezeStep.LocksAgain hook fits waits impatient found =
-      elim (eqb_tells found 0) [
-        | inl h ↦ rw h.0 (λ sums. absurd (true≢false (sym sums)), λ out. (refl, refl))
-        | inr h ↦ rw h.0 (λ sums. absurd (true≢false (sym sums)), λ out. (refl, refl))
-      ]
-  freeze_leaves c w (FreezeStep.LocksToUndo code) hook fits waits impatient found =
-      elim (eqb_tells found 0) [
-        | inl h ↦ rw h.0 (λ sums. absurd (true≢false (sym sums)), λ out. (refl, refl))
-        | inr h ↦ rw h.0 (λ sums. absurd (true≢false (sym sums)), λ out. (refl, refl))
-      ]
-  freeze_leaves c w (FreezeStep.Closes d) hook fits waits impatient found = closing_leaves w d d.step c fits.3 fits.4 waits found
-  freeze_leaves c w (FreezeStep.Waits d) (Ok answer) fits waits impatient found =
-      absurd (true≢false (sym (ap is_error (impatient refl).1)))
-  freeze_leaves c w (FreezeStep.Waits d) (Err code) fits waits impatient found = absurd (true≢false (sym waits))
-  freeze_leaves c w s hook fits waits impatient found = absurd (true≢false (sym waits))
+  freeze_leaves c w s hook fits waits impatient found = grind (arith, closing_leaves, is_error)
 
 others_leave : {A : Type 0} (to : A → Phase) (p : Phase) (next : Next A) → sums_of (Some p) ≡ false → loads_of (Some p) ≡ 0 →
     ((y : A) → (loads_of (Some (to y)) ≡ 0) × (sums_of (Some (to y)) ≡ false)) → LeavesLoads (Some p) (phase_after (map_next to next))
-others_leave to p (Next.Go y) none zero h = (λ sums. absurd (true≢false (sym sums ∙ none)), λ out. ((h y).0 ∙ sym zero, (h y).1))
-others_leave to p (Next.Wait y) none zero h = (λ sums. absurd (true≢false (sym sums ∙ none)), λ out. ((h y).0 ∙ sym zero, (h y).1))
-others_leave to p (Next.Done answer) none zero h = (λ sums. absurd (true≢false (sym sums ∙ none)), λ out. (sym zero, refl))
+others_leave to p next none zero h = grind arith
 
 module _ (c : Config) where
   phase_leaves : (t : ℕ) (held : Holdings) (w : Words) (p : Phase) (hook : HookAnswer) → PhaseFits c t held p → waits_on w p hook ≡ true →
       (hook_of p ≡ Some KeepWaiting → IsImpatient t hook) → (found : ℕ) → LeavesLoads (Some p) (phase_after (after_of p found hook).0)
-  phase_leaves t held w (Phase.Freezes x) hook f waits impatient found = freeze_leaves x c w x.step hook f.5 waits impatient found
-  phase_leaves t held w (Phase.Mounts x) hook f waits impatient found = others_leave Phase.Mounts (Phase.Mounts x) _ refl refl (λ y. (refl, refl))
-  phase_leaves t held w (Phase.Remounts x) hook f waits impatient found = others_leave Phase.Remounts (Phase.Remounts x) _ refl refl (λ y. (refl, refl))
-  phase_leaves t held w (Phase.DownReads x) hook f waits impatient found = others_leave Phase.DownReads (Phase.DownReads x) _ refl refl (λ y. (refl, refl))
-  phase_leaves t held w (Phase.UpReads x) hook f waits impatient found = others_leave Phase.UpReads (Phase.UpReads x) (up_read_after x).0 refl refl (λ y. (refl, refl))
-  phase_leaves t held w (Phase.Callbacks x) hook f waits impatient found = others_leave Phase.Callbacks (Phase.Callbacks x) _ refl refl (λ y. (refl, refl))
-  phase_leaves t held w (Phase.Writes x) hook f waits impatient found = others_leave Phase.Writes (Phase.Writes x) _ refl refl (λ y. (refl, refl))
-  phase_leaves t held w (Phase.Thaws x) hook f waits impatient found = others_leave Phase.Thaws (Phase.Thaws x) _ refl refl (λ y. (refl, refl))
-  phase_leaves t held w (Phase.Trees x) hook f waits impatient found = others_leave Phase.Trees (Phase.Trees x) _ refl refl (λ y. (refl, refl))
-  phase_leaves t held w (Phase.Closes x) hook f waits impatient found = others_leave Phase.Closes (Phase.Closes x) _ refl refl (λ y. (refl, refl))
+  phase_leaves t held w p hook f waits impatient found = grind (arith, freeze_leaves, others_leave)
 
   -- the room for loads
   closing_small : (d : DownWrite) (s : DownWriteStep) → closing_loads d s ≤ d.processors
@@ -150,22 +114,11 @@ module _ (c : Config) where
 
   room_in : {A : Type 0} (to : A → Phase) (n : ℕ) (next : Next A) → ((y : A) → load_room_of c.processors (Some (to y)) ≤ n) →
       load_room_of c.processors (phase_after (map_next to next)) ≤ n
-  room_in to n (Next.Go y) h = h y
-  room_in to n (Next.Wait y) h = h y
-  room_in to n (Next.Done answer) h = omega arith
+  room_in to n next h = grind arith
 
   room_leaves : (p : Phase) (found : ℕ) (hook : HookAnswer) →
       load_room_of c.processors (phase_after (after_of p found hook).0) ≤ load_room_of c.processors (Some p)
-  room_leaves (Phase.Freezes x) found hook = room_in Phase.Freezes c.processors _ (λ y. omega arith)
-  room_leaves (Phase.Mounts x) found hook = room_in Phase.Mounts 0 _ (λ y. omega arith)
-  room_leaves (Phase.Remounts x) found hook = room_in Phase.Remounts 0 _ (λ y. omega arith)
-  room_leaves (Phase.DownReads x) found hook = room_in Phase.DownReads 0 _ (λ y. omega arith)
-  room_leaves (Phase.UpReads x) found hook = room_in Phase.UpReads 0 (up_read_after x).0 (λ y. omega arith)
-  room_leaves (Phase.Callbacks x) found hook = room_in Phase.Callbacks 0 _ (λ y. omega arith)
-  room_leaves (Phase.Writes x) found hook = room_in Phase.Writes 0 _ (λ y. omega arith)
-  room_leaves (Phase.Thaws x) found hook = room_in Phase.Thaws 0 _ (λ y. omega arith)
-  room_leaves (Phase.Trees x) found hook = room_in Phase.Trees 0 _ (λ y. omega arith)
-  room_leaves (Phase.Closes x) found hook = room_in Phase.Closes 0 _ (λ y. omega arith)
+  room_leaves p found hook = grind (arith, room_in)
 
 negated : (a : Bool) → not a ≡ true → a ≡ false
 negated a h = grind arith
@@ -189,9 +142,7 @@ else_waits w (Phase.Freezes x) hook h = freeze_else w x.step hook h
 else_waits w p hook h = (both (must_wait w p) true h).0
 
 rest_else : (w : Words) (p : Option Phase) → rests_at w p ≡ true → waits_else_of w p ≡ true
-rest_else w None h = refl
-rest_else w (Some (Phase.Freezes x)) h = absurd (true≢false (sym h))
-rest_else w (Some p) h = rw (outside_waits w p h) refl
+rest_else w p h = grind (arith, outside_waits)
 
 module _ (c : Config) (lim : IsWithin c) (lost : ℕ → Bool) where
   abbrev all_loads : World → ℕ

@@ -1,28 +1,22 @@
 -- Starts, grace periods, exchanges and sums: each step that doesn't wait comes nearer, and each that waits stays.
-use Rattle.std.proofs.Common.{◌≡◌, ℕ, suc, ◌+◌, ◌<◌, ◌≤◌, Bool, true, false, true≢false, refl, sym, ap, inl, inr, subst, arith, add-one}
-use Rattle.std.proofs.lemmas.Bool.{cases_Bool, ltb-true, ltb-false, eq-eqb, Decides.eqb_tells}
-use Rattle.std.specs.Prelude.{◌*◌, ◌%◌, ◌==◌, ◌&&◌, ◌⊎◌, not, nat_lt, Option, Some, None}
-use Rattle.finite_sums.{proofs.Totals.update_at, specs.Sums.total}
-use Rattle.access_model.specs.declared.replies.Next.{Next}
-use Rattle.cpu_words.specs.{Sums.{ahead, lead, sum_taking}, Touches.{left, found_by, wrap_add}, Words.{Words, read}, declared.{names.WordName.WordName, sums.Sum.Sum}}
-use Rattle.cpu_words.proofs.gate_counts.Numbers.{ahead_past, ahead_step}
-use Rattle.percpu_rwsem.specs.{Graces.looked, SyncWords.{pack, unpack, is_passed, on_enter, on_exit, on_callback}, Transitions.{transition_next, transition_after}}
-use Rattle.percpu_rwsem.specs.Readers.{down_read_after, down_read_next}
-use Rattle.percpu_rwsem.specs.Writers.{down_write_next, down_write_after, down_write_summed, at_down_write, enter_step, entered_from, callback_step, sections_awaited}
-use Rattle.percpu_rwsem.specs.{Writers.{up_write_next, up_write_after, exit_made}, declared.grace.{Grace.Grace, GraceNext.GraceNext}}
-use Rattle.percpu_rwsem.specs.declared.{readers.{DownRead.DownRead, DownReadStep.DownReadStep}, sync_word.{GpState.GpState, SyncWord.SyncWord}}
-use Rattle.percpu_rwsem.specs.declared.transitions.{Transition.Transition, TransitionNext.TransitionNext}
-use Rattle.percpu_rwsem.specs.declared.writers.{DownWrite.DownWrite, DownWriteStep.DownWriteStep, UpWrite.UpWrite, UpWriteStep.UpWriteStep}
-use Rattle.freeze_laws.specs.levels.{Operations.{down_write_role, up_write_role}, Roles.{SyncRole, closed, entered, entering}}
-use Rattle.gate_world.specs.{Fits.DownWriteStepFits, Levels.{is_frozen_whole, sync_role_of}, Rules.{IsGood, SyncAt, SyncHoldsIn}, Worlds.World}
-use Rattle.gate_world.specs.{traces.TraceStates.WordIsValid, declared.config.Config.{Config}}
-use Rattle.gate_schedules.proofs.frames.Words.{load_same}
-use Rattle.gate_schedules.proofs.levels.Facts.{ExchangeFalls, exchange_falls, defined_falls, enter_defined, writer_passed, writer_called, exit_defined, block_clear}
-use Rattle.gate_schedules.proofs.operations.deadlocks.RankDecreases.{after_event}
-use Rattle.gate_schedules.specs.operations.{Ranks.exchange_rank}
-use Rattle.progress_laws.specs.StepsLeft.{closing_left, closing_tries, grace_left, opening_left, opening_tries, start_left}
-use Rattle.progress_laws.specs.Waiting.{closing_waits, grace_waits, start_waits, sum_waits, was_found}
-use Rattle.progress_laws.proofs.Nearer.{FewerLeft, NearsBy, StaysBy}
+use Rattle.progress_laws.proofs.Prelude.{Bool, Config, DownRead, DownReadStep, DownWrite, DownWriteStep, DownWriteStepFits, Grace, GraceNext, IsGood}
+use Rattle.progress_laws.proofs.Prelude.{Next, None, Option, Some, Sum, SyncAt, SyncHoldsIn, Transition, TransitionNext, UpWrite, UpWriteStep}
+use Rattle.progress_laws.proofs.Prelude.{WordName, Words, World, after_event, ap, arith, cases_Bool, closed, closing_left, closing_tries}
+use Rattle.progress_laws.proofs.Prelude.{closing_waits, down_read_after, down_read_next, down_write_after, down_write_next, eq-eqb, eqb_tells}
+use Rattle.progress_laws.proofs.Prelude.{exchange_rank, false, found_by, grace_waits, inl, inr, is_frozen_whole, load_same, looked, nat_lt, not}
+use Rattle.progress_laws.proofs.Prelude.{opening_left, opening_tries, read, refl, sections_awaited, start_left, start_waits, subst, suc, sym}
+use Rattle.progress_laws.proofs.Prelude.{sync_role_of, total, transition_after, true, true≢false, unpack, update_at, wrap_add, ℕ, ◌&&◌, ◌+◌, ◌<◌}
+use Rattle.progress_laws.proofs.Prelude.{◌==◌, ◌≡◌, ◌≤◌, ◌⊎◌}
+use Rattle.std.{proofs.{Common.add-one, lemmas.Bool.{ltb-true, ltb-false}}, specs.Prelude.{◌*◌, ◌%◌}}
+use Rattle.cpu_words.{proofs.gate_counts.Numbers.{ahead_past, ahead_step}, specs.{Sums.{ahead, lead, sum_taking}, Touches.left}}
+use Rattle.percpu_rwsem.specs.{SyncWords.{is_passed, on_enter, on_exit, on_callback}, Transitions.transition_next, Writers.down_write_summed}
+use Rattle.percpu_rwsem.specs.Writers.{at_down_write, enter_step, entered_from, callback_step, up_write_next, up_write_after, exit_made}
+use Rattle.percpu_rwsem.specs.declared.sync_word.{GpState.GpState, SyncWord.SyncWord}
+use Rattle.freeze_laws.specs.levels.{Operations.{down_write_role, up_write_role}, Roles.{SyncRole, entered, entering}}
+use Rattle.gate_world.specs.traces.TraceStates.{WordIsValid}
+use Rattle.gate_schedules.proofs.levels.Facts.{ExchangeFalls, exchange_falls, defined_falls, enter_defined, writer_passed, writer_called}
+use Rattle.gate_schedules.proofs.levels.Facts.{exit_defined, block_clear}
+use Rattle.progress_laws.{proofs.Nearer.{FewerLeft, NearsBy, StaysBy}, specs.{StepsLeft.grace_left, Waiting.{sum_waits, was_found}}}
 
 -- each step of a start that doesn't stand outside a closed level
 pub start_nears : (w : Words) (r : DownRead) (s : DownReadStep) → WordIsValid (down_read_next r s).0 (read w (down_read_next r s).0) →
@@ -64,9 +58,7 @@ any_more A a other = tt
 pub more_same : (makes : SyncWord → Option SyncWord) (w : Words) (level : ℕ) (x : Transition) →
     IfMore (after_event w (transition_next level x) ≡ w)
     (transition_after makes x (found_by (transition_next level x).1 (w.sync level)))
-more_same makes w level Transition.Loads = any_more _ (load_same w (WordName.Sync level)) _
-more_same makes w level (Transition.Exchanges from to) =
-    elim (eqb_tells (w.sync level) (pack from)) [ inl e ↦ rw e.0 tt | inr e ↦ rw e.0 (load_same w (WordName.Sync level)) ]
+more_same makes w level x = grind (arith, any_more, load_same)
 
 -- a sum has taken one word more: what is ahead of it is as it was
 pub lead_on : (processors : ℕ) (count : ℕ → ℕ) (k sum : ℕ) → k < processors →
@@ -150,9 +142,7 @@ module _ (w : Words) (d : DownWrite) (sum : Sum) (lt : sum.words < d.processors)
       ]
 
 made_left : (tasks : ℕ) (s : GpState) → closing_left tasks (entered_from tasks s) < 2 * tasks + 5
-made_left tasks GpState.Idle = omega arith
-made_left tasks GpState.Enter = omega arith
-made_left tasks other = omega arith
+made_left tasks s = grind arith
 
 module _ (w after : Words) (d : DownWrite) where
   abbrev Nears : ℕ → ℕ → Next DownWrite → Type 0
@@ -162,27 +152,18 @@ module _ (w after : Words) (d : DownWrite) where
 
   enters_near : (n : ℕ) (next : TransitionNext) → ExchangeFalls (after.sync d.level) n ⊥ next → IfMore (after ≡ w) next →
       Nears (2 * d.tasks + 5) n (Next.Go (at_down_write d (enter_step d.tasks next)))
-  enters_near n (TransitionNext.More x) h same = inr (inr (omega arith, omega arith, h, same))
-  enters_near n TransitionNext.Undefined h same = absurd h
-  enters_near n (TransitionNext.Made s) h same = inl (made_left d.tasks s)
+  enters_near n next h same = grind (arith, made_left)
 
   calls_near : (n : ℕ) (next : TransitionNext) → ExchangeFalls (after.sync d.level) n ⊥ next → IfMore (after ≡ w) next →
       Nears 3 n (Next.Go (at_down_write d (callback_step next)))
-  calls_near n (TransitionNext.More x) h same = inr (inr (omega arith, omega arith, h, same))
-  calls_near n TransitionNext.Undefined h same = absurd h
-  calls_near n (TransitionNext.Made s) h same = inl (omega arith)
+  calls_near n next h same = grind arith
 
   waits_near : (a n : ℕ) (next : GraceNext) → 1 ≤ a → LookNears a next → Nears (a + 3) n (sections_awaited d next)
-  waits_near a n (GraceNext.More g) some h = inl (omega (arith, h))
-  waits_near a n (GraceNext.Wait g) some h = inl (omega (arith, h))
-  waits_near a n GraceNext.Ended some h = inl (omega (arith, some))
+  waits_near a n next some h = grind arith
 
 looks_stay : (w : Words) (d : DownWrite) (g : Grace) (next : GraceNext) → grace_waits w g ≡ true → LookStays g next →
     ClosingStays w d (DownWriteStep.AwaitsSections g) (sections_awaited d next)
-looks_stay w d g (GraceNext.Wait next) waits is =
-    subst (λ (q : Grace). ClosingStays w d (DownWriteStep.AwaitsSections g) (sections_awaited d (GraceNext.Wait q))) (sym is)
-    (waits, refl, refl, refl)
-looks_stay w d g other waits is = absurd is
+looks_stay w d g next waits is = grind arith
 
 module _ (c : Config) (w : World) (good : IsGood c w) (t : ℕ) (lt : t < c.tasks) where
   module _ (d : DownWrite) (one : 1 ≤ d.level) (three : d.level ≤ 3) (processors : d.processors ≡ c.processors) where
@@ -265,15 +246,7 @@ module _ (c : Config) (w : World) (good : IsGood c w) (t : ℕ) (lt : t < c.task
     pub closing_stays : (s : DownWriteStep) → DownWriteStepFits c s → closing_waits w.words d s ≡ true →
         (after_event w.words (down_write_next d s) ≡ w.words) ×
         ClosingStays w.words d s (down_write_after d s (found_by (down_write_next d s).1 (read w.words (down_write_next d s).0))).0
-    closing_stays (DownWriteStep.AwaitsSections g) fits waits = (
-      load_same w.words (WordName.Section g.task),
-      looks_stay w.words d g (looked g (w.words.section g.task)) waits (look_stays g (w.words.section g.task) waits),
-    )
-    closing_stays (DownWriteStep.Sums sum) fits waits = (
-      load_same w.words (WordName.LevelCount d.level sum.words),
-      sums_stay w.words d sum (omega (arith, fits, processors)) waits,
-    )
-    closing_stays s fits waits = absurd (true≢false (sym waits))
+    closing_stays s fits waits = grind (arith, load_same, looks_stay, look_stays, sums_stay)
 
   -- what comes after a step of the opening of a level
   module _ (u : UpWrite) (one : 1 ≤ u.level) (three : u.level ≤ 3) where
@@ -287,9 +260,7 @@ module _ (c : Config) (w : World) (good : IsGood c w) (t : ℕ) (lt : t < c.task
     exits_near : (after : Words) (x : Transition) (next : TransitionNext) →
         ExchangeFalls (after.sync u.level) (exchange_rank (w.words.sync u.level) x) ⊥ next → IfMore (after ≡ w.words) next →
         OpeningNears after (UpWriteStep.Exits x) (exit_made u next)
-    exits_near after x (TransitionNext.More y) h same = (refl, inr (omega arith, h, same))
-    exits_near after x TransitionNext.Undefined h same = absurd h
-    exits_near after x (TransitionNext.Made s) h same = omega arith
+    exits_near after x next h same = grind arith
 
     exit_by : entered (sync_role_of u.level (w.views t).phase) ≡ 1 → entering (sync_role_of u.level (w.views t).phase) ≡ 0 →
         (x : Transition) (sync : ℕ → ℕ) → sync u.level ≡ left (transition_next u.level x).1 (w.words.sync u.level) →

@@ -1,3 +1,4 @@
+pub mod Prelude
 pub mod Potentials
 pub mod Nearer
 pub mod Levels

@@ -1,19 +1,13 @@
 -- A lost task's view stays, so what the invariant says of words by it stays too.
-use Rattle.std.proofs.Common.{◌≡◌, ℕ, ◌<◌, ◌≤◌, Bool, true, true≢false, refl, sym, ap, ◌∙◌, inl, inr, subst, arith, List, [], ◌∷◌}
-use Rattle.std.proofs.lemmas.Bool.{cases_Bool}
-use Rattle.std.specs.Prelude.{Option, None, Some, nat_lt}
-use Rattle.access_model.specs.declared.errors.GateError.{GateError}
-use Rattle.cpu_words.specs.{Hooks.HookAnswer, gate_counts.{Gates.{counted as counted_of}, Levels.level_as_gate}}
-use Rattle.finite_sums.{proofs.Totals.{total_at, update_off}}
-use Rattle.freeze_laws.specs.levels.Roles.{closed}
-use Rattle.gate_world.specs.{Configs.IsWithin, Levels.{at_level, inside, sync_role_of}, Views.view_after}
-use Rattle.gate_world.specs.{Rules.{AtLevel, AtMount, IsGood, LevelHoldsIn, MountHoldsIn, Owner, Sections, SyncAt, SyncHoldsIn, at_mount, owns, role_of}}
-use Rattle.gate_world.specs.Worlds.{World, begin_of, begin_refusal, happens, run, step_of, task_of, value_at}
-use Rattle.gate_world.specs.declared.{config.Config.Config, entries.Entry.{Entry, TheVariants.{Begins, Steps}}, operations.Op.Op, views.View.View}
-use Rattle.gate_world.specs.declared.work.Phase.{Phase}
+use Rattle.progress_laws.proofs.Prelude.{AtLevel, Bool, Config, Entry, GateError, HookAnswer, IsGood, IsWithin, List, None, Op, Option, Phase, Some}
+use Rattle.progress_laws.proofs.Prelude.{SyncAt, SyncHoldsIn, View, World, [], ap, arith, at_level, closed, happens, has_flag, level_as_gate, owns}
+use Rattle.progress_laws.proofs.Prelude.{refl, run, subst, sym, sync_role_of, total_at, true, true≢false, update_off, value_at, view_after, ℕ, ◌<◌}
+use Rattle.progress_laws.proofs.Prelude.{◌∙◌, ◌∷◌, ◌≡◌, ◌≤◌}
+use Rattle.cpu_words.specs.gate_counts.Gates.{counted as counted_of}
+use Rattle.gate_world.specs.{Levels.inside, Rules.{AtMount, LevelHoldsIn, MountHoldsIn, Owner, Sections, at_mount, role_of}, Worlds.begin_of}
+use Rattle.gate_world.specs.Worlds.{step_of, task_of}
 use Rattle.gate_schedules.proofs.schedules.Schedule.{gate_sums, happens_keeps}
-use Rattle.mount_counts.specs.{Phases.has_flag, Roles.{counted, has_hold, hold_bit}}
-use Rattle.mount_counts.proofs.laws.Bits.{below4}
+use Rattle.mount_counts.{proofs.laws.Bits.below4, specs.Roles.{counted, has_hold, hold_bit}}
 use Rattle.progress_laws.specs.LostForEver.{AreOfOthers, RemainsForEver, WordsTellFor}
 
 hold_is_set : (f : ℕ) → f < 4 → 1 ≤ hold_bit f → has_flag f 2 ≡ true
@@ -30,9 +24,7 @@ module _ (c : Config) (y : ℕ) where
   same_step w u hook ne (Some phase) = update_off w.views u (view_after (w.views u) phase (value_at w.words phase hook) hook) y ne
 
   pub same_entry : (w : World) (e : Entry) → (y ≡ task_of e → ⊥) → (happens c w e).views y ≡ w.views y
-  same_entry w (Begins u op) ne = same_begin w u op ne (begin_refusal c w u op)
-  same_entry w (Steps u hook) ne =
-      elim (cases_Bool (nat_lt u c.tasks)) [ inl h ↦ rw h (same_step w u hook ne (w.views u).phase) | inr h ↦ rw h refl ]
+  same_entry w e ne = grind (arith, same_begin, same_step)
 
   same_run : (lost : ℕ → Bool) → lost y ≡ true → (es : List Entry) (w : World) → AreOfOthers lost es → (run c w es).views y ≡ w.views y
   same_run lost dead [] w others = refl

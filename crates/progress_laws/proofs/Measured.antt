@@ -1,14 +1,12 @@
 -- Rounds by a number that falls with each step that doesn't wait: after enough of them all wait.
-use Rattle.std.proofs.Common.{◌≡◌, ℕ, ◌<◌, ◌≤◌, Bool, true, false, refl, sym, ap, ◌∙◌, inl, inr, subst, arith}
-use Rattle.std.proofs.lemmas.Bool.{cases_lt, le-ltb, lt-ltb}
-use Rattle.std.specs.Prelude.{◌⊎◌, ◌++◌, Option, None, Some, List, [], ◌∷◌, length}
-use Rattle.cpu_words.specs.Hooks.{HookAnswer}
-use Rattle.freeze_levels.specs.declared.hooks.HookKind.TheVariants.{KeepWaiting}
-use Rattle.gate_world.specs.{Configs.IsWithin, Rules.IsGood, Work.hook_of, Worlds.{World, after_step, happens, run, step_of, task_of}}
-use Rattle.gate_world.specs.declared.{config.Config.Config, entries.Entry.{Entry, TheVariants.{Begins, Steps}}, work.Phase.Phase}
-use Rattle.gate_schedules.proofs.{operations.deadlocks.RankDecreases.happens_is, schedules.Schedule.happens_keeps}
-use Rattle.progress_laws.specs.{Answers.{AllAnswerSo, AnswersSo, RoundsAnswerSo}, Waiting.is_outside}
-use Rattle.progress_laws.specs.FairRounds.{AreRounds, IsRound, IsServed, MayAllStep, MayStep, rests_at, run_all}
+use Rattle.progress_laws.proofs.Prelude.{Begins, Bool, Config, Entry, HookAnswer, IsGood, IsWithin, KeepWaiting, None, Option, Phase, Some, Steps}
+use Rattle.progress_laws.proofs.Prelude.{World, after_step, ap, arith, false, happens, happens_is, hook_of, inl, inr, is_outside, refl, run, subst}
+use Rattle.progress_laws.proofs.Prelude.{sym, true, ℕ, ◌<◌, ◌∙◌, ◌≡◌, ◌≤◌, ◌⊎◌}
+use Rattle.std.{proofs.lemmas.Bool.{cases_lt, le-ltb, lt-ltb}, specs.Prelude.{◌++◌, List, [], ◌∷◌, length}}
+use Rattle.gate_world.specs.Worlds.{step_of, task_of}
+use Rattle.gate_schedules.proofs.schedules.Schedule.{happens_keeps}
+use Rattle.progress_laws.specs.{Answers.{AllAnswerSo, AnswersSo, RoundsAnswerSo}, FairRounds.{AreRounds, IsRound, IsServed, MayAllStep, MayStep}}
+use Rattle.progress_laws.specs.FairRounds.{rests_at, run_all}
 
 module _ (c : Config) (lim : IsWithin c) (lost : ℕ → Bool) where
   pub after_good : (w : World) → IsGood c w → (e : Entry) → IsGood c (happens c w e)
@@ -40,7 +38,7 @@ module _ (c : Config) (lim : IsWithin c) (lost : ℕ → Bool) where
         (t < c.tasks) × (lost t ≡ false) × ((w.views t).phase ≡ Some phase) × (is_outside w.words phase ≡ false) ×
         (hook_of phase ≡ Some KeepWaiting → such t hook)
 
-    -- by what is so of such steps it is so of entries
+    -- by what is so of such steps it is so of transitions
     pub by_entry : (P : World → Type 0) (w : World) (e : Entry) → MayStep lost w e → AnswersSo such w e → P w →
         ((t : ℕ) (phase : Phase) (hook : HookAnswer) → IsStep w t phase hook → P (after_step w t phase hook)) → P (happens c w e)
     by_entry P w (Begins t op) may answers still steps = absurd may
@@ -71,7 +69,7 @@ module _ (c : Config) (lim : IsWithin c) (lost : ℕ → Bool) where
       rounds_keep (es ∷ rounds) w good are answers all =
           rounds_keep rounds (run c w es) (run_good es w good) are.1 answers.1 (run_keeps es w good are.0.0 answers.0 all)
 
-    -- a number, and what it needs of a world
+    -- a number, and what it needs of a state
     module _ (measure : World → ℕ) (IsMeasured : World → Type 0) where
       -- a step leaves a lower number; or the same, with the same tasks that wait, and its own is one of them
       abbrev pub Leaves : World → ℕ → World → Type 0
@@ -122,7 +120,7 @@ module _ (c : Config) (lim : IsWithin c) (lost : ℕ → Bool) where
                   | inr same ↦ inr (same.0, same.1, λ l. same.2)
                 ])
 
-        -- all entries of a round: only such have taken steps
+        -- all transitions of a round: only such have taken steps
         run_leaves : (es : List Entry) (w : World) → IsGood c w → IsMeasured w → MayAllStep c lost w es → AllAnswerSo such c w es →
             (measure (run c w es) < measure w) ⊎
             ((measure (run c w es) ≡ measure w) × ((y : ℕ) → waits (run c w es) y ≡ waits w y) ×

@@ -1,17 +1,11 @@
 -- What a step that doesn't wait leaves: fewer steps that nobody can undo; or those of a start, with each `block` as it was; or those of an exchange or
 -- a sum, with all words as they were.
-use Rattle.std.proofs.{Common.{◌≡◌, ◌∙◌, ℕ, ◌<◌, ◌≤◌, ap, inl, refl, sym, true, true≢false, false, arith}}
-use Rattle.std.specs.Prelude.{◌⊎◌, Err, Ok, Some, Bool}
-use Rattle.access_model.specs.{Replies.map_next, declared.replies.Next.Next}
-use Rattle.cpu_words.specs.{Hooks.HookAnswer, Words.Words}
-use Rattle.gate_world.specs.{Configs.IsWithin, Rules.IsGood, Work.after_of, Worlds.{World, found_at, words_after}}
-use Rattle.gate_world.specs.declared.{config.Config.Config, work.Phase.Phase}
+use Rattle.progress_laws.proofs.Prelude.{Config, DownWrite, DownWriteStep, Err, FreezeStep, HookAnswer, IsGood, IsWithin, KeepWaiting, Next, Ok}
+use Rattle.progress_laws.proofs.Prelude.{Phase, Some, Words, World, after_of, ap, arith, false, found_at, freeze_waits, hook_of, is_outside, map_next}
+use Rattle.progress_laws.proofs.Prelude.{must_wait, refl, start_steps, steps_left, tries_left, true, words_after, ℕ, ◌<◌, ◌∙◌, ◌≡◌, ◌≤◌, ◌⊎◌}
+use Rattle.std.specs.Prelude.{Bool}
 use Rattle.gate_schedules.specs.operations.Unblocked.{RankDecreases}
-use Rattle.freeze_levels.specs.declared.{freezes.FreezeStep.FreezeStep, hooks.HookKind.TheVariants.{KeepWaiting}}
 use Rattle.freeze_levels.specs.Freezes.{closing_waits, freeze_hook}
-use Rattle.gate_world.specs.Work.{hook_of}
-use Rattle.percpu_rwsem.specs.declared.writers.{DownWrite.DownWrite, DownWriteStep.DownWriteStep}
-use Rattle.progress_laws.specs.{StepsLeft.{start_steps, steps_left, tries_left}, Waiting.{freeze_waits, is_outside, must_wait}}
 
 -- a freeze that has to wait does so with this answer: with an error it gives its level up
 abbrev pub freeze_waits_on : Words → FreezeStep → HookAnswer → Bool
@@ -25,18 +19,14 @@ waits_on w phase hook = must_wait w phase
 
 -- what need not wait does so with no answer
 freeze_goes_on : (w : Words) (s : FreezeStep) (hook : HookAnswer) → freeze_waits w s ≡ false → freeze_waits_on w s hook ≡ false
-freeze_goes_on w (FreezeStep.Waits d) (Ok answer) free = free
-freeze_goes_on w (FreezeStep.Waits d) (Err code) free = refl
-freeze_goes_on w s hook free = free
+freeze_goes_on w s hook free = grind arith
 
 pub goes_on : (w : Words) (phase : Phase) (hook : HookAnswer) → must_wait w phase ≡ false → waits_on w phase hook ≡ false
 goes_on w (Phase.Freezes x) hook free = freeze_goes_on w x.step hook free
 goes_on w phase hook free = free
 
 freeze_on : (w : Words) (s : FreezeStep) (hook : HookAnswer) → freeze_waits_on w s hook ≡ true → freeze_waits w s ≡ true
-freeze_on w (FreezeStep.Waits d) (Ok answer) waits = waits
-freeze_on w (FreezeStep.Waits d) (Err code) waits = absurd (true≢false (sym waits))
-freeze_on w s hook waits = waits
+freeze_on w s hook waits = grind arith
 
 pub on_waits : (w : Words) (phase : Phase) (hook : HookAnswer) → waits_on w phase hook ≡ true → must_wait w phase ≡ true
 on_waits w (Phase.Freezes x) hook waits = freeze_on w x.step hook waits
@@ -101,26 +91,18 @@ FewerLeft left a (Next.Done answer) = Unit {0}
 pub phase_nears : {A : Type 0} (to : A → Phase) (w after : Words) (a b d : ℕ) (next : Next A) →
     NearsBy (λ x. steps_left (to x)) (λ x. start_steps after (to x)) (λ x. tries_left after (to x)) a b d (after.block ≡ w.block) (after ≡ w) next →
     NearsBy steps_left (start_steps after) (tries_left after) a b d (after.block ≡ w.block) (after ≡ w) (map_next to next)
-phase_nears to w after a b d (Next.Go q) h = h
-phase_nears to w after a b d (Next.Wait q) h = h
-phase_nears to w after a b d (Next.Done answer) h = tt
+phase_nears to w after a b d next h = grind arith
 
 pub phase_fewer : {A : Type 0} (to : A → Phase) (w after : Words) (a b d : ℕ) (next : Next A) → FewerLeft (λ x. steps_left (to x)) a next →
     NearsBy steps_left (start_steps after) (tries_left after) a b d (after.block ≡ w.block) (after ≡ w) (map_next to next)
-phase_fewer to w after a b d (Next.Go q) h = inl h
-phase_fewer to w after a b d (Next.Wait q) h = inl h
-phase_fewer to w after a b d (Next.Done answer) h = tt
+phase_fewer to w after a b d next h = grind arith
 
 pub phase_falls : {A : Type 0} (to : A → Phase) (w after : Words) (rank_of : Phase → ℕ) (free : Phase → Type 0) (a b d : ℕ) (next : Next A) →
     ((x : A) → steps_left (to x) ≡ rank_of (to x)) → RankDecreases rank_of free a (map_next to next) →
     NearsBy steps_left (start_steps after) (tries_left after) a b d (after.block ≡ w.block) (after ≡ w) (map_next to next)
-phase_falls to w after rank_of free a b d (Next.Go q) same h = inl (omega (arith, same q, h.0))
-phase_falls to w after rank_of free a b d (Next.Wait q) same h = inl (omega (arith, same q, h.0))
-phase_falls to w after rank_of free a b d (Next.Done answer) same h = tt
+phase_falls to w after rank_of free a b d next same h = grind arith
 
 pub phase_stays : {A : Type 0} (to : A → Phase) (w : Words) (a b d : ℕ) (next : Next A) →
     StaysBy (λ x. must_wait w (to x) ≡ true) (λ x. steps_left (to x)) (λ x. start_steps w (to x)) (λ x. tries_left w (to x)) a b d next →
     StaysBy (λ q. must_wait w q ≡ true) steps_left (start_steps w) (tries_left w) a b d (map_next to next)
-phase_stays to w a b d (Next.Go q) h = h
-phase_stays to w a b d (Next.Wait q) h = h
-phase_stays to w a b d (Next.Done answer) h = absurd h
+phase_stays to w a b d next h = grind arith

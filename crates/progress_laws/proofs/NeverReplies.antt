@@ -1,40 +1,31 @@
 -- An operation that meets what a lost task has left never has its reply.
-use Rattle.std.proofs.Common.{None, Option}
-use Rattle.access_model.specs.declared.errors.GateError.{GateError}
-use Rattle.std.proofs.lemmas.Bool.{cases_lt, eq-eqb, ltb-false}
-use Rattle.std.proofs.Common.{◌≡◌, ℕ, suc, ◌<◌, ◌≤◌, Bool, true, false, true≢false, refl, sym, ap, ◌∙◌, inl, inr, subst, arith, List, [], ◌∷◌}
-use Rattle.std.proofs.lemmas.Bool.{cases_Bool, ne_eqb, Decides.eqb_tells}
-use Rattle.std.specs.Prelude.{Err, Ok, ◌==◌, ◌%◌, ◌+◌, ◌&&◌, if◌then◌else◌, ◌⊎◌, Some, is_some, nat_lt}
-use Rattle.access_model.specs.{declared.{replies.Next.Next}}
-use Rattle.cpu_words.specs.{Hooks.HookAnswer, Sums.lead, Touches.{found_by, wrap_add}, Words.{Words, read}}
-use Rattle.cpu_words.specs.gate_counts.{Gates.{Barring, BarringHolds, admitted, unread}, Levels.{barring_of, level_as_gate}}
-use Rattle.finite_sums.{proofs.Totals.total_at, specs.Sums.total}
-use Rattle.percpu_rwsem.specs.{Callbacks.{callback_after, callback_looked, callback_next}, Graces.{is_first, looked, passed_on}, Writers.{down_write_after, down_write_next, sections_awaited}}
-use Rattle.percpu_rwsem.specs.declared.{callbacks.{Callback.Callback, CallbackStep.CallbackStep}, grace.{Grace.Grace, GraceNext.GraceNext}}
-use Rattle.percpu_rwsem.specs.declared.writers.{DownWrite.DownWrite, DownWriteStep.DownWriteStep}
-use Rattle.gate_world.specs.{Holdings.Holdings, Roles.{count_beside, down_count_role, freeze_position, position_count}}
-use Rattle.gate_schedules.proofs.levels.Counts.{held_bit}
+use Rattle.progress_laws.proofs.Prelude.{AtLevel, Begins, Bool, Callback, CallbackStep, ChangeStep, ClosePhase, Config, DownRead, DownWrite}
+use Rattle.progress_laws.proofs.Prelude.{DownWriteStep, DownWriteStepFits, Entry, Err, Freeze, FreezeFits, FreezeStep, GateError, Grace, GraceNext}
+use Rattle.progress_laws.proofs.Prelude.{Holdings, HookAnswer, IsGood, IsWithin, KeepWaiting, List, MountPhase, Next, Ok, Op, Phase, PhaseFits}
+use Rattle.progress_laws.proofs.Prelude.{RemountStep, SnapshotStep, Some, Steps, SyncAt, SyncHoldsIn, ThawStep, TreePhase, View, Want, WantStep}
+use Rattle.progress_laws.proofs.Prelude.{Words, World, WritePhase, [], after_closing, after_of, after_step, ap, arith, at_level, callback_after}
+use Rattle.progress_laws.proofs.Prelude.{callback_next, cases_Bool, closed, down_read_after, down_read_next, down_write_after, down_write_next}
+use Rattle.progress_laws.proofs.Prelude.{eq-eqb, eqb_tells, false, fits_at, found_at, found_by, freeze_after, freeze_next, happens, happens_is}
+use Rattle.progress_laws.proofs.Prelude.{has_flag, held_of, hook_of, if◌then◌else◌, inl, inr, is_frozen_whole, level_as_gate, looked, nat_lt, owns}
+use Rattle.progress_laws.proofs.Prelude.{phase_after, read, refl, run, sections_awaited, stands_after, subst, suc, sym, sync_role_of, thaw_after}
+use Rattle.progress_laws.proofs.Prelude.{total, total_at, true, true≢false, words_after, wrap_add, ℕ, ◌&&◌, ◌<◌, ◌==◌, ◌∙◌, ◌∷◌, ◌≡◌, ◌≤◌, ◌⊎◌}
+use Rattle.std.{proofs.{Common.{None, Option}, lemmas.Bool.{cases_lt, ltb-false, ne_eqb}}, specs.Prelude.{◌%◌, ◌+◌, is_some}}
+use Rattle.cpu_words.specs.{Sums.lead, gate_counts.{Gates.{Barring, BarringHolds, admitted, unread}, Levels.barring_of}}
+use Rattle.percpu_rwsem.specs.{Callbacks.callback_looked, Graces.{is_first, passed_on}, Readers.step_found}
+use Rattle.gate_world.specs.{Beginnings.refusal, Levels.{inside, level_role_of}, Roles.{count_beside, down_count_role, freeze_position}}
+use Rattle.gate_world.specs.{Roles.position_count, Rules.{LevelHoldsIn, Sections, role_of}, Views.holds_level, Worlds.{begin_of, begin_refusal}}
+use Rattle.gate_world.specs.Worlds.{task_of}
+use Rattle.gate_schedules.proofs.{levels.{Counts.held_bit, Facts.blocked_slow}, operations.deadlocks.BlockedStarts.{StaysKept, start_stays}}
+use Rattle.gate_schedules.{proofs.schedules.Schedule.happens_keeps, specs.operations.Progress.is_admitted}
 use Rattle.composite_ops.specs.{file_closes.Phases.then_frees, write_access.Phases.{then_gives_back, then_wants}}
-use Rattle.composite_ops.specs.declared.{file_closes.phases.ClosePhase.ClosePhase, write_access.phases.WritePhase.WritePhase}
-use Rattle.freeze_laws.specs.levels.Roles.{closed}
-use Rattle.freeze_levels.specs.{Freezes.{after_closing, freeze_after, freeze_hook, freeze_next}, Thaws.{thaw_after, thaw_next}}
-use Rattle.freeze_levels.specs.declared.hooks.HookKind.TheVariants.{KeepWaiting}
-use Rattle.freeze_levels.specs.declared.{freezes.{Freeze.Freeze, FreezeStep.FreezeStep}, thaws.{Thaw.Thaw, ThawStep.ThawStep}}
-use Rattle.gated_tree.specs.{Phases.{snapshot_after, snapshot_locked_out, snapshot_next}, declared.{phases.TreePhase.TreePhase, snapshots.{Snapshot.Snapshot, SnapshotStep.SnapshotStep}}}
-use Rattle.mount_counts.specs.{Phases.{change_after, change_next, has_flag, hold_found, lock_failed, want_after, want_next}, Remounts.{remount_after, remount_next}, Roles.has_hold}
-use Rattle.mount_counts.specs.declared.phases.{Change.Change, ChangeStep.ChangeStep, MountPhase.MountPhase, Want.Want, WantStep.WantStep}
-use Rattle.mount_counts.specs.declared.remounts.{Remount.Remount, RemountStep.RemountStep}
-use Rattle.percpu_rwsem.specs.{Readers.{down_read_after, down_read_next, step_found}}
-use Rattle.percpu_rwsem.specs.declared.readers.{DownRead.DownRead}
-use Rattle.gate_world.specs.{Beginnings.refusal, Configs.IsWithin, Fits.{DownWriteStepFits, FreezeFits, PhaseFits}, Levels.{at_level, inside, is_frozen_whole, level_role_of, sync_role_of}}
-use Rattle.gate_world.specs.{Rules.{AtLevel, IsGood, LevelHoldsIn, Sections, SyncAt, SyncHoldsIn, owns, role_of}}
-use Rattle.gate_world.specs.{Views.{held_of, holds_level, phase_after}, Work.{after_of, hook_of}, Worlds.{World, after_step, begin_of, begin_refusal, words_after, found_at, happens, run, task_of}}
-use Rattle.gate_world.specs.declared.{config.Config.Config, entries.Entry.{Entry, TheVariants.{Begins, Steps}}, operations.Op.Op, views.View.View, work.Phase.Phase}
-use Rattle.gate_schedules.proofs.{levels.Facts.blocked_slow, operations.deadlocks.{BlockedStarts.{StaysKept, start_stays}, RankDecreases.{happens_is, stands_after}}}
-use Rattle.gate_schedules.proofs.{operations.deadlocks.WhoCanStep.fits_at, schedules.Schedule.happens_keeps}
-use Rattle.gate_schedules.specs.operations.Progress.{is_admitted}
-use Rattle.progress_laws.specs.{Answers.{AllAnswerSo, AnswersSo, IsPatientWith}, LostTasks.HoldIsLost, LostForEver.{AreOfOthers, LevelIsLost, LockIsLost, MeetsAtCallback, MeetsAtClosing, MeetsAtFreeze, MeetsHold, MeetsLevel, MeetsLost, MeetsSection, NeverReplies}}
-use Rattle.progress_laws.proofs.{LostStays.{same_entry, words_tell}, Nearer.by_wait, BarredStarts.start_section, NobodyReplies.{GoesOnKept, goes_as, not_patient}, Levels.lead_last, Measured.{absent_is, idle_is}}
+use Rattle.freeze_levels.specs.{Freezes.freeze_hook, Thaws.thaw_next, declared.thaws.Thaw.Thaw}
+use Rattle.gated_tree.specs.{Phases.{snapshot_after, snapshot_locked_out, snapshot_next}, declared.snapshots.Snapshot.Snapshot}
+use Rattle.mount_counts.specs.{Phases.{change_after, change_next, hold_found, lock_failed, want_after, want_next}, Remounts.remount_after}
+use Rattle.mount_counts.specs.{Remounts.remount_next, Roles.has_hold, declared.{phases.Change.Change, remounts.Remount.Remount}}
+use Rattle.progress_laws.proofs.{BarredStarts.start_section, Levels.lead_last, LostStays.{same_entry, words_tell}, Measured.{absent_is, idle_is}}
+use Rattle.progress_laws.{proofs.{Nearer.by_wait, NobodyReplies.{GoesOnKept, goes_as, not_patient}}, specs.Answers.{AllAnswerSo, AnswersSo}}
+use Rattle.progress_laws.specs.{Answers.IsPatientWith, LostForEver.{AreOfOthers, LevelIsLost, LockIsLost, MeetsAtCallback, MeetsAtClosing}}
+use Rattle.progress_laws.specs.{LostForEver.{MeetsAtFreeze, MeetsHold, MeetsLevel, MeetsLost, MeetsSection, NeverReplies}, LostTasks.HoldIsLost}
 
 abbrev is_start : Phase → Bool
 is_start (Phase.DownReads r) = true
@@ -98,23 +89,16 @@ plain_section w p hook out = grind arith
 
 section_still : (c : Config) (w : Words) (t : ℕ) (held : Holdings) (p : Phase) (hook : HookAnswer) → PhaseFits c t held p → (y : ℕ) → (y ≡ t → ⊥) →
     (words_after w p hook).section y ≡ w.section y
-section_still c w t held (Phase.DownReads r) hook f y ne = start_section w r r.step y (λ e. ne (e ∙ f.3))
-section_still c w t held (Phase.Writes (WritePhase.Takes m r)) hook f y ne = start_section w r r.step y (λ e. ne (e ∙ f.0.3))
-section_still c w t held (Phase.Closes (ClosePhase.Enters n node r)) hook f y ne = start_section w r r.step y (λ e. ne (e ∙ f.2.3))
-section_still c w t held p hook f y ne = ap (λ g. g y) (plain_section w p hook refl)
+section_still c w t held p hook f y ne = grind (arith, start_section, plain_section)
 
 -- one that is kept so goes on, in whatever phases it stands
 kept_more : {P : Type 0} (A B : P → Type 0) → ((x : P) → A x → B x) → (next : Next P) → GoesOnKept A next → GoesOnKept B next
-kept_more A B f (Next.Go x) h = f x h
-kept_more A B f (Next.Wait x) h = f x h
-kept_more A B f (Next.Done answer) h = absurd h
+kept_more A B f next h = grind arith
 
 start_more : (r : DownRead) (B : DownRead → Type 0) →
     ((x : DownRead) → (x.wait ≡ true) × (is_admitted x.step ≡ false) × (x.level ≡ r.level) → B x) → (next : Next DownRead) → StaysKept r next →
     GoesOnKept B next
-start_more r B f (Next.Go x) h = f x h
-start_more r B f (Next.Wait x) h = f x h
-start_more r B f (Next.Done answer) h = absurd h
+start_more r B f next h = grind arith
 
 -- a look that finds the task in its section again
 abbrev LooksOn : World → Grace → GraceNext → Type 0
@@ -122,7 +106,7 @@ LooksOn w g (GraceNext.Wait q) = q ≡ record { tasks = g.tasks; task = g.task; 
 LooksOn w g other = ⊥
 
 module _ (c : Config) (lim : IsWithin c) (lost : ℕ → Bool) where
-  -- what is lost in a world is lost in a later one with the same views of lost tasks
+  -- what is lost in a state is lost in a later one with the same views of lost tasks
   abbrev SameLost : World → World → Type 0
   SameLost w next = (y : ℕ) → lost y ≡ true → (next.views y ≡ w.views y) × (next.words.section y ≡ w.words.section y)
 
@@ -145,36 +129,17 @@ module _ (c : Config) (lim : IsWithin c) (lost : ℕ → Bool) where
   )
 
   closing_later : (w next : World) → SameLost w next → (d : DownWrite) (s : DownWriteStep) → MeetsAtClosing c lost w d s → MeetsAtClosing c lost next d s
-  closing_later w next same d (DownWriteStep.AwaitsSections g) h = section_later w next same g h
-  closing_later w next same d (DownWriteStep.Sums sum) (y, ly, dead, is) =
-      (y, ly, dead, ap (λ (v : View). holds_level v d.level) (same y dead).0 ∙ is)
-  closing_later w next same d s h = absurd h
+  closing_later w next same d s h = grind (arith, section_later)
 
   freeze_later : (w next : World) → SameLost w next → (s : FreezeStep) → MeetsAtFreeze c lost w s → MeetsAtFreeze c lost next s
-  freeze_later w next same FreezeStep.Locks h = lock_later w next same h
-  freeze_later w next same FreezeStep.LocksAgain h = lock_later w next same h
-  freeze_later w next same (FreezeStep.LocksToUndo code) h = lock_later w next same h
-  freeze_later w next same (FreezeStep.Closes d) h = closing_later w next same d d.step h
-  freeze_later w next same (FreezeStep.Waits d) h = closing_later w next same d d.step h
-  freeze_later w next same s h = absurd h
+  freeze_later w next same s h = grind (arith, lock_later, closing_later)
 
   callback_later : (w next : World) → SameLost w next → (s : CallbackStep) → MeetsAtCallback c lost w s → MeetsAtCallback c lost next s
   callback_later w next same (CallbackStep.AwaitsSections g) h = section_later w next same g h
   callback_later w next same s h = absurd h
 
   meets_later : (w next : World) → SameLost w next → (p : Phase) → MeetsLost c lost w p → MeetsLost c lost next p
-  meets_later w next same (Phase.Mounts (MountPhase.Want x)) h = (h.0, h.1, hold_later w next same x.mount h.2)
-  meets_later w next same (Phase.Mounts (MountPhase.Change x)) h = (h.0, h.1, lock_later w next same h.2)
-  meets_later w next same (Phase.Remounts x) h = (h.0, lock_later w next same h.1)
-  meets_later w next same (Phase.DownReads r) h = (h.0, h.1, level_later w next same r.level h.2)
-  meets_later w next same (Phase.Writes (WritePhase.Takes m r)) h = (h.0, h.1, level_later w next same r.level h.2)
-  meets_later w next same (Phase.Writes (WritePhase.Wants x)) h = (h.0, h.1, hold_later w next same x.mount h.2)
-  meets_later w next same (Phase.Freezes x) h = freeze_later w next same x.step h
-  meets_later w next same (Phase.Callbacks b) h = callback_later w next same b.step h
-  meets_later w next same (Phase.Thaws x) h = (h.0, lock_later w next same h.1)
-  meets_later w next same (Phase.Trees (TreePhase.Snapshot x)) h = (h.0, h.1, lock_later w next same h.2)
-  meets_later w next same (Phase.Closes (ClosePhase.Enters f node r)) h = (h.0, h.1, level_later w next same r.level h.2)
-  meets_later w next same p h = absurd h
+  meets_later w next same p h = grind (arith, hold_later, lock_later, level_later, freeze_later, callback_later)
 
   module _ (w : World) (good : IsGood c w) where
     lock_there : LockIsLost c lost w → (w.words.umount == 0) ≡ false
@@ -259,9 +224,7 @@ module _ (c : Config) (lim : IsWithin c) (lost : ℕ → Bool) where
 
     closes_there : (x : Freeze) (level : ℕ) (next : Next DownWrite) → GoesOnKept (λ (y : DownWrite). MeetsAtClosing c lost w y y.step) next →
         GoesOnKept (λ (y : Freeze). MeetsAtFreeze c lost w y.step) (after_closing x level next)
-    closes_there x level (Next.Go y) k = k
-    closes_there x level (Next.Wait y) k = by_wait (MeetsAtFreeze c lost w) y y.step k k
-    closes_there x level (Next.Done answer) k = absurd k
+    closes_there x level next k = grind (arith, by_wait)
 
     freeze_there : (t : ℕ) → t < c.tasks → (x : Freeze) (hook : HookAnswer) (s : FreezeStep) → FreezeFits c x.holder s →
         (freeze_hook s ≡ Some KeepWaiting → hook ≡ Ok tt) → ((i : ℕ) → level_role_of i (w.views t).phase ≡ position_count i (freeze_position s)) → MeetsAtFreeze c lost w s →
@@ -339,7 +302,7 @@ module _ (c : Config) (lim : IsWithin c) (lost : ℕ → Bool) where
         | inr h ↦ rw h refl
       ]
 
-  -- where an operation stands after an entry, and that it meets the same there
+  -- where an operation stands after a transition, and that it meets the same there
   abbrev MeetsAt : World → ℕ → Type 0
   MeetsAt w t = (p : Phase) × ((w.views t).phase ≡ Some p) × MeetsLost c lost w p
 
@@ -350,7 +313,7 @@ module _ (c : Config) (lim : IsWithin c) (lost : ℕ → Bool) where
   own_step w good t lt p at hook same (Next.Wait q) here k = (q, here, meets_later w (after_step w t p hook) same q k)
   own_step w good t lt p at hook same (Next.Done answer) here k = absurd k
 
-  -- an entry of another task leaves a lost one's view, and its section
+  -- a transition of another task leaves a lost one's view, and its section
   section_entry : (w : World) → IsGood c w → (e : Entry) (y : ℕ) → (y ≡ task_of e → ⊥) → (happens c w e).words.section y ≡ w.words.section y
   section_entry w good (Begins u op) y ne = begun (begin_refusal c w u op)
     where

@@ -1,33 +1,36 @@
 -- Where all have to wait, no steps of theirs are a reply, not even those of starts that count themselves again at a closed level.
-use Rattle.std.proofs.Common.{◌≡◌, ℕ, zero, suc, ◌+◌, ◌*◌, ◌<◌, ◌≤◌, Bool, true, false, true≢false, refl, sym, ap, ◌∙◌, inl, inr, subst, arith, add-one}
-use Rattle.std.proofs.{Math.Path.{fun_ext}, lemmas.Bool.{cases_Bool, cases_lt, ltb-true, ltb-false, eq-eqb, ne_eqb, Decides.eqb_tells}}
-use Rattle.std.specs.Prelude.{Err, Ok, ◌%◌, ◌==◌, ◌&&◌, not, nat_lt, Option, None, Some, List, [], ◌∷◌, if◌then◌else◌}
-use Rattle.finite_sums.{proofs.Totals.{total_add, total_at, total_bound, total_le, total_none, total_same, update_at, update_off}, specs.Sums.{total}}
-use Rattle.access_model.specs.{Histories.levels_of, Replies.map_next, declared.{replies.Next.Next}}
-use Rattle.cpu_words.specs.{Hooks.HookAnswer, Sums.{lead}, Touches.{found_by, wrap_add}, Words.{Words, read}, declared.{sums.Sum.Sum}}
-use Rattle.cpu_words.specs.gate_counts.{Gates.{Barring, BarringHolds, GateView, admitted, below, counted, unread}, Levels.{LevelRole, barring_of, level_as_gate, processor_of}}
-use Rattle.cpu_words.proofs.gate_counts.{Events.words_sum, Numbers.{below_le, below_step}}
+use Rattle.progress_laws.proofs.Prelude.{AllWait, AtLevel, Begins, Bool, Callback, CallbackIsBlockedBy, CallbackStep, ClosePhase, ClosingIsBlockedBy}
+use Rattle.progress_laws.proofs.Prelude.{Config, DownRead, DownReadStep, DownWrite, DownWriteStep, DownWriteStepFits, Entry, Err, Freeze, FreezeFits}
+use Rattle.progress_laws.proofs.Prelude.{FreezeIsBlockedBy, FreezeStep, Grace, GraceNext, HookAnswer, IsGood, IsWithin, KeepWaiting, Next, None, Ok}
+use Rattle.progress_laws.proofs.Prelude.{Option, Phase, PhaseFits, Some, Steps, Sum, SyncAt, SyncHoldsIn, View, Words, World, WritePhase}
+use Rattle.progress_laws.proofs.Prelude.{after_closing, after_event, after_of, after_step, ap, arith, at_level, callback_after, callback_next}
+use Rattle.progress_laws.proofs.Prelude.{callback_waits, cases_Bool, closing_waits, down_read_after, down_read_next, down_write_after}
+use Rattle.progress_laws.proofs.Prelude.{down_write_next, eq-eqb, eqb_tells, false, fits_at, found_at, found_by, freeze_after, freeze_next}
+use Rattle.progress_laws.proofs.Prelude.{freeze_waits, grace_waits, happens, happens_is, held_of, hook_of, if◌then◌else◌, inl, inr, is_frozen_whole}
+use Rattle.progress_laws.proofs.Prelude.{is_outside, level_as_gate, looked, map_next, must_wait, nat_lt, not, phase_after, read, refl, run}
+use Rattle.progress_laws.proofs.Prelude.{sections_awaited, stands_after, start_steps, steps_left, subst, suc, sym, sync_role_of, thaw_after, total}
+use Rattle.progress_laws.proofs.Prelude.{total_at, total_le, tries_left, true, true≢false, unpack, update_at, update_off, value_at, view_after}
+use Rattle.progress_laws.proofs.Prelude.{wrap_add, zero, ℕ, ◌&&◌, ◌*◌, ◌+◌, ◌<◌, ◌==◌, ◌∙◌, ◌≡◌, ◌≤◌}
+use Rattle.std.{proofs.{Common.add-one, Math.Path.fun_ext, lemmas.Bool.{cases_lt, ltb-true, ltb-false, ne_eqb}}, specs.Prelude.{◌%◌, List, [], ◌∷◌}}
+use Rattle.finite_sums.proofs.Totals.{total_add, total_bound, total_none, total_same}
+use Rattle.access_model.specs.Histories.{levels_of}
+use Rattle.cpu_words.{proofs.gate_counts.{Events.words_sum, Numbers.{below_le, below_step}}, specs.{Sums.lead, gate_counts.Gates.Barring}}
+use Rattle.cpu_words.specs.gate_counts.{Gates.{BarringHolds, GateView, admitted, below, counted, unread}, Levels.{LevelRole, barring_of}}
+use Rattle.cpu_words.specs.gate_counts.Levels.{processor_of}
 use Rattle.composite_ops.specs.{file_closes.Phases.then_frees, write_access.Phases.{after as write_after, then_wants}}
 use Rattle.gated_tree.specs.Phases.{after as tree_after}
-use Rattle.mount_counts.specs.{Phases.{after as mount_after}, Remounts.remount_after}
-use Rattle.composite_ops.specs.declared.{file_closes.phases.ClosePhase.ClosePhase, write_access.phases.WritePhase.WritePhase}
-use Rattle.freeze_levels.specs.{Thaws.thaw_after, Freezes.{after_closing, freeze_after, freeze_hook, freeze_next}, declared.freezes.{Freeze.Freeze, FreezeStep.FreezeStep}}
-use Rattle.freeze_levels.specs.declared.hooks.HookKind.TheVariants.{KeepWaiting}
-use Rattle.percpu_rwsem.specs.{Callbacks.{callback_after, callback_looked, callback_next}, Graces.looked}
-use Rattle.percpu_rwsem.specs.{Readers.{at_down_read, down_read_after, down_read_next, step_found}, SyncWords.unpack, Writers.{down_write_after, down_write_next, sections_awaited}}
-use Rattle.percpu_rwsem.specs.declared.{callbacks.{Callback.Callback, CallbackStep.CallbackStep}, grace.{Grace.Grace, GraceNext.GraceNext}, readers.{DownRead.DownRead, DownReadStep.DownReadStep}}
-use Rattle.percpu_rwsem.specs.declared.writers.{DownWrite.DownWrite, DownWriteStep.DownWriteStep}
-use Rattle.gate_world.specs.{Configs.IsWithin, Fits.{DownWriteStepFits, FreezeFits, PhaseFits, ReadFits}, Levels.{at_level, is_frozen_whole, level_role_of, sync_role_of}, Roles.{count_beside, count_role_if, down_count_role, freeze_position, position_count, read_count_role, read_level_role}}
-use Rattle.gate_world.specs.{Rules.{AtLevel, IsGood, LevelHoldsIn, SyncAt, SyncHoldsIn}, Views.{actions_after, held_of, holds_level, phase_after, view_after}, Work.{after_of, hook_of}, Worlds.{World, after_step, found_at, happens, run, value_at}}
-use Rattle.gate_world.specs.declared.{config.Config.Config, entries.Entry.{Entry, TheVariants.{Begins, Steps}}, views.View.View, work.Phase.Phase}
-use Rattle.gate_schedules.proofs.{levels.{Counts.held_bit, Facts.blocked_slow}, operations.deadlocks.{RankDecreases.{after_event, happens_is, stands_after}, WhoCanStep.fits_at}}
-use Rattle.gate_schedules.specs.operations.Progress.{IsUnderWay, is_admitted}
-use Rattle.progress_laws.specs.{Answers.{AllAnswerSo, AnswersSo, IsPatient}, LostTasks.{AllWait, AreLiveSteps, CallbackIsBlockedBy, ClosingIsBlockedBy, FreezeIsBlockedBy, IsBlockedBy, NobodyReplies}}
-use Rattle.progress_laws.proofs.{AllNearer.phase_comes, Blame.{both, each_is_blocked, nonzero, not_zero}, Calls.lock_found, FairlyBlocked.{start_wait, waits_out}}
-use Rattle.progress_laws.proofs.{Levels.{LookStays, begun_lead, lead_last, lead_on, look_stays}, Nearer.{StaysBy, StaysWaiting, by_wait, patient_waits}, Measured.{absent_is, after_good, idle_is}}
-use Rattle.progress_laws.proofs.BarredStarts.{ComesTo, barred_next, sought_by, start_elsewhere, start_lead, start_next, start_out, start_section, start_words}
-use Rattle.progress_laws.specs.StepsLeft.{start_steps, steps_left, tries_left}
-use Rattle.progress_laws.specs.Waiting.{callback_waits, closing_waits, freeze_waits, grace_waits, is_outside, lock_taken, must_wait, was_found}
+use Rattle.mount_counts.specs.{Phases.after as mount_after, Remounts.remount_after}
+use Rattle.freeze_levels.specs.Freezes.{freeze_hook}
+use Rattle.percpu_rwsem.specs.{Callbacks.callback_looked, Readers.{at_down_read, step_found}}
+use Rattle.gate_world.specs.{Fits.ReadFits, Levels.level_role_of, Roles.{count_beside, count_role_if, down_count_role, freeze_position}}
+use Rattle.gate_world.specs.{Roles.{position_count, read_count_role, read_level_role}, Rules.LevelHoldsIn, Views.{actions_after, holds_level}}
+use Rattle.gate_schedules.{proofs.levels.{Counts.held_bit, Facts.blocked_slow}, specs.operations.Progress.{IsUnderWay, is_admitted}}
+use Rattle.progress_laws.proofs.{AllNearer.phase_comes, BarredStarts.{ComesTo, barred_next, sought_by, start_elsewhere, start_lead, start_next}}
+use Rattle.progress_laws.proofs.{BarredStarts.{start_out, start_section, start_words}, Blame.{both, each_is_blocked, nonzero, not_zero}}
+use Rattle.progress_laws.proofs.{Calls.lock_found, FairlyBlocked.{start_wait, waits_out}, Levels.{LookStays, begun_lead, lead_last, lead_on}}
+use Rattle.progress_laws.proofs.{Levels.look_stays, Measured.{absent_is, after_good, idle_is}, Nearer.{StaysBy, StaysWaiting, by_wait, patient_waits}}
+use Rattle.progress_laws.specs.{Answers.{AllAnswerSo, AnswersSo, IsPatient}, LostTasks.{AreLiveSteps, IsBlockedBy, NobodyReplies}, Waiting.lock_taken}
+use Rattle.progress_laws.specs.Waiting.{was_found}
 
 -- a sum with one term changed
 total_shift : (n t : ℕ) (f g : ℕ → ℕ) → t < n → ((x : ℕ) → (x ≡ t → ⊥) → g x ≡ f x) → total n g + f t ≡ total n f + g t
@@ -187,17 +190,13 @@ GoesOnKept kept (Next.Wait q) = kept q
 GoesOnKept kept (Next.Done answer) = ⊥
 
 pub goes_as : {A B : Type 0} (to : A → B) (kept : B → Type 0) (next : Next A) → GoesOnKept (λ x. kept (to x)) next → GoesOnKept kept (map_next to next)
-goes_as to kept (Next.Go q) h = h
-goes_as to kept (Next.Wait q) h = h
-goes_as to kept (Next.Done answer) h = absurd h
+goes_as to kept next h = grind arith
 
 -- a step that has to wait, by what has to wait then
 goes_waiting : {A : Type 0} (to : A → Phase) (w : Words) (kept : Phase → Type 0) (a b d : ℕ) (next : Next A) →
     ((x : A) → must_wait w (to x) ≡ true → kept (to x)) →
     StaysBy (λ q. must_wait w q ≡ true) steps_left (start_steps w) (tries_left w) a b d (map_next to next) → GoesOnKept kept (map_next to next)
-goes_waiting to w kept a b d (Next.Go q) is h = is q h.0
-goes_waiting to w kept a b d (Next.Wait q) is h = is q h.0
-goes_waiting to w kept a b d (Next.Done answer) is h = absurd h
+goes_waiting to w kept a b d next is h = grind arith
 
 module _ (c : Config) (lim : IsWithin c) (lost : ℕ → Bool) (w : World) (good : IsGood c w) where
   abbrev ClosingIn : DownWrite → DownWriteStep → Type 0
@@ -244,47 +243,25 @@ module _ (c : Config) (lim : IsWithin c) (lost : ℕ → Bool) (w : World) (good
       GoesOnKept (λ (y : DownWrite). (y.level ≡ d.level) × ClosingIn y y.step)
       (down_write_after d s (found_by (down_write_next d s).1 (read w.words (down_write_next d s).0))).0 ×
       ((down_write_after d s (found_by (down_write_next d s).1 (read w.words (down_write_next d s).0))).1 ≡ None)
-  closing_goes d (DownWriteStep.AwaitsSections g) one three processors fits kept = (look_goes d g kept, refl)
-  closing_goes d (DownWriteStep.Sums sum) one three processors fits kept =
-      sum_goes d sum one three processors (omega (arith, fits, processors)) kept
-  closing_goes d s one three processors fits kept = absurd kept
+  closing_goes d s one three processors fits kept = grind (arith, look_goes, sum_goes)
 
   freeze_closes_goes : (x : Freeze) (level : ℕ) (d : DownWrite) (next : Next DownWrite) →
       GoesOnKept (λ (y : DownWrite). (y.level ≡ d.level) × ClosingIn y y.step) next →
       GoesOnKept (λ (y : Freeze). FreezeIn y.step) (after_closing x level next)
-  freeze_closes_goes x level d (Next.Go y) h = h.1
-  freeze_closes_goes x level d (Next.Wait y) h = by_wait FreezeIn y y.step h.1 h.1
-  freeze_closes_goes x level d (Next.Done answer) h = absurd h
+  freeze_closes_goes x level d next h = grind (arith, by_wait)
 
   freeze_goes : (x : Freeze) (s : FreezeStep) (hook : HookAnswer) → FreezeFits c x.holder s → (freeze_hook s ≡ Some KeepWaiting → hook ≡ Ok tt) →
       FreezeIn s →
       GoesOnKept (λ (y : Freeze). FreezeIn y.step) (freeze_after x s (found_by (freeze_next x s hook).1 (read w.words (freeze_next x s hook).0)) hook).0 ×
       ((freeze_after x s (found_by (freeze_next x s hook).1 (read w.words (freeze_next x s hook).0)) hook).1 ≡ None)
-  freeze_goes x FreezeStep.Locks hook fits patient kept = rw (lock_found w.words kept) (kept, refl)
-  freeze_goes x (FreezeStep.Closes d) hook fits patient kept =
-      let h = closing_goes d d.step fits.0 fits.1 fits.3 fits.4 kept in
-      (freeze_closes_goes x d.level d (down_write_after d d.step (found_by (down_write_next d d.step).1 (read w.words (down_write_next d d.step).0))).0 h.0, h.1)
-  freeze_goes x (FreezeStep.Waits d) (Ok answer) fits patient kept =
-      let h = closing_goes d d.step fits.0.0 fits.0.1 fits.0.3 fits.0.4 kept in
-      (freeze_closes_goes x d.level d (down_write_after d d.step (found_by (down_write_next d d.step).1 (read w.words (down_write_next d d.step).0))).0 h.0, h.1)
-  freeze_goes x (FreezeStep.Waits d) (Err code) fits patient kept = not_patient (Err code) refl (patient refl)
-  freeze_goes x (FreezeStep.LocksToUndo code) hook fits patient kept = rw (lock_found w.words kept) (kept, refl)
-  freeze_goes x FreezeStep.LocksAgain hook fits patient kept = rw (lock_found w.words kept) (kept, refl)
-  freeze_goes x s hook fits patient kept = absurd (true≢false (sym kept))
+  freeze_goes x s hook fits patient kept = grind (arith, lock_found, closing_goes, freeze_closes_goes, not_patient)
 
   closing_waiting : (d : DownWrite) (s : DownWriteStep) → 1 ≤ d.level → d.level ≤ 3 → d.processors ≡ c.processors → ClosingIn d s →
       closing_waits w.words d s ≡ true
-  closing_waiting d (DownWriteStep.AwaitsSections g) one three processors kept = kept.0
-  closing_waiting d (DownWriteStep.Sums sum) one three processors kept = sum_waiting c lim lost w good d sum one three processors kept
-  closing_waiting d s one three processors kept = absurd kept
+  closing_waiting d s one three processors kept = grind (arith, sum_waiting)
 
   freeze_waiting : (x : Freeze) (s : FreezeStep) → FreezeFits c x.holder s → FreezeIn s → freeze_waits w.words s ≡ true
-  freeze_waiting x (FreezeStep.Closes d) fits kept = closing_waiting d d.step fits.0 fits.1 fits.3 kept
-  freeze_waiting x (FreezeStep.Waits d) fits kept = closing_waiting d d.step fits.0.0 fits.0.1 fits.0.3 kept
-  freeze_waiting x (FreezeStep.LocksToUndo code) fits kept = kept
-  freeze_waiting x FreezeStep.Locks fits kept = kept
-  freeze_waiting x FreezeStep.LocksAgain fits kept = kept
-  freeze_waiting x s fits kept = absurd (true≢false (sym kept))
+  freeze_waiting x s fits kept = grind (arith, closing_waiting)
 
   callback_goes : (b : Callback) (s : CallbackStep) → CallbackKept c lost w.words (held_in w) (sought_in w) s →
       GoesOnKept (λ (y : Callback). CallbackKept c lost w.words (held_in w) (sought_in w) y.step)
@@ -449,10 +426,7 @@ module _ (c : Config) (lim : IsWithin c) (lost : ℕ → Bool) (w : World) (good
     closing_still : (u : ℕ) → u < c.tasks → (d : DownWrite) (s : DownWriteStep) → 1 ≤ d.level → d.level ≤ 3 →
         level_role_of d.level (w.views u).phase ≡ down_count_role s → ClosingKept c lost w.words (held_in w) (sought_in w) d s →
         ClosingKept c lost next.words (held_in next) (sought_in next) d s
-    closing_still u lu d (DownWriteStep.AwaitsSections g) one three is kept = grace_still g kept
-    closing_still u lu d (DownWriteStep.Sums sum) one three is kept =
-        sum_moves d.level sum (lead_small c lim lost w good u lu d.level sum.words sum.total one three is) kept
-    closing_still u lu d s one three is kept = absurd kept
+    closing_still u lu d s one three is kept = grind (arith, grace_still, sum_moves, lead_small)
 
     freeze_still : (u : ℕ) → u < c.tasks → (x : Freeze) (s : FreezeStep) → FreezeFits c x.holder s →
         ((i : ℕ) → level_role_of i (w.views u).phase ≡ position_count i (freeze_position s)) → FreezeKept c lost w.words (held_in w) (sought_in w) s →
@@ -582,9 +556,7 @@ plain_silent w p hook plain waits = grind arith
 module _ (c : Config) (lim : IsWithin c) (lost : ℕ → Bool) (w : World) (good : IsGood c w) (t : ℕ) (lt : t < c.tasks) (live : lost t ≡ false)
     (hook : HookAnswer) where
   write_kept : (y : WritePhase) → must_wait w.words (Phase.Writes y) ≡ true → KeptAt c lost w (Phase.Writes y)
-  write_kept (WritePhase.Takes m r) h = start_wait w.words r r.step h
-  write_kept (WritePhase.Wants x) h = h
-  write_kept y h = absurd (true≢false (sym h))
+  write_kept y h = grind (arith, start_wait)
 
   step_kept : (p : Phase) → (at : (w.views t).phase ≡ Some p) → PhaseFits c t (held_of (w.views t)) p → (hook_of p ≡ Some KeepWaiting → hook ≡ Ok tt) →
       KeptAt c lost w p → Stepped c lim lost w good t lt live p at hook
@@ -683,12 +655,7 @@ module _ (c : Config) (lim : IsWithin c) (lost : ℕ → Bool) where
 
       freeze : (x : Freeze) (s : FreezeStep) → FreezeFits c x.holder s → freeze_waits w.words s ≡ true → FreezeIsBlockedBy c lost w s →
           FreezeKept c lost w.words (held_in w) (sought_in w) s
-      freeze x (FreezeStep.Closes d) fits waits by = closing d d.step fits.0 fits.1 fits.3 waits by
-      freeze x (FreezeStep.Waits d) fits waits by = closing d d.step fits.0.0 fits.0.1 fits.0.3 waits by
-      freeze x (FreezeStep.LocksToUndo code) fits waits by = waits
-      freeze x FreezeStep.Locks fits waits by = waits
-      freeze x FreezeStep.LocksAgain fits waits by = waits
-      freeze x s fits waits by = absurd (true≢false (sym waits))
+      freeze x s fits waits by = grind (arith, closing)
 
       callback : (s : CallbackStep) → callback_waits w.words s ≡ true → CallbackIsBlockedBy c lost w s →
           CallbackKept c lost w.words (held_in w) (sought_in w) s
@@ -696,12 +663,7 @@ module _ (c : Config) (lim : IsWithin c) (lost : ℕ → Bool) where
       callback s waits by = absurd by
 
       by_phase : (p : Phase) → PhaseFits c t (held_of (w.views t)) p → must_wait w.words p ≡ true → IsBlockedBy c lost w p → KeptAt c lost w p
-      by_phase (Phase.DownReads r) f waits by = start_wait w.words r r.step waits
-      by_phase (Phase.Writes (WritePhase.Takes m r)) f waits by = start_wait w.words r r.step waits
-      by_phase (Phase.Closes (ClosePhase.Enters n node r)) f waits by = start_wait w.words r r.step waits
-      by_phase (Phase.Freezes x) f waits by = freeze x x.step f.5 waits by
-      by_phase (Phase.Callbacks b) f waits by = callback b.step waits by
-      by_phase p f waits by = waits
+      by_phase p f waits by = grind (arith, start_wait, freeze, callback)
 
   -- one step of a task that is there
   abbrev Kept : World → World → Type 0

@@ -1,13 +1,10 @@
 -- One freeze at most is at a stage of its own: one that waits is, but for its first lock.
-use Rattle.std.proofs.{Common.{Some, ap, arith, false, inl, inr, true, ℕ, ◌<◌, ◌∙◌, ◌≡◌, ◌≤◌}, lemmas.Bool.Decides.eqb_tells}
-use Rattle.cpu_words.specs.Words.{Words}
-use Rattle.finite_sums.{specs.Sums.total}
+use Rattle.progress_laws.proofs.Prelude.{Config, Freeze, FreezeStep, IsGood, Phase, Words, World, ap, arith, eqb_tells, false, freeze_owns}
+use Rattle.progress_laws.proofs.Prelude.{freeze_waits, inl, inr, total, true, ℕ, ◌<◌, ◌∙◌, ◌≡◌, ◌≤◌}
+use Rattle.std.proofs.Common.{Some}
 use Rattle.freeze_laws.{proofs.stages.Facts.other_zero, specs.stages.Roles.{freezes, under_way}}
-use Rattle.freeze_levels.specs.declared.freezes.{Freeze.Freeze, FreezeStep.FreezeStep}
 use Rattle.gate_schedules.specs.operations.Progress.{is_first_lock}
-use Rattle.gate_world.specs.{Roles.{freeze_owns, freeze_stage_role}, Rules.{IsGood, Stages, stage_role_of, stage_roles}}
-use Rattle.gate_world.specs.{Worlds.World, declared.{config.Config.Config, work.Phase.Phase}}
-use Rattle.progress_laws.specs.Waiting.{freeze_waits}
+use Rattle.gate_world.specs.{Roles.freeze_stage_role, Rules.{Stages, stage_role_of, stage_roles}}
 
 pub under_le : (stage : ℕ) → under_way stage ≤ 1
 under_le stage = grind arith

@@ -1,6 +1,6 @@
 -- The potential: it falls with the steps, where the others don't rise; with the changes and the starts, if the steps don't rise; and with the tries.
-use Rattle.std.proofs.{Common.{◌≡◌, ℕ, zero, suc, ◌+◌, ◌*◌, ◌-◌, ◌<◌, ◌≤◌, ap, ◌∙◌, inl, inr, arith}, Math.Nat.{suc-mul}, lemmas.Bool.Decides.eqb_tells}
-use Rattle.finite_sums.{proofs.Totals.{total_le}, specs.Sums.total}
+use Rattle.progress_laws.proofs.Prelude.{ap, arith, eqb_tells, inl, inr, suc, total, total_le, zero, ℕ, ◌*◌, ◌+◌, ◌<◌, ◌∙◌, ◌≡◌, ◌≤◌}
+use Rattle.std.proofs.{Common.◌-◌, Math.Nat.suc-mul}
 use Rattle.progress_laws.specs.StepsLeft.{as_one}
 
 mul_more : (a n k : ℕ) → a * k ≤ (a + n) * k

@@ -1,22 +1,15 @@
 -- Where all have to wait, what keeps them in the end: a frozen level, an idle task inside one, or what a lost task left behind.
-use Rattle.std.proofs.Common.{◌≡◌, ℕ, ◌<◌, ◌≤◌, Bool, true, false, true≢false, refl, sym, ap, ◌∙◌, inl, inr, arith}
-use Rattle.std.proofs.lemmas.Bool.{cases_Bool, eq-eqb}
-use Rattle.std.specs.Prelude.{Some, if◌then◌else◌}
-use Rattle.cpu_words.specs.{Words.Words, gate_counts.{Gates.{below, counted, unread}, Levels.{level_as_gate, processor_of}}}
-use Rattle.composite_ops.specs.declared.{file_closes.phases.ClosePhase.ClosePhase, write_access.phases.WritePhase.WritePhase}
-use Rattle.gated_tree.specs.declared.{phases.TreePhase.TreePhase}
-use Rattle.mount_counts.specs.declared.{phases.{MountPhase.MountPhase}}
-use Rattle.percpu_rwsem.specs.declared.{callbacks.CallbackStep.CallbackStep, readers.{DownRead.DownRead}}
-use Rattle.percpu_rwsem.specs.declared.writers.{DownWrite.DownWrite, DownWriteStep.DownWriteStep}
-use Rattle.freeze_levels.specs.declared.{freezes.{Freeze.Freeze, FreezeStep.FreezeStep}}
-use Rattle.freeze_laws.specs.levels.Roles.{closed}
-use Rattle.gate_world.specs.{Fits.{FreezeFits, PhaseFits, ReadStepFits}, Levels.{at_level, level_role_of, sync_role_of}, Roles.freeze_owns}
-use Rattle.gate_world.specs.{Rules.{IsGood, owns}, Shown.{freeze_closing, is_summing}, Views.{held_of, holds_level}, Worlds.World, declared.{config.Config.Config, work.Phase.Phase}}
-use Rattle.gate_schedules.proofs.{levels.Counts.held_bit, operations.deadlocks.WhoCanStep.{fits_at, holds_below, holds_not_none, open_above}}
-use Rattle.progress_laws.specs.LostTasks.{AllWait, CallbackIsBlockedBy, ClosingIsBlockedBy, CountIsStuck, FreezeIsBlockedBy, FreezeSums, HoldIsLost, IsBlockedBy}
-use Rattle.progress_laws.specs.LostTasks.{LevelIsStuck, LockIsStuck, Remains, SectionIsLost, WaitsForRemains}
-use Rattle.progress_laws.specs.Waiting.{freeze_waits, must_wait, start_waits}
+use Rattle.progress_laws.proofs.Prelude.{AllWait, Bool, CallbackIsBlockedBy, CallbackStep, ClosePhase, ClosingIsBlockedBy, Config, DownRead}
+use Rattle.progress_laws.proofs.Prelude.{DownWrite, DownWriteStep, Freeze, FreezeFits, FreezeIsBlockedBy, FreezeStep, IsGood, MountPhase, Phase}
+use Rattle.progress_laws.proofs.Prelude.{PhaseFits, Some, TreePhase, Words, World, WritePhase, ap, arith, at_level, cases_Bool, closed, eq-eqb, false}
+use Rattle.progress_laws.proofs.Prelude.{fits_at, freeze_owns, freeze_waits, held_of, if◌then◌else◌, inl, inr, level_as_gate, must_wait, owns, refl}
+use Rattle.progress_laws.proofs.Prelude.{start_waits, sym, sync_role_of, true, true≢false, ℕ, ◌<◌, ◌∙◌, ◌≡◌, ◌≤◌}
+use Rattle.cpu_words.specs.gate_counts.{Gates.{below, counted, unread}, Levels.processor_of}
+use Rattle.gate_world.specs.{Fits.ReadStepFits, Levels.level_role_of, Shown.{freeze_closing, is_summing}, Views.holds_level}
+use Rattle.gate_schedules.proofs.{levels.Counts.held_bit, operations.deadlocks.WhoCanStep.{holds_below, holds_not_none, open_above}}
 use Rattle.progress_laws.proofs.{Blame.{each_is_blocked, owner_goes}, FairlyBlocked.{enters_fits, start_wait, waits_out}}
+use Rattle.progress_laws.specs.LostTasks.{CountIsStuck, FreezeSums, HoldIsLost, IsBlockedBy, LevelIsStuck, LockIsStuck, Remains, SectionIsLost}
+use Rattle.progress_laws.specs.LostTasks.{WaitsForRemains}
 
 -- who has a level closed and has to wait is a freeze
 closer_freezes : (w : Words) (i : ℕ) (phase : Phase) → must_wait w phase ≡ true → closed (sync_role_of i (Some phase)) ≡ 1 →

@@ -1,16 +1,14 @@
 -- In each round the potential falls, or all have to wait; and then they do so in each further round.
-use Rattle.std.proofs.Common.{◌≡◌, ℕ, zero, suc, ◌<◌, Bool, true, false, true≢false, refl, sym, ap, ◌∙◌, inl, inr, subst, arith}
-use Rattle.std.proofs.lemmas.Bool.{cases_Bool, Decides.eqb_tells}
-use Rattle.std.specs.Prelude.{◌⊎◌, ◌++◌, Option, None, Some, List, [], ◌∷◌}
-use Rattle.cpu_words.specs.{Hooks.HookAnswer, Words.Words}
-use Rattle.gate_world.specs.{Configs.IsWithin, Rules.IsGood, Worlds.{World, after_step, happens, run}}
-use Rattle.gate_world.specs.declared.{config.Config.Config, entries.Entry.{Entry, TheVariants.{Begins, Steps}}, work.Phase.Phase}
+use Rattle.progress_laws.proofs.Prelude.{AllWait, Begins, Bool, Config, Entry, HookAnswer, IsGood, IsWithin, None, Option, Phase, Some, Steps, Words}
+use Rattle.progress_laws.proofs.Prelude.{World, after_step, ap, arith, cases_Bool, eqb_tells, false, happens, inl, inr, is_outside, refl, run, subst}
+use Rattle.progress_laws.proofs.Prelude.{suc, sym, true, true≢false, turns_left, zero, ℕ, ◌<◌, ◌∙◌, ◌≡◌, ◌⊎◌}
+use Rattle.std.specs.Prelude.{◌++◌, List, [], ◌∷◌}
 use Rattle.gate_schedules.specs.operations.Progress.{IsUnderWay}
-use Rattle.progress_laws.specs.{Answers.{AllAnswerSo, AnswersSo, IsPatient, RoundsAnswerSo}, LostTasks.AllWait}
-use Rattle.progress_laws.specs.FairRounds.{MayAllStep, MayStep, IsServed, RoundsExist, SettlesFairly, SettlesOnce, StaysSettled, rests_at, run_all}
-use Rattle.progress_laws.specs.{StepsLeft.{potential, start_room, try_room, turns_left}, Waiting.is_outside}
-use Rattle.progress_laws.proofs.{AllNearer.outside_waits, Measured.{IsStep, Keeps, Measures, after_good, by_entry, rounds_once, rounds_settle, run_keeps}}
-use Rattle.progress_laws.proofs.{Nearer.{on_waits, patient_waits, waits_on}, Settling.{IsRoomy, next_roomy, others_same, step_falls, step_same, step_stays, waits_at, waits_of}}
+use Rattle.progress_laws.proofs.{AllNearer.outside_waits, Measured.{IsStep, Keeps, Measures, after_good, by_entry, rounds_once, rounds_settle}}
+use Rattle.progress_laws.proofs.{Measured.run_keeps, Nearer.{on_waits, patient_waits, waits_on}, Settling.{IsRoomy, next_roomy, others_same}}
+use Rattle.progress_laws.{proofs.Settling.{step_falls, step_same, step_stays, waits_at, waits_of}, specs.Answers.{AllAnswerSo, AnswersSo, IsPatient}}
+use Rattle.progress_laws.specs.{Answers.RoundsAnswerSo, FairRounds.{MayAllStep, MayStep, IsServed, RoundsExist, SettlesFairly, SettlesOnce}}
+use Rattle.progress_laws.specs.{FairRounds.{StaysSettled, rests_at, run_all}, StepsLeft.{potential, start_room, try_room}}
 
 -- who rests has to wait
 rest_waits : (w : Words) (p : Option Phase) → rests_at w p ≡ true → waits_of w p ≡ true
@@ -82,7 +80,7 @@ module _ (c : Config) (lim : IsWithin c) (lost : ℕ → Bool) where
       (potential_falls AnyAnswer (start_room c w) (try_room c w)) rounds w good (omega arith, omega arith) are (any_rounds rounds w) (omega (arith, le)) in
       (some.0, some.1, some.2, all_wait (run_all c w some.0) some.3)
 
-  -- where all have to wait, one entry changes no word, and is no reply
+  -- where all have to wait, one transition changes no word, and is no reply
   abbrev Same : World → World → Type 0
   Same w next = (next.words ≡ w.words) × ((t : ℕ) → t < c.tasks → IsUnderWay w t → IsUnderWay next t)
 
@@ -111,7 +109,7 @@ module _ (c : Config) (lim : IsWithin c) (lost : ℕ → Bool) where
       let same : Same w (run c w es) = run_same es w good may patient all in
       (all_wait (run c w es) (run_keeps c lim lost IsPatient waits_at patient_keeps es w good may patient all), same.0, same.1)
 
-  -- what each entry of a round answers
+  -- what each transition of a round answers
   abbrev AllSay : HookAnswer → World → List Entry → Type 0
   AllSay answer w es = AllAnswerSo (λ t hook. hook ≡ answer) c w es
 
@@ -123,14 +121,12 @@ module _ (c : Config) (lim : IsWithin c) (lost : ℕ → Bool) where
     serves : (t : ℕ) → t < n → lost t ≡ false → IsServed c t w entries
 
   rest_decides : (w : Words) (o : Option Phase) → (rests_at w o ≡ true) ⊎ ((phase : Phase) × (o ≡ Some phase) × (is_outside w phase ≡ false))
-  rest_decides w None = inl refl
-  rest_decides w (Some phase) =
-      elim (cases_Bool (is_outside w phase)) [ inl out ↦ inl out | inr awake ↦ inr (phase, refl, awake) ]
+  rest_decides w o = grind arith
 
   some_same : (a b : Phase) → Some a ≡ Some b → a ≡ b
   some_same a b e = ap (λ (o : Option Phase). elim o [ None ↦ a | Some x ↦ x ]) e
 
-  -- who is served among some entries is so if others come before, or after
+  -- who is served among some transitions is so if others come before, or after
   served_later : (t : ℕ) (w : World) (es more : List Entry) → IsServed c t w es → IsServed c t w (es ++ more)
   served_later t w [] [] served = served
   served_later t w [] (e ∷ more) served = inl served

@@ -1,14 +1,9 @@
 -- A scheduler that steps one task until it stops, and one after the other.
-use Rattle.std.proofs.Common.{◌≡◌, ℕ, zero, suc, ◌+◌, ◌<◌, ◌≤◌, Bool, true, false, true≢false, refl, sym, ap, ◌∙◌, inl, inr, subst, arith}
-use Rattle.std.proofs.lemmas.Bool.{cases_Bool}
-use Rattle.std.specs.Prelude.{◌⊎◌, Option, None, Some}
-use Rattle.cpu_words.specs.{Hooks.HookAnswer, Words.Words}
-use Rattle.gate_world.specs.{Configs.IsWithin, Rules.IsGood, Worlds.{World, after_step, happens}}
-use Rattle.gate_world.specs.declared.{config.Config.Config, entries.Entry.TheVariants.Steps, work.Phase.Phase}
-use Rattle.gate_schedules.proofs.operations.deadlocks.{FreezeProgress.{not_none, search_below}, RankDecreases.happens_is}
-use Rattle.gate_schedules.specs.operations.Progress.{HasReply}
-use Rattle.progress_laws.specs.FirstReply.{ReplyOr}
-use Rattle.progress_laws.proofs.Settling.{step_good}
+use Rattle.progress_laws.proofs.Prelude.{Bool, Config, HookAnswer, IsGood, IsWithin, None, Option, Phase, Some, Steps, Words, World, after_step, ap}
+use Rattle.progress_laws.proofs.Prelude.{arith, cases_Bool, false, happens, happens_is, inl, inr, refl, subst, suc, sym, true, true≢false, zero, ℕ}
+use Rattle.progress_laws.proofs.Prelude.{◌+◌, ◌<◌, ◌∙◌, ◌≡◌, ◌≤◌, ◌⊎◌}
+use Rattle.gate_schedules.{proofs.operations.deadlocks.FreezeProgress.{not_none, search_below}, specs.operations.Progress.HasReply}
+use Rattle.progress_laws.{proofs.Settling.step_good, specs.FirstReply.ReplyOr}
 
 module _ (c : Config) (lim : IsWithin c) (lost : ℕ → Bool) where
   pub no_nearer : (P : World → Type 0) (n m : ℕ) (w : World) → n ≤ m → ReplyOr c lost P n w → ReplyOr c lost P m w
@@ -56,7 +51,7 @@ module _ (c : Config) (lim : IsWithin c) (lost : ℕ → Bool) where
     λ hook. subst (λ (v : World). HasReply v t ⊎ ReplyOr c lost P n v) (sym (happens_is c w t lt hook phase at)) (h hook),
   )
 
-  -- One task alone, as long as it goes on: this holds of each world that it comes to, and its number falls.
+  -- One task alone, as long as it goes on: this holds of each state that it comes to, and its number falls.
   module _ (t : ℕ) (lt : t < c.tasks) (live : lost t ≡ false) (goes : Words → Phase → Bool) (left : Words → Phase → ℕ) (I : World → Type 0) where
     abbrev pub Stopped : World → Type 0
     Stopped v = I v × (q : Phase) × ((v.views t).phase ≡ Some q) × (goes v.words q ≡ false)

@@ -1,61 +1,41 @@
 -- A step that doesn't wait lowers the potential, and one that has to wait leaves it: so all comes to wait, whoever of the others is lost.
-use Rattle.std.proofs.Common.{◌≡◌, ℕ, zero, suc, ◌+◌, ◌*◌, ◌<◌, ◌≤◌, Bool, true, false, true≢false, refl, sym, ap, ◌∙◌, inl, inr, subst, arith}
-use Rattle.std.proofs.lemmas.Bool.{cases_Bool, Decides.eqb_tells}
-use Rattle.std.specs.Prelude.{◌⊎◌, Option, None, Some, Ok}
-use Rattle.finite_sums.{proofs.Totals.{total_add, total_bound, total_le, total_same, update_off}, specs.Sums.total}
-use Rattle.access_model.specs.declared.replies.Next.{Next}
-use Rattle.cpu_words.specs.{Hooks.HookAnswer, Words.Words}
-use Rattle.composite_ops.specs.declared.{file_closes.phases.ClosePhase.ClosePhase, write_access.phases.WritePhase.WritePhase}
-use Rattle.freeze_levels.specs.declared.{freezes.FreezeStep.{FreezeStep}, thaws.ThawStep.{ThawStep}}
-use Rattle.percpu_rwsem.specs.declared.writers.{DownWrite.DownWrite, DownWriteStep.DownWriteStep, UpWrite.UpWrite, UpWriteStep.UpWriteStep}
-use Rattle.gate_schedules.specs.operations.Ranks.{exchange_rank}
-use Rattle.gate_world.specs.{Configs.IsWithin, Rules.IsGood, Views.{held_of, phase_after, view_after}, Work.after_of}
-use Rattle.gate_world.specs.{Worlds.{World, after_step, found_at, value_at}, declared.{config.Config.Config, views.View.View, work.Phase.Phase}}
-use Rattle.gate_schedules.proofs.operations.{AllOperations.phase_keeps, deadlocks.{FreezeProgress.{not_none, search_below}, RankDecreases.{happens_is, stands_after}, WhoCanStep.fits_at}}
+use Rattle.progress_laws.proofs.Prelude.{AllWait, Bool, Config, DownWrite, DownWriteStep, FreezeStep, HookAnswer, IsGood, IsWithin, Next, None, Ok}
+use Rattle.progress_laws.proofs.Prelude.{Option, Phase, Some, ThawStep, UpWrite, UpWriteStep, View, Words, World, after_of, after_step, ap, arith}
+use Rattle.progress_laws.proofs.Prelude.{cases_Bool, closing_tries, eqb_tells, exchange_rank, false, fits_at, found_at, freeze_tries, happens_is}
+use Rattle.progress_laws.proofs.Prelude.{held_of, inl, inr, is_outside, must_wait, opening_tries, phase_after, refl, stands_after, start_steps}
+use Rattle.progress_laws.proofs.Prelude.{steps_left, subst, suc, sym, total, total_le, tries_left, true, true≢false, turns_left, update_off, value_at}
+use Rattle.progress_laws.proofs.Prelude.{view_after, zero, ℕ, ◌*◌, ◌+◌, ◌<◌, ◌∙◌, ◌≡◌, ◌≤◌, ◌⊎◌}
+use Rattle.finite_sums.proofs.Totals.{total_add, total_bound, total_same}
+use Rattle.gate_schedules.proofs.operations.{AllOperations.phase_keeps, deadlocks.FreezeProgress.{not_none, search_below}}
 use Rattle.gate_schedules.specs.operations.Progress.{IsUnderWay}
-use Rattle.progress_laws.specs.{LostTasks.{AllWait, SettlesAmong}, Waiting.{is_outside, must_wait}}
-use Rattle.progress_laws.specs.StepsLeft.{as_one, all_changes, all_start_steps, all_steps, all_tries, callback_tries, changes_left, changes_of, closing_tries, freeze_tries}
-use Rattle.progress_laws.specs.StepsLeft.{most_changes, most_steps, opening_tries, sum_left, thaw_tries, most_turns, potential, start_left, start_room, start_room_of, turns_left, try_room, try_room_of}
-use Rattle.progress_laws.specs.StepsLeft.{start_steps, start_steps_of, steps_left, steps_of, tries_left, tries_of}
-use Rattle.progress_laws.proofs.{AllNearer.{RoomFalls, phase_comes, room_falls, starts_small, steps_small, tries_small}, Changes.{CountsChanges, EndsBy, KeepsBy, SameLevels, changes_count, changes_small, waits_keep}, Nearer.{ComesNearer, StaysWaiting, goes_on, on_waits, waits_on}}
-use Rattle.progress_laws.proofs.Potentials.{as_one_small, moves_fall, steps_fall, total_lower_by, tries_fall}
+use Rattle.progress_laws.proofs.{AllNearer.{RoomFalls, phase_comes, room_falls, starts_small, steps_small, tries_small}, Changes.CountsChanges}
+use Rattle.progress_laws.proofs.{Changes.{EndsBy, KeepsBy, SameLevels, changes_count, changes_small, waits_keep}, Nearer.{ComesNearer, StaysWaiting}}
+use Rattle.progress_laws.proofs.{Nearer.{goes_on, on_waits, waits_on}, Potentials.{as_one_small, moves_fall, steps_fall, total_lower_by, tries_fall}}
+use Rattle.progress_laws.specs.{LostTasks.SettlesAmong, StepsLeft.{as_one, all_changes, all_start_steps, all_steps, all_tries, changes_left}}
+use Rattle.progress_laws.specs.StepsLeft.{changes_of, most_changes, most_steps, thaw_tries, most_turns, potential, start_room, start_room_of}
+use Rattle.progress_laws.specs.StepsLeft.{try_room, try_room_of, start_steps_of, steps_of, tries_of}
 
 -- a start reads nothing but `block`
 starts_same : (w after : Words) → after.block ≡ w.block → (p : Option Phase) → start_steps_of after p ≡ start_steps_of w p
-starts_same w after same None = refl
-starts_same w after same (Some (Phase.DownReads r)) = ap (λ f. start_left (f r.level) r.wait r.step) same
-starts_same w after same (Some (Phase.Writes (WritePhase.Takes m r))) = ap (λ f. start_left (f r.level) r.wait r.step) same
-starts_same w after same (Some (Phase.Closes (ClosePhase.Enters f node r))) = ap (λ g. start_left (g r.level) r.wait r.step) same
-starts_same w after same (Some phase) = refl
+starts_same w after same p = grind arith
 
 -- a try reads nothing but a level's sync word and its counts
 closing_same : (w after : Words) → SameLevels w after → (d : DownWrite) (s : DownWriteStep) → closing_tries after d s ≡ closing_tries w d s
-closing_same w after same d (DownWriteStep.Enters x) = ap (λ f. exchange_rank (f d.level) x) same.1
-closing_same w after same d (DownWriteStep.CallsBack x) = ap (λ f. exchange_rank (f d.level) x) same.1
-closing_same w after same d (DownWriteStep.Sums sum) = ap (λ f. sum_left d.processors (f d.level) sum) same.2
-closing_same w after same d s = refl
+closing_same w after same d s = grind arith
 
 opening_same : (w after : Words) → SameLevels w after → (u : UpWrite) (s : UpWriteStep) → opening_tries after u s ≡ opening_tries w u s
 opening_same w after same u (UpWriteStep.Exits x) = ap (λ f. exchange_rank (f u.level) x) same.1
 opening_same w after same u s = refl
 
 freeze_same : (w after : Words) → SameLevels w after → (s : FreezeStep) → freeze_tries after s ≡ freeze_tries w s
-freeze_same w after same (FreezeStep.Closes d) = closing_same w after same d d.step
-freeze_same w after same (FreezeStep.Waits d) = closing_same w after same d d.step
-freeze_same w after same (FreezeStep.Undoes level transition code) = ap (λ f. exchange_rank (f level) transition) same.1
-freeze_same w after same (FreezeStep.Reopens u code) = opening_same w after same u u.step
-freeze_same w after same s = refl
+freeze_same w after same s = grind (arith, closing_same, opening_same)
 
 thaw_same : (w after : Words) → SameLevels w after → (s : ThawStep) → thaw_tries after s ≡ thaw_tries w s
 thaw_same w after same (ThawStep.Reopens u) = opening_same w after same u u.step
 thaw_same w after same s = refl
 
 tries_same : (w after : Words) → SameLevels w after → (p : Option Phase) → tries_of after p ≡ tries_of w p
-tries_same w after same None = refl
-tries_same w after same (Some (Phase.Callbacks b)) = ap (λ f. callback_tries (f b.level) b.step) same.1
-tries_same w after same (Some (Phase.Freezes x)) = freeze_same w after same x.step
-tries_same w after same (Some (Phase.Thaws x)) = thaw_same w after same x.step
-tries_same w after same (Some phase) = refl
+tries_same w after same p = grind (arith, freeze_same, thaw_same)
 
 -- what a task is at has to wait, or is nothing
 abbrev pub waits_of : Words → Option Phase → Bool
@@ -147,9 +127,7 @@ module _ (c : Config) (lim : IsWithin c) where
     room_by : (coming : Next Phase) → (next.views t).phase ≡ phase_after coming → RoomFalls c phase coming →
         (start_room_of (next.views t).phase ≤ start_room_of (Some phase)) ×
         (try_room_of c.processors (next.views t).phase ≤ try_room_of c.processors (Some phase))
-    room_by (Next.Go q) is h = (omega (arith, h.0, ap start_room_of is), omega (arith, h.1, ap (try_room_of c.processors) is))
-    room_by (Next.Wait q) is h = (omega (arith, h.0, ap start_room_of is), omega (arith, h.1, ap (try_room_of c.processors) is))
-    room_by (Next.Done answer) is h = (omega (arith, ap start_room_of is), omega (arith, ap (try_room_of c.processors) is))
+    room_by coming is h = grind arith
 
     pub next_roomy : (starts tries : ℕ) → IsRoomy starts tries c w → IsRoomy starts tries c next
     next_roomy starts tries roomy =
@@ -285,9 +263,7 @@ module _ (c : Config) (lim : IsWithin c) where
 
       few_steps : (q : Phase) → (next.views t).phase ≡ Some q → ComesNearer w.words next.words phase (Next.Go q) →
           steps_of (next.views t).phase ≤ steps_of (w.views t).phase
-      few_steps q is (inl h) = omega (arith, h, ap steps_of is, ap steps_of at)
-      few_steps q is (inr (inl h)) = omega (arith, h.0, ap steps_of is, ap steps_of at)
-      few_steps q is (inr (inr h)) = omega (arith, h.0, ap steps_of is, ap steps_of at)
+      few_steps q is h = grind arith
 
       -- what comes next lowers the potential
       falls_to : (q : Phase) → (next.views t).phase ≡ Some q →
@@ -311,18 +287,11 @@ module _ (c : Config) (lim : IsWithin c) where
 
       ends_to : (next.views t).phase ≡ None → EndsBy w.words next.words (changes_left turn phase + start_steps w.words phase) →
           potential starts tries c next < potential starts tries c w
-      ends_to is (inl same) =
-          by_steps (omega (arith, ap steps_of is, ap steps_of at)) (omega (arith, ap (changes_of turn) is))
-          (omega (arith, ap (start_steps_of next.words) is)) (omega (arith, ap (tries_of next.words) is)) same
-      ends_to is (inr m) =
-          by_moves (omega (arith, ap steps_of is)) m.1
-          (omega (arith, m.0, ap (changes_of turn) is, ap (changes_of turn) at, ap (start_steps_of next.words) is, ap (start_steps_of w.words) at))
+      ends_to is h = grind (arith, by_steps, by_moves)
 
       falls_by : (coming : Next Phase) → (next.views t).phase ≡ phase_after coming → ComesNearer w.words next.words phase coming →
           CountsChanges turn w.words next.words phase coming → potential starts tries c next < potential starts tries c w
-      falls_by (Next.Go q) is h k = falls_to q is h k
-      falls_by (Next.Wait q) is h k = falls_to q is h k
-      falls_by (Next.Done answer) is h k = ends_to is k
+      falls_by coming is h k = grind (arith, falls_to, ends_to)
 
     pub step_falls : (starts tries : ℕ) → IsRoomy starts tries c w → waits_on w.words phase hook ≡ false → potential starts tries c next < potential starts tries c w
     step_falls starts tries roomy free =

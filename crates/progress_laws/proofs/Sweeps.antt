@@ -1,23 +1,20 @@
 -- One kind after the other comes to wait: a task of a kind, stepped alone, ends none of the waits of its kind and of those before it.
-use Rattle.std.proofs.Common.{◌≡◌, ℕ, zero, suc, ◌+◌, ◌*◌, ◌<◌, ◌≤◌, Bool, true, false, true≢false, refl, sym, ap, ◌∙◌, inl, inr, subst, arith}
-use Rattle.std.proofs.{Math.Nat.{suc-mul}, lemmas.Bool.{cases_Bool, eq-eqb, Decides.eqb_tells}}
-use Rattle.std.specs.Prelude.{◌-◌, if◌then◌else◌, Option, None, Some}
-use Rattle.finite_sums.{proofs.Totals.{total_add, total_at, total_bound, total_le}, specs.Sums.total}
-use Rattle.access_model.specs.{Replies.map_next, declared.replies.Next.Next}
-use Rattle.cpu_words.specs.{Hooks.HookAnswer, Words.Words}
-use Rattle.freeze_laws.specs.{levels.{Operations.callback_role, Roles.{claimed as has_claimed}}, stages.Roles.bit}
-use Rattle.mount_counts.specs.declared.phases.MountPhase.{MountPhase}
-use Rattle.percpu_rwsem.specs.{Callbacks.{at_callback, claimed}, Graces.started, Transitions.transition_after, SyncWords.{bit as taken_bit, on_claim}}
-use Rattle.percpu_rwsem.specs.declared.{callbacks.{Callback.Callback, CallbackStep.CallbackStep}, transitions.{Transition.Transition, TransitionNext.TransitionNext}}
-use Rattle.gate_world.specs.{Configs.IsWithin, Fits.{GraceFits, PhaseFits}, Levels.sync_role_of, Rules.{IsGood, SyncAt, SyncHoldsIn}, Views.{held_of, phase_after}, Work.after_of}
-use Rattle.gate_world.specs.{Worlds.{World, after_step, found_at, words_after}, declared.{config.Config.Config, work.Phase.Phase}}
-use Rattle.gate_schedules.proofs.operations.deadlocks.{RankDecreases.stands_after, WhoCanStep.fits_at}
-use Rattle.progress_laws.specs.{Alone.alone_left, FirstReply.{ReplyOr, most_of_kinds}, Waiting.must_wait}
-use Rattle.progress_laws.specs.StepsLeft.{callback_changes, callback_left, callback_tries}
-use Rattle.progress_laws.proofs.{AllNearer.{close_steps, exchange_few, grace_few, phase_comes, starts_small, want_few, write_steps}, Alone.{HasRoom, step_alone}}
-use Rattle.progress_laws.proofs.{Nearer.ComesNearer, Potentials.total_lower, RunAlone.{Makes, NoneGoes, Stopped, and_then, no_nearer, runs, some_or_none}}
-use Rattle.progress_laws.proofs.Settling.{others_same, start_room_few}
-use Rattle.progress_laws.proofs.WaitKinds.{NextIs, callback_kind, claimed_keeps, goes_is, goes_not, goes_of, graces_kept, is_callback, kind, next_all, next_map, quick_keeps, waits_kept}
+use Rattle.progress_laws.proofs.Prelude.{Bool, Callback, CallbackStep, Config, HookAnswer, IsGood, IsWithin, MountPhase, Next, None, Option, Phase}
+use Rattle.progress_laws.proofs.Prelude.{PhaseFits, Some, SyncAt, SyncHoldsIn, Transition, TransitionNext, Words, World, after_of, after_step, ap}
+use Rattle.progress_laws.proofs.Prelude.{arith, cases_Bool, eq-eqb, eqb_tells, false, fits_at, found_at, held_of, if◌then◌else◌, inl, inr, map_next}
+use Rattle.progress_laws.proofs.Prelude.{must_wait, phase_after, refl, stands_after, subst, suc, sym, sync_role_of, total, total_at, total_le}
+use Rattle.progress_laws.proofs.Prelude.{transition_after, true, words_after, zero, ℕ, ◌*◌, ◌+◌, ◌-◌, ◌<◌, ◌∙◌, ◌≡◌, ◌≤◌}
+use Rattle.std.proofs.Math.Nat.{suc-mul}
+use Rattle.finite_sums.proofs.Totals.{total_add, total_bound}
+use Rattle.freeze_laws.specs.{levels.{Operations.callback_role, Roles.claimed as has_claimed}, stages.Roles.bit}
+use Rattle.percpu_rwsem.specs.{Callbacks.{at_callback, claimed}, SyncWords.{bit as taken_bit, on_claim}}
+use Rattle.gate_world.specs.Fits.{GraceFits}
+use Rattle.progress_laws.proofs.{AllNearer.{close_steps, exchange_few, grace_few, phase_comes, starts_small, want_few, write_steps}, Alone.HasRoom}
+use Rattle.progress_laws.proofs.{Alone.step_alone, Nearer.ComesNearer, Potentials.total_lower, RunAlone.{Makes, NoneGoes, Stopped, and_then}}
+use Rattle.progress_laws.proofs.{RunAlone.{no_nearer, runs, some_or_none}, Settling.{others_same, start_room_few}, WaitKinds.{NextIs, callback_kind}}
+use Rattle.progress_laws.proofs.WaitKinds.{claimed_keeps, goes_is, goes_not, goes_of, graces_kept, is_callback, kind, next_all, next_map, quick_keeps}
+use Rattle.progress_laws.{proofs.WaitKinds.waits_kept, specs.{Alone.alone_left, FirstReply.{ReplyOr, most_of_kinds}, StepsLeft.callback_changes}}
+use Rattle.progress_laws.specs.StepsLeft.{callback_left, callback_tries}
 
 -- what a task is at waits, if its kind is below this one
 abbrev pub WaitsBelow : ℕ → Words → Option Phase → Type 0
@@ -31,9 +28,7 @@ below_kept k w after kept (Some q) h = λ lt. kept q lt (h lt)
 
 below_more : (k : ℕ) (w : Words) (p : Option Phase) → WaitsBelow k w p → ((phase : Phase) → p ≡ Some phase → goes_of k w phase ≡ false) →
     WaitsBelow (suc k) w p
-below_more k w None h none = tt
-below_more k w (Some q) h none =
-    λ lt. elim (eqb_tells (kind q) k) [ inl e ↦ goes_not k w q (none q refl) e.1 | inr ne ↦ h (omega (arith, lt, ne.1)) ]
+below_more k w p h none = grind (arith, kind, goes_not)
 
 -- 1 for one of this kind that need not wait
 abbrev goes_in : ℕ → Words → Option Phase → ℕ
@@ -45,19 +40,7 @@ goes_le k w p = grind arith
 
 goes_fall : (k : ℕ) (w after : Words) → ((q : Phase) → kind q ≡ k → must_wait w q ≡ true → must_wait after q ≡ true) → (p : Option Phase) →
     goes_in k after p ≤ goes_in k w p
-goes_fall k w after kept None = omega arith
-goes_fall k w after kept (Some q) =
-    elim (cases_Bool (goes_of k after q)) [
-      | inl g ↦
-          let is = goes_is k after q g in
-          elim (cases_Bool (must_wait w q)) [
-            | inl waits ↦ absurd (true≢false (sym (kept q is.0 waits) ∙ is.1))
-            | inr free ↦
-                let here : goes_of k w q ≡ true = rw (eq-eqb (kind q) k is.0, free) refl in
-                omega (arith, ap bit here, ap bit g)
-          ]
-      | inr g ↦ omega (arith, ap bit g)
-    ]
+goes_fall k w after kept p = grind (arith, goes_of, goes_is, eq-eqb, kind)
 
 module _ (c : Config) (lim : IsWithin c) (lost : ℕ → Bool) where
   -- all those that aren't lost, of the kinds below this one, wait
@@ -117,9 +100,7 @@ module _ (c : Config) (lim : IsWithin c) (lost : ℕ → Bool) where
         makes_by : (coming : Next Phase) → (next.views t).phase ≡ phase_after coming → NextIs (λ q. k ≤ kind q) coming →
             NextIs (λ q. goes_of k next.words q ≡ true → left next.words q < left w.words phase) coming →
             Makes c lim lost t lt live (goes_of k) left Keeps w phase hook
-        makes_by (Next.Go q) here high falls = inr (q, here, keeps_on q here high, falls)
-        makes_by (Next.Wait q) here high falls = inr (q, here, keeps_on q here high, falls)
-        makes_by (Next.Done answer) here high falls = inl here
+        makes_by coming here high falls = grind (arith, keeps_on)
 
       makes : (w : World) → IsGood c w → (phase : Phase) → (w.views t).phase ≡ Some phase → goes_of k w.words phase ≡ true → Keeps w →
           (hook : HookAnswer) → Makes c lim lost t lt live (goes_of k) left Keeps w phase hook
@@ -197,19 +178,12 @@ quick_some w phase = grind arith
 module _ (c : Config) (lim : IsWithin c) (w : World) (good : IsGood c w) (t : ℕ) (lt : t < c.tasks) where
   quick_in : {A : Type 0} (to : A → Phase) (n : ℕ) (after : Words) → ((y : A) → quick_left after (to y) ≡ alone_left 7 0 after (Some (to y))) → (next : Next A) →
       Falls c lim 7 0 n after (map_next to next) → NextIs (λ q. goes_of 0 after q ≡ true → quick_left after q < n) (map_next to next)
-  quick_in to n after same (Next.Go y) h = λ g. omega (arith, h, same y)
-  quick_in to n after same (Next.Wait y) h = λ g. omega (arith, h, same y)
-  quick_in to n after same (Next.Done answer) h = tt
+  quick_in to n after same next h = grind arith
 
   claims_fall : (after : Words) (b : Callback) (x : Transition) (next : TransitionNext) → b.step ≡ CallbackStep.Claims x →
       ComesNearer w.words after (Phase.Callbacks b) (map_next Phase.Callbacks (claimed b next)) →
       NextIs (λ q. goes_of 0 after q ≡ true → quick_left after q < quick_left w.words (Phase.Callbacks b)) (map_next Phase.Callbacks (claimed b next))
-  claims_fall after b x (TransitionNext.More y) is (inl h) = absurd (omega (arith, h, ap (callback_left b.tasks) is))
-  claims_fall after b x (TransitionNext.More y) is (inr (inl h)) = absurd (omega (arith, h.1))
-  claims_fall after b x (TransitionNext.More y) is (inr (inr h)) = λ g. omega (arith, h.2)
-  claims_fall after b x TransitionNext.Undefined is h = tt
-  claims_fall after b x (TransitionNext.Made s) is h =
-      λ g. absurd (omega (arith, (goes_is 0 after (Phase.Callbacks (at_callback b (CallbackStep.AwaitsSections (started b.tasks)))) g).0))
+  claims_fall after b x next is h = grind (arith, goes_is)
 
   claims_of : (b : Callback) (s : CallbackStep) → (w.views t).phase ≡ Some (Phase.Callbacks (at_callback b s)) → callback_kind s ≡ 0 → (hook : HookAnswer) →
       NextIs (λ q. goes_of 0 (words_after w.words (Phase.Callbacks (at_callback b s)) hook) q ≡ true →

@@ -1,24 +1,23 @@
 -- A freeze that fails owns `umount` from its store of stage 0 to its answer: so the stage is still 0, and no level is anybody's.
-use Rattle.std.proofs.Common.{◌≡◌, ℕ, zero, suc, ◌<◌, ◌≤◌, Bool, true, false, true≢false, refl, sym, ap, ◌∙◌, inl, inr, subst, arith, List, [], ◌∷◌, ◌++◌}
-use Rattle.std.proofs.lemmas.{Bool.{cases_Bool, cases_lt, le-ltb, lt-ltb, Decides.eqb_tells}, Grind.common_steps}
-use Rattle.std.specs.Prelude.{Err, Result, if◌then◌else◌, Option, None, Some}
-use Rattle.finite_sums.{proofs.Totals.{total_at, total_none, update_at}, specs.Sums.total}
-use Rattle.access_model.specs.{Replies.map_next, declared.{actions.{Action.Action, Holder.Holder}, errors.GateError.GateError, replies.{Next.Next, Reply.Reply}}}
-use Rattle.cpu_words.specs.{Hooks.HookAnswer, Touches.event_of, Words.Words, declared.{events.{Event.Event, Touch.Touch}, names.WordName.WordName}}
-use Rattle.freeze_laws.{proofs.stages.Facts.other_zero, specs.stages.Roles.{StageRole, Owning, closes, freezes, is_full, owns as stage_owns, reopens, under_way}}
-use Rattle.freeze_levels.specs.Freezes.{freeze_after, freeze_next}
-use Rattle.freeze_levels.specs.declared.freezes.{Freeze.Freeze, FreezeStep.FreezeStep}
-use Rattle.mount_counts.specs.Phases.{has_flag}
-use Rattle.percpu_rwsem.specs.{Writers.up_write_next, declared.{transitions.Transition.Transition, writers.{UpWrite.UpWrite, UpWriteStep.UpWriteStep}}}
-use Rattle.gate_schedules.specs.{Answers.{phase_step, progress_of, step_answer}, declared.steps.Progress.Progress}
-use Rattle.gate_schedules.proofs.operations.deadlocks.{FreezeProgress.not_none, RankDecreases.{after_event, happens_is}}
-use Rattle.gate_schedules.proofs.schedules.HeadlineProof.{whole_operations, whole_rule}
-use Rattle.gate_world.specs.{Configs.IsWithin, Headline.{OperationTells, OperationsAreKept, ViewTells, world_after}, Operations.failed_adds}
-use Rattle.gate_world.specs.{Owners.{is_owned_word, last_left, takes_lock}, Roles.{freeze_owns, freeze_stage_role}, Rules.{IsGood, Known, Stages, owns, stage_role_of, stage_roles}}
-use Rattle.gate_world.specs.{Views.{HoldsAsBefore, phase_after, view_after, with_hook}, Work.{after_of, next_of}, traces.Found.{clean_found, cleans, gave_up, stored_stage}}
-use Rattle.gate_world.specs.traces.{Traces.Tells, TraceStates.{FollowsOrder, IsEventOf, IsNext, IsTrace, IsTraced, state_of_trace, trace_state_after}}
-use Rattle.gate_world.specs.Worlds.{World, after_step, found_at, happens, opening, run, value_at, words_after}
-use Rattle.gate_world.specs.declared.{config.Config.Config, entries.Entry.{Entry, TheVariants.Steps}, operations.Op.Op, views.{Traced.Traced, View.View}, work.Phase.Phase}
+use Rattle.progress_laws.proofs.Prelude.{Bool, Config, Entry, Err, Freeze, FreezeStep, GateError, HookAnswer, IsGood, IsWithin, List, Next, None, Op}
+use Rattle.progress_laws.proofs.Prelude.{Option, Phase, Some, Steps, UpWrite, UpWriteStep, View, WordName, Words, World, [], after_event, after_of}
+use Rattle.progress_laws.proofs.Prelude.{after_step, ap, arith, cases_Bool, common_steps, eqb_tells, false, found_at, freeze_after, freeze_next}
+use Rattle.progress_laws.proofs.Prelude.{freeze_owns, happens, happens_is, has_flag, if◌then◌else◌, inl, inr, map_next, owns, phase_after, refl, run}
+use Rattle.progress_laws.proofs.Prelude.{subst, sym, total, total_at, true, true≢false, update_at, value_at, view_after, whole_rule, words_after}
+use Rattle.progress_laws.proofs.Prelude.{world_after, ℕ, ◌<◌, ◌∙◌, ◌∷◌, ◌≡◌, ◌≤◌}
+use Rattle.std.{proofs.{Common.◌++◌, lemmas.Bool.{cases_lt, le-ltb, lt-ltb}}, specs.Prelude.Result}
+use Rattle.finite_sums.proofs.Totals.{total_none}
+use Rattle.access_model.specs.declared.{actions.{Action.Action, Holder.Holder}, replies.Reply.Reply}
+use Rattle.cpu_words.specs.{Touches.event_of, declared.events.{Event.Event, Touch.Touch}}
+use Rattle.freeze_laws.{proofs.stages.Facts.other_zero, specs.stages.Roles.{StageRole, Owning, closes, freezes, is_full, owns as stage_owns, reopens}}
+use Rattle.freeze_laws.specs.stages.Roles.{under_way}
+use Rattle.percpu_rwsem.specs.Writers.{up_write_next}
+use Rattle.gate_schedules.{proofs.{operations.deadlocks.FreezeProgress.not_none, schedules.HeadlineProof.whole_operations}, specs.Answers.phase_step}
+use Rattle.gate_schedules.specs.{Answers.{progress_of, step_answer}, declared.steps.Progress.Progress}
+use Rattle.gate_world.specs.{Headline.{OperationTells, OperationsAreKept, ViewTells}, Operations.failed_adds, Owners.{is_owned_word, last_left}}
+use Rattle.gate_world.specs.{Owners.takes_lock, Roles.freeze_stage_role, Rules.{Known, Stages, stage_role_of, stage_roles}, Views.HoldsAsBefore}
+use Rattle.gate_world.specs.{Views.with_hook, Work.next_of, Worlds.opening, declared.views.Traced.Traced, traces.Found.{clean_found, cleans, gave_up}}
+use Rattle.gate_world.specs.traces.{TraceStates.{FollowsOrder, IsEventOf, IsTrace, IsTraced, state_of_trace, trace_state_after}, Traces.Tells}
 use Rattle.progress_laws.specs.Undone.{AtMostMarks, FailsUndone, IsUndone}
 
 -- a freeze that has stored stage 0 since its hook failed
@@ -31,7 +30,7 @@ has_failed (FreezeStep.Reopens u code) = true
 has_failed (FreezeStep.Releases answer) = is_hook answer
 has_failed s = false
 
--- its owner's newest knowledge of the stage, after an event
+-- its owner's newest knowledge of the stage, after a step
 abbrev stage_left : Event → Option ℕ → Option ℕ
 stage_left e before = if takes_lock e then None else (if is_owned_word WordName.Stage e.word then Some e.left else before)
 
@@ -47,26 +46,18 @@ NotFailed (Next.Wait y) = has_failed y.step ≡ false
 NotFailed (Next.Done answer) = Unit {0}
 
 not_left : (known : Option ℕ) (next : Next Freeze) → NotFailed next → StageIsLeft known next
-not_left known (Next.Go y) h = λ f. absurd (true≢false (sym f ∙ h))
-not_left known (Next.Wait y) h = λ f. absurd (true≢false (sym f ∙ h))
-not_left known (Next.Done answer) h = tt
+not_left known next h = grind arith
 
 all_left : (next : Next Freeze) → StageIsLeft (Some 0) next
-all_left (Next.Go y) = λ f. refl
-all_left (Next.Wait y) = λ f. refl
-all_left (Next.Done answer) = tt
+all_left next = grind arith
 
 same_left : (before after : Option ℕ) → after ≡ before → before ≡ Some 0 → (next : Next Freeze) → StageIsLeft after next
-same_left before after same known (Next.Go y) = λ f. same ∙ known
-same_left before after same known (Next.Wait y) = λ f. same ∙ known
-same_left before after same known (Next.Done answer) = tt
+same_left before after same known next = grind arith
 
--- an event of a level leaves it
+-- a step of a level leaves it
 reopens_leave : (u : UpWrite) (s : UpWriteStep) (value : ℕ) (before : Option ℕ) →
     stage_left (event_of (up_write_next u s).0 (up_write_next u s).1 value) before ≡ before
-reopens_leave u UpWriteStep.ClearsBlock value before = refl
-reopens_leave u (UpWriteStep.Exits Transition.Loads) value before = refl
-reopens_leave u (UpWriteStep.Exits (Transition.Exchanges from to)) value before = refl
+reopens_leave u s value before = grind arith
 
 -- its store of 0
 abbrev stores_zero : FreezeStep → HookAnswer → Bool
@@ -79,7 +70,7 @@ goes_on : (x : Freeze) (s : FreezeStep) (hook : HookAnswer) (found : ℕ) → ha
     NotFailed (freeze_after x s found hook).0
 goes_on x s hook found h other = grind (arith, common_steps)
 
--- each event of a freeze
+-- each step of a freeze
 abbrev event_at : Freeze → FreezeStep → HookAnswer → ℕ → Event
 event_at x s hook value = event_of (freeze_next x s hook).0 (freeze_next x s hook).1 value
 
@@ -88,17 +79,9 @@ next_at x s hook value = (freeze_after x s (event_at x s hook value).found hook)
 
 freeze_left_stage : (x : Freeze) (s : FreezeStep) (hook : HookAnswer) (value : ℕ) (before : Option ℕ) → (has_failed s ≡ true → before ≡ Some 0) →
     StageIsLeft (stage_left (event_at x s hook value) before) (next_at x s hook value)
-freeze_left_stage x FreezeStep.SetsFs (Err code) value before known = all_left (next_at x FreezeStep.SetsFs (Err code) value)
-freeze_left_stage x FreezeStep.SetsComplete (Err code) value before known = all_left (next_at x FreezeStep.SetsComplete (Err code) value)
-freeze_left_stage x (FreezeStep.GivesUp level code) hook value before known = all_left (next_at x (FreezeStep.GivesUp level code) hook value)
-freeze_left_stage x (FreezeStep.Reopens u code) hook value before known =
-    same_left before (stage_left (event_at x (FreezeStep.Reopens u code) hook value) before) (reopens_leave u u.step value before) (known refl)
-    (next_at x (FreezeStep.Reopens u code) hook value)
-freeze_left_stage x (FreezeStep.Releases answer) hook value before known = tt
-freeze_left_stage x s hook value before known =
-    not_left (stage_left (event_at x s hook value) before) (next_at x s hook value) (goes_on x s hook (event_at x s hook value).found refl refl)
+freeze_left_stage x s hook value before known = grind (arith, all_left, same_left, reopens_leave, not_left, goes_on)
 
--- along the events of a freeze: it is in phases of its own, and knows the stage once it has failed
+-- along the steps of a freeze: it is in phases of its own, and knows the stage once it has failed
 abbrev FreezeKnows : Next Phase → Option ℕ → Type 0
 FreezeKnows (Next.Go (Phase.Freezes x)) known = has_failed x.step ≡ true → known ≡ Some 0
 FreezeKnows (Next.Wait (Phase.Freezes x)) known = has_failed x.step ≡ true → known ≡ Some 0
@@ -107,11 +90,9 @@ FreezeKnows (Next.Wait phase) known = ⊥
 FreezeKnows (Next.Done answer) known = Unit {0}
 
 knows_map : (known : Option ℕ) (next : Next Freeze) → StageIsLeft known next → FreezeKnows (map_next Phase.Freezes next) known
-knows_map known (Next.Go y) h = h
-knows_map known (Next.Wait y) h = h
-knows_map known (Next.Done answer) h = tt
+knows_map known next h = grind arith
 
--- one event more
+-- one step more
 module _ (x : Freeze) (known : Option ℕ) (before : has_failed x.step ≡ true → known ≡ Some 0) where
   event_knows : (e : Traced) → IsEventOf (Phase.Freezes x) e →
       FreezeKnows (map_next Phase.Freezes (freeze_after x x.step e.event.found e.hook).0) (stage_left e.event known)
@@ -134,13 +115,7 @@ module _ (c : Config) (t : ℕ) (holder : Holder) where
       comes_is next = FreezeKnows (trace_state_after next (state_of_trace c t op earlier).added e).comes (last_left WordName.Stage (e ∷ earlier))
 
       on : (next : Next Phase) → (state_of_trace c t op earlier).comes ≡ next → FreezeKnows next (last_left WordName.Stage earlier) → comes_is next
-      on (Next.Go (Phase.Freezes x)) at knows =
-          event_knows x (last_left WordName.Stage earlier) knows e (subst (λ (n : Next Phase). IsNext n e) at is.0)
-      on (Next.Wait (Phase.Freezes x)) at knows =
-          event_knows x (last_left WordName.Stage earlier) knows e (subst (λ (n : Next Phase). IsNext n e) at is.0)
-      on (Next.Go phase) at knows = absurd knows
-      on (Next.Wait phase) at knows = absurd knows
-      on (Next.Done answer) at knows = tt
+      on next at knows = grind (arith, event_knows)
 
   -- so a freeze is at such a phase
   phase_knows : (trace : List Traced) → IsTrace c t op trace → (phase : Phase) → phase_after (state_of_trace c t op trace).comes ≡ Some phase →
@@ -164,33 +139,17 @@ answers_last : (x : Freeze) (s : FreezeStep) (found : ℕ) (hook : HookAnswer) �
 answers_last x (FreezeStep.Releases answer) found hook = refl
 answers_last x s found hook = grind (arith, common_steps)
 
-abbrev ends_with : Result Reply GateError → Next Phase → Result Reply GateError
-ends_with other (Next.Done answer) = answer
-ends_with other next = other
-
-abbrev is_done : Next Phase → Bool
-is_done (Next.Done answer) = true
-is_done next = false
-
 released : (s : FreezeStep) (next : Next Freeze) (answer : Result Reply GateError) → Answers s next → map_next Phase.Freezes next ≡ Next.Done answer →
     s ≡ FreezeStep.Releases answer
-released s (Next.Go y) answer h e = absurd (true≢false (sym (ap is_done e)))
-released s (Next.Wait y) answer h e = absurd (true≢false (sym (ap is_done e)))
-released s (Next.Done given) answer h e = h ∙ ap (λ n. FreezeStep.Releases (ends_with given n)) e
+released s next answer h e = grind arith
 
--- a step tells of a call's answer where that is what comes next
-abbrev told_end : Result Reply GateError → Progress → Result Reply GateError
-told_end other (Progress.Done answer) = answer
-told_end other progress = other
-
+-- a step tells that its call is done
 abbrev told_done : Progress → Bool
 told_done (Progress.Done answer) = true
 told_done progress = false
 
 told_next : (next : Next Phase) (answer : Result Reply GateError) → progress_of next ≡ Progress.Done answer → next ≡ Next.Done answer
-told_next (Next.Go p) answer e = absurd (true≢false (sym (ap told_done e)))
-told_next (Next.Wait p) answer e = absurd (true≢false (sym (ap told_done e)))
-told_next (Next.Done given) answer e = ap (λ p. Next.Done (told_end given p)) e
+told_next next answer e = grind arith
 
 -- it stores 0 in `umount`, and leaves all else
 release_words : (w : Words) (x : Freeze) (s : FreezeStep) (hook : HookAnswer) (answer : Result Reply GateError) → s ≡ FreezeStep.Releases answer →
@@ -257,16 +216,11 @@ marks_then (e ∷ earlier) more h = found e.event.word e.event.touch e.event.fou
     found word touch value k = k
 
 marks_alone : (level : ℕ) (trace : List Traced) → AtMostMarks (failed_adds level trace)
-marks_alone zero trace = elim (cases_Bool (stored_stage 3 trace)) [ inl h ↦ rw h (marks_then trace _ tt) | inr h ↦ rw h (marks_then trace _ tt) ]
-marks_alone (suc zero) trace = tt
-marks_alone (suc (suc zero)) trace = tt
-marks_alone (suc (suc (suc level))) trace = marks_then trace _ tt
+marks_alone level trace = grind (arith, marks_then)
 
 comes_after : (comes : Next Phase) (phase : Phase) → phase_after comes ≡ Some phase → (added : List Action) (e : Traced) →
     (trace_state_after comes added e).comes ≡ (after_of phase e.event.found e.hook).0
-comes_after (Next.Go p) phase is added e = ap (λ q. (after_of q e.event.found e.hook).0) (some_phase p phase is)
-comes_after (Next.Wait p) phase is added e = ap (λ q. (after_of q e.event.found e.hook).0) (some_phase p phase is)
-comes_after (Next.Done answer) phase is added e = absurd (not_none phase (sym is))
+comes_after comes phase is added e = grind (arith, some_phase, not_none)
 
 run_then : (c : Config) (es : List Entry) (e : Entry) (w : World) → run c w (es ++ (e ∷ [])) ≡ happens c (run c w es) e
 run_then c [] e w = refl
@@ -365,9 +319,7 @@ module _ (c : Config) (lim : IsWithin c) (entries : List Entry) (t : ℕ) (holde
 
   by_phase : t < c.tasks → (o : Option Phase) → (before.views t).phase ≡ o →
       (phase_step before hook o).progress ≡ Progress.Done (Err (GateError.Hook code)) → IsUndone after t
-  by_phase lt None at answer = absurd (true≢false (sym (ap told_done answer)))
-  by_phase lt (Some phase) at answer =
-      undone lt phase at (told_next (after_of phase (found_at before.words phase hook) hook).0 (Err (GateError.Hook code)) answer)
+  by_phase lt o at answer = grind (arith, undone, told_next)
 
   by_task : (step_answer c before t hook).progress ≡ Progress.Done (Err (GateError.Hook code)) → IsUndone after t
   by_task answer =

@@ -1,16 +1,13 @@
 -- An operation that waits for nobody has its reply within its bound of its own steps.
-use Rattle.std.proofs.Common.{◌≡◌, ℕ, suc, ◌+◌, ◌<◌, ◌≤◌, refl, sym, ap, ◌∙◌, inl, inr, subst, arith, List, [], ◌∷◌, length}
-use Rattle.std.proofs.lemmas.Bool.{cases_Bool, eq-eqb, Decides.eqb_tells}
-use Rattle.std.specs.Prelude.{◌==◌, Option, None, Some, Ok, is_some, nat_lt}
-use Rattle.finite_sums.proofs.Totals.{update_at, update_off}
-use Rattle.access_model.specs.declared.errors.GateError.{GateError}
-use Rattle.cpu_words.specs.{Hooks.HookAnswer}
-use Rattle.gate_world.specs.{Beginnings.refusal, Configs.IsWithin, Headline.world_after, Rules.IsGood, Views.{held_of, view_after}}
-use Rattle.gate_world.specs.{Worlds.{World, after_step, begin_of, begin_refusal, happens, step_of, value_at}, traces.TraceStates.{AllTraced, IsTraced}}
-use Rattle.gate_world.specs.{traces.Traces.{IsShort, most_events}, declared.{config.Config.Config, entries.Entry.{Entry, TheVariants.{Begins, Steps}}}}
-use Rattle.gate_world.specs.declared.{operations.Op.Op, views.{View.View}, work.Phase.Phase}
-use Rattle.gate_schedules.proofs.{frames.ValidWords.events_may_be, operations.{AllOperations.op_keeps, deadlocks.RankDecreases.happens_is}}
-use Rattle.gate_schedules.proofs.{schedules.{HeadlineProof.{whole_operations, whole_rule}, Schedule.happens_keeps}, traces.Traced.entry_keeps}
+use Rattle.progress_laws.proofs.Prelude.{Begins, Config, Entry, GateError, HookAnswer, IsGood, IsWithin, List, None, Ok, Op, Option, Phase, Some}
+use Rattle.progress_laws.proofs.Prelude.{Steps, View, World, [], after_step, ap, arith, cases_Bool, eq-eqb, eqb_tells, happens, happens_is, held_of}
+use Rattle.progress_laws.proofs.Prelude.{inl, inr, nat_lt, refl, subst, suc, sym, update_at, update_off, value_at, view_after, whole_rule}
+use Rattle.progress_laws.proofs.Prelude.{world_after, ℕ, ◌+◌, ◌<◌, ◌==◌, ◌∙◌, ◌∷◌, ◌≡◌, ◌≤◌}
+use Rattle.std.{proofs.Common.length, specs.Prelude.is_some}
+use Rattle.gate_world.specs.{Beginnings.refusal, Worlds.{begin_of, begin_refusal, step_of}, traces.TraceStates.{AllTraced, IsTraced}}
+use Rattle.gate_world.specs.traces.Traces.{IsShort, most_events}
+use Rattle.gate_schedules.proofs.{frames.ValidWords.events_may_be, operations.AllOperations.op_keeps, schedules.HeadlineProof.whole_operations}
+use Rattle.gate_schedules.proofs.{schedules.Schedule.happens_keeps, traces.Traced.entry_keeps}
 use Rattle.progress_laws.specs.WaitFreedom.{IsWaitFree, RepliesDuring, steps_by}
 
 module _ (c : Config) (lim : IsWithin c) (t : ℕ) (lt : t < c.tasks) (op : Op) (most : ℕ) (bound : most_events c op ≡ Some most) where
@@ -18,7 +15,7 @@ module _ (c : Config) (lim : IsWithin c) (t : ℕ) (lt : t < c.tasks) (op : Op) 
   short_at : (w : World) → AllTraced c w → (w.views t).op ≡ Some op → length (w.views t).trace ≤ most
   short_at w traced is =
       let h : IsTraced c t (w.views t) (Some op) = subst (IsTraced c t (w.views t)) is (traced t) in
-      subst (λ m. IsShort m (w.views t).trace) bound ((op_keeps c op).short lim t (w.views t).trace h.trace)
+      subst (λ m. IsShort m (w.views t).trace) bound (((op_keeps c op).traces lim).short t (w.views t).trace h.trace)
 
   -- so where the operation is under way, it is shorter
   shorter_at : (w : World) → IsGood c w → AllTraced c w → (w.views t).op ≡ Some op → (phase : Phase) → (w.views t).phase ≡ Some phase →
@@ -33,12 +30,12 @@ module _ (c : Config) (lim : IsWithin c) (t : ℕ) (lt : t < c.tasks) (op : Op) 
       let longer : length (next.views t).trace ≡ suc (length (w.views t).trace) = ap (λ (x : View). length x.trace) here in
       omega (arith, le, longer)
 
-  -- what an entry leaves of a task that is under way: one step more, by its own step
+  -- what a transition leaves of a task that is under way: one step more, by its own step
   record Leaves (w : World) (e : Entry) : Type 0 where
     op_same : ((happens c w e).views t).op ≡ (w.views t).op
     count : length (w.views t).trace + steps_by t (e ∷ []) ≤ length ((happens c w e).views t).trace
 
-  -- an entry of another task leaves its view
+  -- a transition of another task leaves its view
   same_begin : (w : World) (u : ℕ) (other : Op) → (t ≡ u → ⊥) → (refused : Option GateError) → (begin_of c w u other refused).views t ≡ w.views t
   same_begin w u other ne None = update_off w.views u _ t ne
   same_begin w u other ne (Some refused) = refl

@@ -1,28 +1,24 @@
 -- Four kinds of phases, by what they may wait for; and which waits a step of each leaves.
-use Rattle.std.proofs.Common.{◌≡◌, ℕ, ◌≤◌, Bool, true, false, true≢false, refl, sym, ap, ◌∙◌, inl, inr, subst, arith}
-use Rattle.std.proofs.lemmas.{Bool.{Decides.eqb_tells}, Grind.common_steps}
-use Rattle.std.specs.Prelude.{Ok, Err, ◌-◌, ◌==◌, ◌&&◌, not}
+use Rattle.progress_laws.proofs.Prelude.{Bool, Callback, CallbackStep, ChangeStep, ClosePhase, DownRead, DownReadStep, DownWrite, DownWriteStep, Err}
+use Rattle.progress_laws.proofs.Prelude.{Freeze, FreezeStep, HookAnswer, MountPhase, Next, Ok, Phase, RemountStep, SnapshotStep, ThawStep, Transition}
+use Rattle.progress_laws.proofs.Prelude.{TransitionNext, TreePhase, UpWrite, Want, WantStep, WordName, Words, WritePhase, after_closing, after_event}
+use Rattle.progress_laws.proofs.Prelude.{after_of, ap, arith, callback_after, callback_next, callback_waits, common_steps, down_read_next}
+use Rattle.progress_laws.proofs.Prelude.{down_write_next, eqb_tells, false, found_at, found_by, freeze_after, freeze_next, freeze_waits, has_flag}
+use Rattle.progress_laws.proofs.Prelude.{inl, inr, level_closed, load_same, map_next, must_wait, not, read, refl, start_waits, subst, sym, thaw_after}
+use Rattle.progress_laws.proofs.Prelude.{thaw_waits, true, true≢false, words_after, ℕ, ◌&&◌, ◌-◌, ◌==◌, ◌∙◌, ◌≡◌, ◌≤◌}
 use Rattle.finite_sums.specs.Sums.{update}
-use Rattle.access_model.specs.{Replies.map_next, declared.replies.Next.Next}
-use Rattle.cpu_words.specs.{Hooks.HookAnswer, Touches.found_by, Words.{Words, put, read}, declared.{events.Touch.Touch, names.WordName.WordName}}
-use Rattle.composite_ops.specs.write_access.Phases.{next as write_next}
-use Rattle.composite_ops.specs.file_closes.Phases.{next as close_next}
-use Rattle.composite_ops.specs.declared.{file_closes.phases.ClosePhase.ClosePhase, write_access.phases.WritePhase.WritePhase}
-use Rattle.freeze_levels.specs.{Freezes.{after_clearing, after_closing, after_reopening, after_undoing, at_freeze, freeze_after, freeze_fails, freeze_next, freeze_undone, level_closed}, Thaws.{thaw_after, thaw_next}}
-use Rattle.freeze_levels.specs.declared.{freezes.{Freeze.Freeze, FreezeStep.FreezeStep}, thaws.{Thaw.Thaw, ThawStep.ThawStep}}
-use Rattle.gated_tree.specs.{Phases.{after as tree_after, next as tree_next, snapshot_after, snapshot_next}, declared.{phases.TreePhase.TreePhase, snapshots.{Snapshot.Snapshot, SnapshotStep.SnapshotStep}}}
-use Rattle.mount_counts.specs.{Phases.{has_flag, want_next, change_after, change_next}, Remounts.{remount_after, remount_next}}
-use Rattle.mount_counts.specs.declared.{phases.{Change.Change, ChangeStep.ChangeStep, MountPhase.MountPhase, Want.Want, WantStep.WantStep}, remounts.{Remount.Remount, RemountStep.RemountStep}}
-use Rattle.percpu_rwsem.specs.{Callbacks.{callback_after, callback_next}, Readers.{down_read_next}, Writers.{down_write_next}}
-use Rattle.percpu_rwsem.specs.declared.{callbacks.{Callback.Callback, CallbackStep.CallbackStep}, readers.{DownRead.DownRead, DownReadStep.DownReadStep}}
-use Rattle.percpu_rwsem.specs.declared.{transitions.{Transition.Transition, TransitionNext.TransitionNext}, writers.{DownWrite.DownWrite, DownWriteStep.DownWriteStep, UpWrite.UpWrite}}
+use Rattle.cpu_words.specs.{Words.put, declared.events.Touch.Touch}
+use Rattle.composite_ops.specs.{file_closes.Phases.next as close_next, write_access.Phases.next as write_next}
+use Rattle.freeze_levels.specs.{Freezes.{after_clearing, after_reopening, after_undoing, freeze_fails, freeze_undone}, Thaws.thaw_next}
+use Rattle.freeze_levels.specs.declared.thaws.Thaw.{Thaw}
+use Rattle.gated_tree.specs.{Phases.{after as tree_after, next as tree_next, snapshot_after, snapshot_next}, declared.snapshots.Snapshot.Snapshot}
+use Rattle.mount_counts.specs.{Phases.{want_next, change_after, change_next}, Remounts.{remount_after, remount_next}, declared.phases.Change.Change}
+use Rattle.mount_counts.specs.declared.remounts.Remount.{Remount}
 use Rattle.percpu_rwsem.specs.Transitions.{transition_next}
-use Rattle.gate_world.specs.{Work.{after_of}, Worlds.{found_at, words_after}, declared.work.Phase.Phase}
 use Rattle.gate_schedules.specs.operations.Progress.{is_first_lock}
-use Rattle.gate_schedules.proofs.{frames.Words.load_same, operations.deadlocks.RankDecreases.after_event}
 use Rattle.node_words.specs.declared.marks.ClearMarks.{ClearMarks}
-use Rattle.progress_laws.proofs.{Calls.lock_free, Nearer.by_wait}
-use Rattle.progress_laws.specs.Waiting.{callback_waits, change_waits, freeze_waits, grace_waits, must_wait, remount_waits, snapshot_waits, start_waits, thaw_waits, tree_waits, want_waits}
+use Rattle.progress_laws.{proofs.{Calls.lock_free, Nearer.by_wait}, specs.Waiting.{change_waits, remount_waits, snapshot_waits, tree_waits}}
+use Rattle.progress_laws.specs.Waiting.{want_waits}
 
 abbrev pub callback_kind : CallbackStep → ℕ
 callback_kind (CallbackStep.Claims x) = 0
@@ -64,14 +60,10 @@ want_kept w after keeps x WantStep.LoadsHold h = ap (λ (f : ℕ → ℕ). x.wai
 want_kept w after keeps x s h = absurd (true≢false (sym h))
 
 start_kept : (w after : Words) → KeepsClosed w after → (r : DownRead) (s : DownReadStep) → start_waits w r s ≡ true → start_waits after r s ≡ true
-start_kept w after keeps r DownReadStep.EntersSection h =
-    let k : (w.block r.level == 0) ≡ false → (after.block r.level == 0) ≡ false = keeps.blocks r.level in grind arith
-start_kept w after keeps r s h = absurd (true≢false (sym h))
+start_kept w after keeps r s h = grind arith
 
 grace_kept : (w after : Words) → after.section ≡ w.section → (s : CallbackStep) → callback_waits w s ≡ true → callback_waits after s ≡ true
-grace_kept w after same (CallbackStep.AwaitsSections g) h =
-    ap (λ (f : ℕ → ℕ). grace_waits (record w { section = f }) g) same ∙ h
-grace_kept w after same s h = absurd (true≢false (sym h))
+grace_kept w after same s h = grind arith
 
 -- who waits for HOLD or a level goes on waiting
 pub waits_kept : (w after : Words) → KeepsClosed w after → (q : Phase) → kind q ≡ 0 → must_wait w q ≡ true → must_wait after q ≡ true
@@ -96,17 +88,7 @@ waits_kept w after keeps phase is h = absurd (true≢false (sym h))
 -- and who waits for a section, if none has changed
 pub graces_kept : (w after : Words) → KeepsClosed w after → after.section ≡ w.section → (q : Phase) → kind q ≤ 1 → must_wait w q ≡ true →
     must_wait after q ≡ true
-graces_kept w after keeps same (Phase.Callbacks b) is h = grace_kept w after same b.step h
-graces_kept w after keeps same (Phase.Mounts (MountPhase.Want x)) is h = waits_kept w after keeps (Phase.Mounts (MountPhase.Want x)) refl h
-graces_kept w after keeps same (Phase.DownReads r) is h = waits_kept w after keeps (Phase.DownReads r) refl h
-graces_kept w after keeps same (Phase.Writes x) is h = waits_kept w after keeps (Phase.Writes x) refl h
-graces_kept w after keeps same (Phase.Closes x) is h = waits_kept w after keeps (Phase.Closes x) refl h
-graces_kept w after keeps same (Phase.Freezes x) is h = absurd (omega (arith, is))
-graces_kept w after keeps same (Phase.Mounts (MountPhase.Change x)) is h = absurd (omega (arith, is))
-graces_kept w after keeps same (Phase.Remounts x) is h = absurd (omega (arith, is))
-graces_kept w after keeps same (Phase.Thaws x) is h = absurd (omega (arith, is))
-graces_kept w after keeps same (Phase.Trees x) is h = absurd (omega (arith, is))
-graces_kept w after keeps same phase is h = absurd (true≢false (sym h))
+graces_kept w after keeps same q is h = grind (arith, grace_kept, waits_kept)
 
 -- words that are no HOLD and open no level
 abbrev turns_waits : WordName → Bool
@@ -123,18 +105,14 @@ load_keeps : (w : Words) (name : WordName) → KeepsClosed w (put w name (read w
 load_keeps w name = subst (KeepsClosed w) (sym (load_same w name)) (record { flags = refl; blocks = λ i z. z })
 
 want_keeps : (w : Words) (x : Want) (s : WantStep) → KeepsClosed w (after_event w (want_next x s))
-want_keeps w x WantStep.LoadsHold = load_keeps w (WordName.MountFlags x.mount)
-want_keeps w x WantStep.LoadsReadOnly = load_keeps w (WordName.MountFlags x.mount)
-want_keeps w x s = beside_waits w (want_next x s).0 _ refl
+want_keeps w x s = grind (arith, load_keeps, beside_waits)
 
 start_keeps : (w : Words) (r : DownRead) (s : DownReadStep) → KeepsClosed w (after_event w (down_read_next r s))
 start_keeps w r DownReadStep.LoadsBlock = load_keeps w (WordName.Block r.level)
 start_keeps w r s = beside_waits w (down_read_next r s).0 _ refl
 
 write_keeps : (w : Words) (x : WritePhase) → KeepsClosed w (after_event w (write_next x))
-write_keeps w (WritePhase.Takes m r) = start_keeps w r r.step
-write_keeps w (WritePhase.Wants x) = want_keeps w x x.step
-write_keeps w x = beside_waits w (write_next x).0 _ refl
+write_keeps w x = grind (arith, start_keeps, want_keeps, beside_waits)
 
 close_keeps : (w : Words) (x : ClosePhase) → KeepsClosed w (after_event w (close_next x))
 close_keeps w (ClosePhase.Enters f node r) = start_keeps w r r.step
@@ -151,18 +129,11 @@ looks_keep w t = (load_keeps w (WordName.Section t), ap (λ (v : Words). v.secti
 
 callback_keeps : (w : Words) (b : Callback) (s : CallbackStep) →
     KeepsClosed w (after_event w (callback_next b s)) × ((after_event w (callback_next b s)).section ≡ w.section)
-callback_keeps w b (CallbackStep.Claims x) = transition_keeps w b.level x
-callback_keeps w b (CallbackStep.AwaitsSections g) = looks_keep w g.task
-callback_keeps w b (CallbackStep.CallsBack x) = transition_keeps w b.level x
+callback_keeps w b s = grind (arith, transition_keeps, looks_keep)
 
 -- a step of the first kind clears no HOLD and opens no level
 pub quick_keeps : (w : Words) (phase : Phase) (hook : HookAnswer) → kind phase ≡ 0 → KeepsClosed w (words_after w phase hook)
-quick_keeps w (Phase.Mounts (MountPhase.Want x)) hook is = want_keeps w x x.step
-quick_keeps w (Phase.DownReads r) hook is = start_keeps w r r.step
-quick_keeps w (Phase.Writes x) hook is = write_keeps w x
-quick_keeps w (Phase.Closes x) hook is = close_keeps w x
-quick_keeps w (Phase.Callbacks b) hook is = (callback_keeps w b b.step).0
-quick_keeps w phase hook is = absurd (omega (arith, is))
+quick_keeps w phase hook is = grind (arith, want_keeps, start_keeps, write_keeps, close_keeps, callback_keeps)
 
 -- what comes next is such
 abbrev pub NextIs : {P : Type 0} → (P → Type 0) → Next P → Type 0
@@ -171,19 +142,13 @@ NextIs holds (Next.Wait q) = holds q
 NextIs holds (Next.Done answer) = Unit {0}
 
 next_in : {A B : Type 0} (to : A → B) (holds : B → Type 0) (next : Next A) → NextIs (λ x. holds (to x)) next → NextIs holds (map_next to next)
-next_in to holds (Next.Go x) h = h
-next_in to holds (Next.Wait x) h = h
-next_in to holds (Next.Done answer) h = tt
+next_in to holds next h = grind arith
 
 pub next_all : {P : Type 0} (holds : P → Type 0) → ((x : P) → holds x) → (next : Next P) → NextIs holds next
-next_all holds h (Next.Go x) = h x
-next_all holds h (Next.Wait x) = h x
-next_all holds h (Next.Done answer) = tt
+next_all holds h next = grind arith
 
 pub next_map : {P : Type 0} (one other : P → Type 0) → ((x : P) → one x → other x) → (next : Next P) → NextIs one next → NextIs other next
-next_map one other h (Next.Go x) i = h x i
-next_map one other h (Next.Wait x) i = h x i
-next_map one other h (Next.Done answer) i = tt
+next_map one other h next i = grind arith
 
 -- a callback that is claimed changes no section either, and stays so to its end
 claimed_next : (b : Callback) (s : CallbackStep) (found : ℕ) → callback_kind s ≡ 1 → NextIs (λ (y : Callback). callback_kind y.step ≡ 1) (callback_after b s found).0
@@ -192,11 +157,7 @@ claimed_next b s found is = grind (arith, common_steps)
 pub claimed_keeps : (w : Words) (phase : Phase) (hook : HookAnswer) → kind phase ≡ 1 →
     KeepsClosed w (words_after w phase hook) × ((words_after w phase hook).section ≡ w.section) ×
     NextIs (λ q. kind q ≡ 1) (after_of phase (found_at w phase hook) hook).0
-claimed_keeps w (Phase.Callbacks b) hook is =
-    let k = callback_keeps w b b.step in
-    (k.0, k.1, next_in Phase.Callbacks (λ q. kind q ≡ 1) _ (claimed_next b b.step (found_at w (Phase.Callbacks b) hook) is))
-claimed_keeps w (Phase.Mounts (MountPhase.Change x)) hook is = absurd (omega (arith, is))
-claimed_keeps w phase hook is = absurd (omega (arith, is))
+claimed_keeps w phase hook is = grind (arith, callback_keeps, next_in, claimed_next)
 
 -- An operation that waits for nobody but the owner of `umount` never waits after a step.
 abbrev pub NeverWaits : Phase → Type 0
@@ -276,28 +237,19 @@ fails_is : (level code : ℕ) → (is_first_lock (freeze_fails level code) ≡ f
 fails_is level code = grind arith
 
 closing_goes : (x : Freeze) (level : ℕ) (next : Next DownWrite) → FreezeGoes false (after_closing x level next)
-closing_goes x level (Next.Go y) = (refl, λ h. absurd (true≢false (sym h)))
-closing_goes x level (Next.Wait y) =
-    by_wait (λ z. FreezeGoes false (Next.Wait (at_freeze x z))) y y.step (refl, λ h. absurd (true≢false (sym h))) (refl, λ h. absurd (true≢false (sym h)))
-closing_goes x level (Next.Done answer) = (closed_is level x.nodes, λ h. absurd (true≢false (sym h)))
+closing_goes x level next = grind (arith, by_wait, closed_is)
 
 clearing_goes : (x : Freeze) (next : Next ClearMarks) → FreezeGoes false (after_clearing x next)
-clearing_goes x (Next.Go y) = (refl, λ h. absurd (true≢false (sym h)))
-clearing_goes x (Next.Wait y) = (refl, λ h. absurd (true≢false (sym h)))
-clearing_goes x (Next.Done answer) = (refl, λ h. absurd (true≢false (sym h)))
+clearing_goes x next = grind arith
 
 reopening_goes : (x : Freeze) (level code : ℕ) (next : Next UpWrite) → FreezeGoes true (after_reopening x level code next)
-reopening_goes x level code (Next.Go y) = (refl, λ h. refl)
-reopening_goes x level code (Next.Wait y) = (refl, λ h. refl)
-reopening_goes x level code (Next.Done answer) = ((fails_is (level - 1) code).0, λ h. (fails_is (level - 1) code).1)
+reopening_goes x level code next = grind (arith, fails_is)
 
 undone_is : (level code : ℕ) → (is_first_lock (freeze_undone level code) ≡ false) × (is_failing (freeze_undone level code) ≡ true)
 undone_is level code = grind arith
 
 undoing_goes : (x : Freeze) (level code : ℕ) (n : TransitionNext) → FreezeGoes true (after_undoing x level code n)
-undoing_goes x level code (TransitionNext.More y) = (refl, λ h. refl)
-undoing_goes x level code TransitionNext.Undefined = (refl, λ h. refl)
-undoing_goes x level code (TransitionNext.Made s) = ((undone_is level code).0, λ h. (undone_is level code).1)
+undoing_goes x level code n = grind (arith, undone_is)
 
 pub freeze_goes : (w : Words) (x : Freeze) (s : FreezeStep) (hook : HookAnswer) → freeze_waits w s ≡ false →
     FreezeGoes (fails_now s hook) (freeze_after x s (found_by (freeze_next x s hook).1 (read w (freeze_next x s hook).0)) hook).0
@@ -334,16 +286,4 @@ closing_keeps w d (DownWriteStep.Sums sum) = (beside_waits w (WordName.LevelCoun
 -- a step of one that doesn't fail opens no level, and changes no section
 pub freeze_keeps : (w : Words) (x : Freeze) (s : FreezeStep) (hook : HookAnswer) → fails_now s hook ≡ false →
     KeepsClosed w (after_event w (freeze_next x s hook)) × ((after_event w (freeze_next x s hook)).section ≡ w.section)
-freeze_keeps w x (FreezeStep.Closes d) hook on = closing_keeps w d d.step
-freeze_keeps w x (FreezeStep.Waits d) (Ok answer) on = closing_keeps w d d.step
-freeze_keeps w x (FreezeStep.Waits d) (Err code) on = absurd (true≢false on)
-freeze_keeps w x (FreezeStep.Undoes level transition code) hook on = absurd (true≢false on)
-freeze_keeps w x (FreezeStep.LocksToUndo code) hook on = absurd (true≢false on)
-freeze_keeps w x (FreezeStep.GivesUp level code) hook on = absurd (true≢false on)
-freeze_keeps w x (FreezeStep.Reopens u code) hook on = absurd (true≢false on)
-freeze_keeps w x (FreezeStep.Releases answer) hook on = absurd (true≢false on)
-freeze_keeps w x FreezeStep.SetsFs (Ok answer) on = (beside_waits w WordName.Stage _ refl, refl)
-freeze_keeps w x FreezeStep.SetsFs (Err code) on = (beside_waits w WordName.Stage _ refl, refl)
-freeze_keeps w x FreezeStep.SetsComplete (Ok answer) on = (beside_waits w WordName.Stage _ refl, refl)
-freeze_keeps w x FreezeStep.SetsComplete (Err code) on = (beside_waits w WordName.Stage _ refl, refl)
-freeze_keeps w x s hook on = (beside_waits w (freeze_next x s hook).0 _ refl, refl)
+freeze_keeps w x s hook on = grind (arith, closing_keeps, beside_waits)

@@ -1,10 +1,10 @@
--- Worked schedules, by computing: who has to wait beside a task that is lost where it stands, and what a start can do that doesn't sleep.
-use Rattle.std.{proofs.Common.{◌≡◌, ℕ, zero, suc, true, List, [], ◌∷◌, ◌++◌, refl, false}, specs.Prelude.{Err, None, Ok, replicate, ◌==◌}}
+-- Worked executions, by computing: who has to wait beside a task that is lost where it stands, and what a start can do that doesn't sleep.
+use Rattle.progress_laws.proofs.Prelude.{Begins, Config, Entry, Err, List, None, Ok, Op, Steps, [], false, refl, run, suc, true, turns_left, zero, ℕ}
+use Rattle.progress_laws.proofs.Prelude.{◌==◌, ◌∷◌, ◌≡◌}
+use Rattle.std.{proofs.Common.◌++◌, specs.Prelude.replicate}
 use Rattle.access_model.specs.declared.actions.Holder.{Holder}
-use Rattle.gate_world.specs.{Worlds.{run, opening}, declared.{config.Config.Config, operations.Op.Op}}
-use Rattle.gate_world.specs.declared.entries.Entry.{Entry, TheVariants.{Begins, Steps}}
-use Rattle.progress_laws.specs.{Alone.turns_alone, GivingUp.turns_to_give_up, StepsLeft.turns_left}
-use Rattle.progress_laws.proofs.Settling.{waits_at}
+use Rattle.gate_world.specs.Worlds.{opening}
+use Rattle.progress_laws.{proofs.Settling.waits_at, specs.{Alone.turns_alone, GivingUp.turns_to_give_up}}
 
 -- three tasks, two processors, one mount
 abbrev limits : Config

@@ -5,7 +5,7 @@ use Rattle.freeze_levels.specs.declared.hooks.HookKind.TheVariants.{KeepWaiting}
 use Rattle.gate_world.specs.{Work.hook_of, Worlds.{World, happens, run}}
 use Rattle.gate_world.specs.declared.{config.Config.Config, entries.Entry.{Entry, TheVariants.{Begins, Steps}}, work.Phase.Phase}
 
--- an entry that asks it brings such an answer to this task; of all other entries nothing is said
+-- a transition that asks it brings such an answer to this task; of all other transitions nothing is said
 abbrev pub AnswersSo : (ℕ → HookAnswer → Type 0) → World → Entry → Type 0
 AnswersSo such w (Begins t op) = Unit {0}
 AnswersSo such w (Steps t hook) = (phase : Phase) → (w.views t).phase ≡ Some phase → hook_of phase ≡ Some KeepWaiting → such t hook
@@ -14,7 +14,7 @@ abbrev pub AllAnswerSo : (ℕ → HookAnswer → Type 0) → Config → World �
 AllAnswerSo such c w [] = Unit {0}
 AllAnswerSo such c w (e ∷ es) = AnswersSo such w e × AllAnswerSo such c (happens c w e) es
 
--- the same of lists of entries, one after the other
+-- the same of lists of transitions, one after the other
 abbrev pub RoundsAnswerSo : (ℕ → HookAnswer → Type 0) → Config → World → List (List Entry) → Type 0
 RoundsAnswerSo such c w [] = Unit {0}
 RoundsAnswerSo such c w (es ∷ rounds) = AllAnswerSo such c w es × RoundsAnswerSo such c (run c w es) rounds

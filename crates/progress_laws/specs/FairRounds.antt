@@ -23,7 +23,7 @@ abbrev pub rests_at : Words → Option Phase → Bool
 rests_at w None = true
 rests_at w (Some phase) = is_outside w phase
 
--- a task takes a step among these entries, or rests at some point of them
+-- a task takes a step among these transitions, or rests at some point of them
 abbrev pub IsServed : Config → ℕ → World → List Entry → Type 0
 IsServed c t w [] = rests_at w.words (w.views t).phase ≡ true
 IsServed c t w (e ∷ es) = (rests_at w.words (w.views t).phase ≡ true) ⊎ ((task_of e ≡ t) ⊎ IsServed c t (happens c w e) es)
@@ -36,7 +36,7 @@ abbrev pub AreRounds : Config → (ℕ → Bool) → World → List (List Entry)
 AreRounds c lost w [] = Unit {0}
 AreRounds c lost w (es ∷ rounds) = IsRound c lost w es × AreRounds c lost (run c w es) rounds
 
--- the world after these rounds
+-- the state after these rounds
 abbrev pub run_all : Config → World → List (List Entry) → World
 run_all c w [] = w
 run_all c w (es ∷ rounds) = run_all c (run c w es) rounds
@@ -53,7 +53,7 @@ SettlesOnce c lost n w =
     (rounds : List (List Entry)) → AreRounds c lost w rounds → n ≤ length rounds →
     (first : List (List Entry)) × (rest : List (List Entry)) × (rounds ≡ first ++ rest) × AllWait c lost (run_all c w first)
 
--- And that stays: where all have to wait, no entries of these kinds change a word or bring a reply, if `keep_waiting` says to wait on.
+-- And that stays: where all have to wait, no transitions of these kinds change a word or bring a reply, if `keep_waiting` says to wait on.
 abbrev pub StaysSettled : Config → (ℕ → Bool) → World → Type 0
 StaysSettled c lost w =
     AllWait c lost w → (es : List Entry) → MayAllStep c lost w es → AllAnswerSo IsPatient c w es →
@@ -69,7 +69,7 @@ BlockedAfterRounds c n w =
     (rounds : List (List Entry)) → AreRounds c nobody w rounds → RoundsAnswerSo IsPatient c w rounds → n ≤ length rounds →
     AllAreBlocked c (run_all c w rounds)
 
--- There are so many rounds, from each world, whatever `keep_waiting` answers: the theorems above speak of some executions.
+-- There are so many rounds, from each state, whatever `keep_waiting` answers: the theorems above speak of some executions.
 abbrev pub RoundsExist : Config → (ℕ → Bool) → World → Type 0
 RoundsExist c lost w =
     (answer : HookAnswer) (n : ℕ) →

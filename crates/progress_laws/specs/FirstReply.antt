@@ -6,7 +6,7 @@ use Rattle.gate_schedules.specs.operations.Progress.{HasReply, IsUnderWay}
 use Rattle.progress_laws.specs.{LostTasks.AllWait, StepsLeft.most_steps}
 
 -- A scheduler can pick, step by step, one of the tasks under way that aren't lost, knowing what the hooks have answered so far but not what they
--- will, so that after at most so many steps the task that was stepped last has its reply, or this holds of the world.
+-- will, so that after at most so many steps the task that was stepped last has its reply, or this holds of the state.
 abbrev pub ReplyOr : Config → (ℕ → Bool) → (World → Type 0) → ℕ → World → Type 0
 ReplyOr c lost P zero w = P w
 ReplyOr c lost P (suc n) w =

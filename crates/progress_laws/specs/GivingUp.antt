@@ -20,7 +20,7 @@ load_room c w = total c.tasks (λ t. load_room_of c.processors (w.views t).phase
 abbrev pub turns_to_give_up : Config → World → ℕ
 turns_to_give_up c w = turns_left c w * (load_room c w + 1)
 
--- no more are left from any world
+-- no more are left from any state
 abbrev pub most_turns_to_give_up : Config → ℕ
 most_turns_to_give_up c = most_turns c * (c.tasks * c.processors + 1)
 

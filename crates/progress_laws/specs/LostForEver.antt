@@ -17,12 +17,12 @@ use Rattle.gate_world.specs.declared.work.Phase.{Phase}
 use Rattle.gate_schedules.specs.operations.Progress.{IsUnderWay, is_admitted}
 use Rattle.progress_laws.specs.{Answers.{AllAnswerSo, IsPatientWith}, LostTasks.{HoldIsLost, SectionIsLost}}
 
--- none of these entries, beginnings and steps, is of a lost task
+-- none of these transitions, beginnings and steps, is of a lost task
 abbrev pub AreOfOthers : (ℕ → Bool) → List Entry → Type 0
 AreOfOthers lost [] = Unit {0}
 AreOfOthers lost (e ∷ es) = (lost (task_of e) ≡ false) × AreOfOthers lost es
 
--- What words say for ever of a task that is lost in this world: `umount` names it, HOLD is set where it set it, a level is closed that it has
+-- What words say for ever of a task that is lost in this state: `umount` names it, HOLD is set where it set it, a level is closed that it has
 -- closed, its section is odd, and no sum of a mount or a level at which it is counted comes to 0 again.
 pub record WordsTellFor (c : Config) (w later : World) (y : ℕ) : Type 0 where
   pub lock : owns (w.views y).phase ≡ 1 → later.words.umount ≡ suc y
@@ -34,7 +34,7 @@ pub record WordsTellFor (c : Config) (w later : World) (y : ℕ) : Type 0 where
   pub level_count : (i : ℕ) → 1 ≤ i → i ≤ 3 → 1 ≤ counted_of (level_as_gate (at_level i (w.views y))) →
       total c.processors (later.words.level i) % 18446744073709551616 ≡ 0 → ⊥
 
--- so it is after any entries of the others
+-- so it is after any transitions of the others
 abbrev pub RemainsForEver : Config → (ℕ → Bool) → World → Type 0
 RemainsForEver c lost w =
     (es : List Entry) → AreOfOthers lost es → (y : ℕ) → y < c.tasks → lost y ≡ true → WordsTellFor c w (run c w es) y

@@ -107,7 +107,7 @@ abbrev pub EachIsBlockedBy : Config → (ℕ → Bool) → World → Type 0
 EachIsBlockedBy c lost w =
     AllWait c lost w → (t : ℕ) → t < c.tasks → lost t ≡ false → (phase : Phase) → (w.views t).phase ≡ Some phase → IsBlockedBy c lost w phase
 
--- these entries are steps of tasks that aren't lost
+-- these transitions are steps of tasks that aren't lost
 abbrev pub AreLiveSteps : (ℕ → Bool) → List Entry → Type 0
 AreLiveSteps lost [] = Unit {0}
 AreLiveSteps lost (Begins t op ∷ es) = ⊥

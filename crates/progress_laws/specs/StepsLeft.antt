@@ -303,7 +303,7 @@ as_one tries a k b d = a + (k + b) * (tries + 1) + d
 abbrev pub potential : (starts tries : ℕ) → Config → World → ℕ
 potential starts tries c w = as_one tries (all_steps c w) (all_changes (starts + 1) c w) (all_start_steps c w) (all_tries c w)
 
--- So many turns are left from this world: with no start, end, freeze, thaw or callback under way they are the steps that are left, and one.
+-- So many turns are left from this state: with no start, end, freeze, thaw or callback under way they are the steps that are left, and one.
 abbrev pub turns_left : Config → World → ℕ
 turns_left c w = potential (start_room c w) (try_room c w) c w + 1
 

@@ -25,7 +25,7 @@ pub record IsUndone (w : World) (t : ℕ) : Type 0 where
   pub added : (w.views t).actions ≡ failed_adds (gave_up (w.views t).trace) (w.views t).trace ++ (w.views t).before
   pub marks : AtMostMarks (failed_adds (gave_up (w.views t).trace) (w.views t).trace)
 
--- After each schedule, if the next step of a freeze answers that a hook failed, so it is after that step.
+-- After each execution, if the next step of a freeze answers that a hook failed, so it is after that step.
 abbrev pub FailsUndone : Config → List Entry → Type 0
 FailsUndone c entries =
     (t : ℕ) (holder : Holder) (hook : HookAnswer) (code : ℕ) → ((world_after c entries).views t).op ≡ Some (Freeze holder) →

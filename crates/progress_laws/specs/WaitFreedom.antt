@@ -4,13 +4,13 @@ use Rattle.gate_world.specs.{Headline.world_after, Worlds.{World, happens}, trac
 use Rattle.gate_world.specs.declared.{config.Config.Config, entries.Entry.{Entry, TheVariants.{Begins, Steps}}, operations.Op.Op}
 use Rattle.gate_schedules.specs.operations.Progress.{HasReply}
 
--- how many steps a task takes among these entries
+-- how many steps a task takes among these transitions
 abbrev pub steps_by : ℕ → List Entry → ℕ
 steps_by t [] = 0
 steps_by t (Begins u op ∷ es) = steps_by t es
 steps_by t (Steps u hook ∷ es) = if u == t then suc (steps_by t es) else steps_by t es
 
--- a task has its reply after some first part of these entries
+-- a task has its reply after some first part of these transitions
 abbrev pub RepliesDuring : Config → World → ℕ → List Entry → Type 0
 RepliesDuring c w t [] = HasReply w t
 RepliesDuring c w t (e ∷ es) = HasReply w t ⊎ RepliesDuring c (happens c w e) t es

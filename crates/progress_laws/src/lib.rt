@@ -103,7 +103,7 @@ pub fn a_freeze_that_fails_is_undone()
     ensures { (c : Config) → IsWithin c → (entries : List Entry) → FailsUndone c entries }
 {}
 
-/// The number of turns in the laws above is the world's own, and has a bound in each configuration, also where freezes give up (`giving_up`). Does
+/// The number of turns in the laws above is the state's own, and has a bound in each configuration, also where freezes give up (`giving_up`). Does
 /// nothing: its contract is the law.
 pub fn turns_have_a_bound()
     ensures waiting { (c : Config) → IsWithin c → (entries : List Entry) → turns_left c (world_after c entries) ≤ most_turns c }

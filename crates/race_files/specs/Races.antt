@@ -11,7 +11,7 @@ abbrev pub AllAreIdle : ReplayState → Type 0
 AllAreIdle play = (t : ℕ) → t < play.config.tasks → (play.world.views t).phase ≡ None
 
 -- The race in a text: the lines before its first line `race` are each understood and have no fault, and make of the opening a play in which all
--- tasks are idle, whose world the core shows on which the race begins; and all lines behind it call this.
+-- tasks are idle, whose state the core shows on which the race begins; and all lines behind it call this.
 pub record IsRaceIn (all : Left) (core : Memory) (calls : List (List (Option Call))) : Type 0 where
   pub left : Left
   pub begin : BeginRace all left

@@ -229,7 +229,7 @@ fn count_of(calls: &[Option<Call>]) -> usize
     }
 }
 
-/// The same and a call more.
+/// Returns the calls with one more.
 #[tactic(auto, unfolding(crate::specs::Calls::with_call))]
 fn with_call(
     mut calls: [Option<Call>; CALLS],
@@ -259,7 +259,7 @@ fn is_unconditional(when: When) -> bool
     }
 }
 
-/// The same, where a hook fails in the last call.
+/// Returns the calls with a hook that fails in the last one.
 #[tactic(auto, unfolding(crate::specs::Calls::with_failure))]
 fn with_failure(
     mut calls: [Option<Call>; CALLS],

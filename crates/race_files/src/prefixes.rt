@@ -62,7 +62,7 @@ pub fn when_at(rest: &[u8]) -> Option<When>
     }
 }
 
-/// The same by the word behind `if`.
+/// When a call is made, by the word behind `if`.
 #[tactic(auto, unfolding(crate::specs::Prefixes::branch_named))]
 fn branch_named(word: &[u8]) -> Option<When>
     ensures { result ≡ branch_named word.now }

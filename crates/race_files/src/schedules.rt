@@ -121,7 +121,7 @@ fn print_forbidden(task: u8, step: Step, out: &mut Output) {
     }
 }
 
-/// Prints the next event of a task.
+/// Prints the next step of a task.
 fn print_step(task: u8, hook: Result<(), u16>, out: &mut Output) {
     out.number(u64::from(task));
     out.text(b" step");

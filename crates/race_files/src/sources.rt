@@ -46,7 +46,7 @@ impl<'a> RaceSource<'a> {
     }
 
     /// Returns a line for each of these moves, which a replay takes: a beginning as it stands in the file, `T step`, or `T step CODE` where the hook
-    /// fails that the event asks. An action that the model forbids, which only a build that isn't proved can add, is told in a comment under its step.
+    /// fails that the step asks. An action that the model forbids, which only a build that isn't proved can add, is printed in a comment under its line.
     pub fn schedule(self, movers: &[u8]) -> Result<Output, AllocError> {
         let mut session = self.gates()?;
         let mut schedule = Output::new(self.alloc);

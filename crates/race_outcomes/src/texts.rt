@@ -31,7 +31,7 @@ pub fn outcome_text(
     Vec::from_slice(alloc, &text[2.min(text.len())..])
 }
 
-/// The course of a task, where there is one.
+/// What a task's calls have answered, if there is such a task.
 fn course_of(courses: &[CallAnswers], task: u8) -> Option<CallAnswers>
     ensures { result ≡ slice_get courses.now task }
 {
@@ -71,7 +71,7 @@ fn print_answer(out: &mut Output, task: u8, answer: Option<Result<Reply, GateErr
     }
 }
 
-/// The same answer, but of a snapshot only that it was taken: how many blocks it found is no part of the outcome.
+/// Returns the answer, but of a snapshot only that it was taken: how many blocks it found is no part of the outcome.
 fn without_blocks(answer: Result<Reply, GateError>) -> Result<Reply, GateError>
     ensures { result ≡ told_answer answer }
 {

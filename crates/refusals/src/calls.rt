@@ -14,7 +14,7 @@ run run_with
 ";
 
 /// Returns the first name of the call that has this name: that of a schedule's command, or else the library's. A call from C has the library's
-/// name behind `mntgate_`, unless a line of OTHERS has it.
+/// name behind `mntgate_`, unless a line of OTHERS has it. A form of a call has the call's name before `_at_once` or `_within`.
 pub(crate) fn call_named(word: &str) -> Option<&'static str> {
     for call in OTHERS.lines() {
         if is_named(call, word) {
@@ -22,7 +22,10 @@ pub(crate) fn call_named(word: &str) -> Option<&'static str> {
         }
     }
     let name = word.strip_prefix("mntgate_").unwrap_or(word);
-    let name = name.strip_suffix("_at_once").unwrap_or(name);
+    let name = name
+        .strip_suffix("_at_once")
+        .or(name.strip_suffix("_within"))
+        .unwrap_or(name);
     for verb in &Verb::ALL {
         if let Some(names) = verb.call_names()
             && (verb.name() == word || is_named(names, name))

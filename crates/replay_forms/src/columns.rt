@@ -15,7 +15,7 @@ const LEAST: usize = 14;
 /// The most tasks for which words are whole.
 const FEW: u8 = 4;
 
-/// What narrower words are told by.
+/// What narrower words are printed by.
 static NARROWER: &str = "narrower words: m is mount, l level, s section, .f .flags, .c .cpu\n";
 
 /// What stands for what in them.

@@ -343,7 +343,7 @@ impl<'a> Drawing<'a> {
         out.text(b"</text>");
     }
 
-    /// Prints what is told of a step where one points at it: its line as numbers.
+    /// Prints what is printed of a step where one points at it: its line as numbers.
     fn print_hover(&self, entry: &Entry, step: u64, out: &mut Output) {
         let numbers = Style {
             raw: true,

@@ -7,7 +7,7 @@ ghost use Rattle.std.specs.Prelude.{◌≡◌};
 pub enum Form {
     /// A line for each beginning, step and answer.
     Events,
-    /// The same in a column for each task, which are so many bytes wide together.
+    /// A line for each beginning, step and answer, in a column for each task. The columns are so many bytes wide together.
     Columns { width: usize },
     /// A record for each, as a line of JSON.
     Json,

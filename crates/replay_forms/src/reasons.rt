@@ -224,7 +224,7 @@ impl Reason {
         }
     }
 
-    /// The same with named values.
+    /// Returns the reason as a term with named values.
     pub(crate) fn term(self) -> Term {
         match self {
             Reason::UnderWay(op) => Term::new("under way").word("call", call_term(op).name),

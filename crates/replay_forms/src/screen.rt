@@ -20,7 +20,7 @@ use transcripts::session::{EVENTS, JudgedStep};
 /// How many tasks a number can tell.
 const TASKS: usize = 256;
 
-/// What was seen of a task that its next step is told by.
+/// What was seen of a task that its next step is printed by.
 #[derive(Clone, Copy)]
 struct Seen {
     /// The call that is under way.
@@ -187,7 +187,7 @@ impl Screen {
         }
     }
 
-    /// Goes on to the reply, to the first event that has to wait, or to the last event that one line may do.
+    /// Goes on to the reply, to the first step that has to wait, or to the last step that one line may do.
     fn run<D: Driver>(&mut self, session: &mut Session<D>, task: u8, failure: Option<HookFailure>) {
         for _ in 0..EVENTS {
             let hook = session.hook_answer(task, failure);
@@ -198,7 +198,7 @@ impl Screen {
         self.show(task, Happening::GoesOn);
     }
 
-    /// Does one event and shows it, also one whose action the model forbids, and the reply, if the operation has ended; says how it stands.
+    /// Does one step and prints it, also one whose action the model forbids, and the reply, if the operation has ended; says how it stands.
     fn step<D: Driver>(
         &mut self,
         session: &mut Session<D>,
@@ -229,7 +229,7 @@ impl Screen {
         }
     }
 
-    /// Shows the event of a step, and for whom it waits.
+    /// Prints the event of a step, and for whom it waits.
     fn show_step<D: Driver>(&mut self, session: &Session<D>, task: u8, event: Event, step: Step) {
         let seen = &mut self.seen[usize::from(task)];
         if let WordName::Block(level) = event.word {

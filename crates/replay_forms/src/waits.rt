@@ -24,9 +24,9 @@ pub(crate) struct Wait {
 }
 
 impl Wait {
-    /// What an event waits for that reports so. A lock has its owner's number, and 1, in it; HOLD is set by the owner of `umount`; a section
-    /// is its task's; and a sum of a level counts whoever is inside. A start has found its level's block set three events before, and this
-    /// event is the end of its own section.
+    /// What a step waits for that reports so. A lock has its owner's number, and 1, in it; HOLD is set by the owner of `umount`; a section
+    /// is its task's; and a sum of a level counts whoever is inside. A start has found its level's block set three steps before, and this
+    /// step is the end of its own section.
     pub(crate) fn of<D: Driver>(session: &Session<D>, task: u8, event: Event, block: u8) -> Wait {
         let culprit = match event.word {
             WordName::Umount => owner(event.found),

@@ -1,4 +1,4 @@
--- How words, events, actions and replies are printed.
+-- How words, steps, actions and replies are printed.
 use Rattle.std.specs.Prelude.{ℕ, Bool, true, false, List, [], ◌++◌, codes, decimal, Option, Some, None, Result, Ok, Err}
 use Rattle.access_model.specs.{Errors.{number_of, name_of}, declared.actions.Action.{Action}}
 use Rattle.access_model.specs.declared.actions.Action.TheVariants.{Grant, Return, MountRo, MountRw, SbRo, SbRw, Stage, Hold, Leave, Pass, Reopen, Create, Remove, Grow, MoveTo, Dirty, Clean, Open, Close}
@@ -40,7 +40,7 @@ word_text (Kids node) = numbered (codes "kids") node
 unfoldable pub word_line : WordName → ℕ → List ℕ
 word_line name value = word_text name ++ numbered (codes " ") value ++ codes "\n"
 
--- the kind of an event, between its task and its word
+-- the kind of a step, between its task and its word
 abbrev pub kind_text : Touch → List ℕ
 kind_text Load = codes " load "
 kind_text (Store value) = codes " store "
@@ -51,12 +51,12 @@ kind_text (And bits) = codes " and "
 kind_text (Swap value) = codes " swap "
 kind_text (Cas expect put) = codes " cas "
 
--- the values that are printed of an event: a store's one, and what every other event found and left
+-- the values that are printed of a step: a store's one, and what every other step found and left
 abbrev pub values_text : Touch → ℕ → ℕ → List ℕ
 values_text (Store value) found left = numbered (codes " ") value
 values_text _ found left = numbered (codes " ") found ++ numbered (codes " ") left
 
--- an event of a task: its task, its kind, its word and its values
+-- a step of a task: its task, its kind, its word and its values
 unfoldable pub event_text : ℕ → Event → List ℕ
 event_text task event =
     decimal task ++ kind_text event.touch ++ word_text event.word ++ values_text event.touch event.found event.left
@@ -110,17 +110,17 @@ action_text (Clean node) = numbered (codes "clean ") node
 action_text (Open node) = numbered (codes "open ") node
 action_text (Close node) = numbered (codes "close ") node
 
--- the action that an event added, after a space
+-- the action that a step added, after a space
 abbrev pub added_text : Option Action → List ℕ
 added_text None = []
 added_text (Some action) = codes " " ++ action_text action
 
--- how the line of an event ends
+-- how the line of a step ends
 abbrev pub ending : Bool → List ℕ
 ending true = codes " waiting\n"
 ending false = codes "\n"
 
--- an event of a task, with the action that it added, on a line of its own
+-- a step of a task, with the action that it added, on a line of its own
 unfoldable pub event_line : ℕ → Event → Option Action → Bool → List ℕ
 event_line task event action waiting = event_text task event ++ added_text action ++ ending waiting
 

@@ -35,7 +35,7 @@ is_hook Reconfigure Reconfigure = true
 is_hook KeepWaiting KeepWaiting = true
 is_hook hook other = false
 
--- what a hook answers that an event asks, where one fails and all others answer Ok; Ok where the event asks none
+-- what a hook answers that a step asks, where one fails and all others answer Ok; Ok where the step asks none
 abbrev pub failing_answer : HookFailure → Option HookKind → HookAnswer
 failing_answer failure None = Ok tt
 failing_answer failure (Some hook) = if is_hook hook failure.hook then Err failure.code else Ok tt

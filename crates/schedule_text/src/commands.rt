@@ -20,7 +20,7 @@ pub struct HookFailure {
 pub enum TaskCommand {
     /// To begin an operation.
     Begin(Op),
-    /// To do one event, where a hook answers this.
+    /// To do one step, where a hook answers this.
     Step { hook: Result<(), u16> },
     /// To go on to the reply, where one hook may fail and all others answer Ok.
     Run { failure: Option<HookFailure> },
@@ -53,7 +53,7 @@ pub enum Line {
 impl HookFailure {
     ghost use Rattle.schedule_text.specs.Commands.{failing_answer};
 
-    /// What a hook answers that an event asks, where this one fails and all others answer Ok; Ok where the event asks none.
+    /// What a hook answers that a step asks, where this one fails and all others answer Ok; Ok where the step asks none.
     pub fn answer(self, asked: Option<HookKind>) -> Result<(), u16>
         ensures { result ≡ failing_answer self asked }
     {

@@ -383,7 +383,7 @@ fn number_at(text: &[u8]) -> Result<u32, Fault>
     number_of(first_word(text)).ok_or(Fault::BadNumber)
 }
 
-/// The same, as it is handed to a call that takes a `u8`.
+/// The number that comes first, as it is handed to a call that takes a `u8`.
 #[tactic(auto, unfolding(crate::specs::Parsing::byte_at))]
 fn byte_at(text: &[u8]) -> Result<u8, Fault>
     ensures { result ≡ byte_at text.now }
@@ -416,7 +416,7 @@ fn holder_at(text: &[u8]) -> Result<Holder, Fault>
     holder_named(first_word(text)).ok_or(Fault::BadWord)
 }
 
-/// The same on a line of so many words, which may leave it out: then it is user space.
+/// The holder on a line of so many words, which may leave it out: then it is user space.
 #[tactic(auto, unfolding(crate::specs::Parsing::holder_given))]
 fn holder_given(rest: &[u8], words: usize) -> Result<Holder, Fault>
     ensures { result ≡ holder_given rest.now words }

@@ -9,7 +9,7 @@ use Rattle.vfs_gates.specs.{Runs.{Called, Performs}, TaskStates.{SeatedTask, own
 use Rattle.vfs_gates.proofs.{Grown.{same_stays_seen, stays_seen_on}, Returning.{was_done}}
 use Rattle.vfs_gates.proofs.several_tasks.{Beside.{met_stays, second_has}, FrozenUntilThawed.{some_number, some_ran}, Keeping.{remount_busy}, Moving.{joined_second, split_keeps}}
 
--- A call after a meeting, and a later world.
+-- A call after a meeting, and a later state.
 encloses_by : (one two begins beside left : SeatedTask) (after : DealtNumbers) (last_seen : List (List Entry)) → Meets one two begins beside →
     HaveHistory begins.config after last_seen → StaySeen left.seen last_seen → Encloses (one.items ++ two.items) after begins left
 encloses_by one two begins beside left after last_seen meets last sees =

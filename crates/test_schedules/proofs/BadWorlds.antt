@@ -1,4 +1,4 @@
--- Worlds and refusals that no schedule has, of which a clause says so: a wrong order of events, or a weaker rule, would have them.
+-- States and refusals that no execution has, of which a clause says so: a wrong order of steps, or a weaker rule, would have them.
 use Rattle.std.{proofs.Common.{◌≡◌, ℕ, zero, suc, ◌+◌, ◌%◌, ◌≤◌, true, refl, arith, sym, true≢false}, specs.Prelude.{Some, Ok, Err, [], ◌∷◌}}
 use Rattle.finite_sums.specs.Sums.{total}
 use Rattle.access_model.specs.declared.{actions.Holder.Holder, errors.GateError.GateError, replies.Reply.Reply}
@@ -137,6 +137,6 @@ early_zero = record {
 early_zero_never : Holds small early_zero Stages → ⊥
 early_zero_never h = omega (arith, h.knows 0 (omega arith))
 
--- a change that is refused as busy where nothing is counted, by whatever event, be it its first
+-- a change that is refused as busy where nothing is counted, by whatever step, be it its first
 early_never : (x : Change) → HasCause small 0 (opening ∷ []) (Phase.Mounts (MountPhase.Change x)) GateError.Busy → ⊥
 early_never x h = true≢false (sym h)

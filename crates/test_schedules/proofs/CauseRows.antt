@@ -1,4 +1,4 @@
--- Worked schedules of refusals and their causes, by computing: in which worlds a cause may lie.
+-- Worked executions of refusals and their causes, by computing: in which states a cause may lie.
 use Rattle.std.{proofs.Common.{◌≡◌, true, false, List, [], ◌++◌, refl, arith}, specs.Prelude.{Ok, Err, ◌∷◌, length}}
 use Rattle.access_model.specs.declared.errors.GateError.{GateError}
 use Rattle.gate_world.specs.refusals.Causes.{trail_of, since_begun, last_question, moments_of_sum, was_counted, SomeWasCounted, WantRefused, ChangeRefused}
@@ -14,7 +14,7 @@ remounts_ends : (step_answer small (run small opening remounts) 1 (Ok tt)).progr
 unfolding lib.Count.count_trailing_zeros
 remounts_ends = refl
 
--- something was counted at the mount that it summed, in the worlds of its two loads
+-- something was counted at the mount that it summed, in the states of its two loads
 remounts_cause : SomeWasCounted small 1 (since_begun 1 (trail_of small remounts))
 unfolding lib.Count.count_trailing_zeros
 remounts_cause = (0, omega arith, (refl, (refl, tt)), refl)
@@ -23,14 +23,14 @@ remounts_cause = (0, omega arith, (refl, (refl, tt)), refl)
 abbrev begins : List Entry
 begins = Begins 0 (Op.Want 0 1 true) ∷ steps 5 0 ++ (Begins 1 (Op.ChangeMount 0 true true) ∷ steps 8 1) ++ (Begins 1 (Op.RemountSb true) ∷ [])
 
--- something was counted in the worlds of the change's sum, which are not the remount's: it has summed nothing
+-- something was counted in the states of the change's sum, which are not the remount's: it has summed nothing
 begins_before : was_counted small 0 (moments_of_sum 1 (trail_of small begins)) ≡ true
 begins_before = refl
 
 begins_none : moments_of_sum 1 (since_begun 1 (trail_of small begins)) ≡ []
 begins_none = refl
 
--- since it began there was one world
+-- since it began there was one state
 begins_since : length (since_begun 1 (trail_of small begins)) ≡ 1
 begins_since = refl
 

@@ -1,4 +1,4 @@
--- Worked schedules of a freeze that gives up, by computing: at level 1 and at level 2, what it leaves, and what goes on after it.
+-- Worked executions of a freeze that gives up, by computing: at level 1 and at level 2, what it leaves, and what goes on after it.
 use Rattle.std.proofs.Common.{◌≡◌, ℕ, Bool, true, false, true≢false, List, [], ◌∷◌, ◌++◌, length, refl, sym, ap, inl, inr, arith}
 use Rattle.std.{proofs.lemmas.Bool.eq-eqb, specs.Prelude.{Ok, Err, Some, ◌==◌, ◌&&◌, ◌||◌}}
 use Rattle.access_model.specs.declared.{actions.{Action.Action, Gate.Gate, Holder.Holder}, errors.GateError.GateError}

@@ -1,4 +1,4 @@
--- Worked schedules in which an operation is kept, by computing: what an idle task keeps, and what a frozen file system does.
+-- Worked executions in which an operation is kept, by computing: what an idle task keeps, and what a frozen file system does.
 use Rattle.std.{proofs.Common.{◌≡◌, true, List, [], ◌∷◌, ◌++◌, refl, arith}, specs.Prelude.Some}
 use Rattle.access_model.specs.declared.actions.{Holder.Holder, Kind.Kind}
 use Rattle.percpu_rwsem.specs.declared.readers.{DownRead.DownRead, DownReadStep.DownReadStep}
@@ -17,7 +17,7 @@ beside_idle = Begins 0 (Op.Start 1 0 true) ∷ steps 4 0 ++ (Begins 1 (Op.Freeze
 idle_keeps : AFreezeIsKept small (run small opening beside_idle)
 idle_keeps = (1, omega arith, _, refl, (1, omega arith, omega arith, (0, omega arith, refl, refl)))
 
--- a start that waits where all is frozen, after an event by which it found the level closed
+-- a start that waits where all is frozen, after a step by which it found the level closed
 abbrev behind_freeze : List Entry
 behind_freeze = freezes ++ (Begins 1 (Op.Start 1 0 true) ∷ steps 6 1)
 
@@ -44,7 +44,7 @@ last_close =
     (Begins 1 (Op.Open 1) ∷ steps 2 1 ++ (Begins 0 (Op.Remove 1) ∷ steps 4 0 ++ (Begins 0 (Op.DropWrite 0 0) ∷ steps 2 0 ++
     (Begins 0 (Op.Freeze Holder.User) ∷ steps 43 0 ++ (Begins 1 (Op.Close 1 0 true) ∷ []))))))
 
--- it is kept before its first event, by what it is to find, and goes inside the level as a start does
+-- it is kept before its first step, by what it is to find, and goes inside the level as a start does
 close_kept : CloseIsBlocked (run small opening last_close) (ClosePhase.LoadsFile record { file = 1; cpu = 0; task = 1; wait = true })
 close_kept = (refl, refl, refl)
 

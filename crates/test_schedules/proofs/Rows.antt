@@ -1,4 +1,4 @@
--- Worked schedules, by computing, on two processors and one mount.
+-- Worked executions, by computing, on two processors and one mount.
 use Rattle.std.{proofs.Common.{◌≡◌, true, List, [], ◌∷◌, ◌++◌, refl, false}, specs.Prelude.{Ok, Err}}
 use Rattle.access_model.specs.declared.{actions.{Action.Action, Gate.Gate, Holder.Holder}, errors.GateError.GateError, replies.Reply.Reply}
 use Rattle.gate_world.specs.{Worlds.{run, history, opening}, declared.operations.Op.Op}
@@ -42,7 +42,7 @@ contends_history = refl
 contends_flags : (run small opening (contends ++ steps 1 1)).words.flags 0 ≡ 0
 contends_flags = refl
 
--- write access: four events at level 1, and five at the mount; and its return on the other processor
+-- write access: four steps at level 1, and five at the mount; and its return on the other processor
 abbrev writes : List Entry
 writes = Begins 1 (Op.WantWrite 0 1) ∷ steps 9 1 ++ (Begins 1 (Op.DropWrite 0 0) ∷ steps 2 1)
 
@@ -63,7 +63,7 @@ writes_given_back = refl
 abbrev refuses : List Entry
 refuses = closes ++ (Begins 1 (Op.WantWrite 0 1) ∷ steps 9 1)
 
--- the last of its ten events refuses it
+-- the last of its ten steps refuses it
 refuses_ends : (step_answer small (run small opening refuses) 1 (Ok tt)).progress ≡ Progress.Done (Err GateError.ReadOnly)
 refuses_ends = refl
 
@@ -84,11 +84,11 @@ orders_idle = refl
 abbrev calls : List Entry
 calls = Begins 2 (Op.Callback 3) ∷ []
 
--- says so, by one event
+-- says so, by one step
 calls_none : (step_answer small (run small opening calls) 2 (Ok tt)).progress ≡ Progress.Done (Ok (Reply.Ran false))
 calls_none = refl
 
--- a freeze: five events under the lock, ten at each level, two and two between them, and three at the end
+-- a freeze: five steps under the lock, ten at each level, two and two between them, and three at the end
 abbrev pub freezes : List Entry
 freezes = Begins 0 (Op.Freeze Holder.User) ∷ steps 42 0
 
@@ -111,7 +111,7 @@ freezes_twice : (step_answer small (run small opening (freezes ++ (Begins 1 (Op.
     (Err GateError.Busy)
 freezes_twice = refl
 
--- and a start that doesn't wait is refused, by the last of its six events
+-- and a start that doesn't wait is refused, by the last of its six steps
 freezes_out : (step_answer small (run small opening (freezes ++ (Begins 1 (Op.Start 1 0 false) ∷ steps 5 1))) 1 (Ok tt)).progress ≡ Progress.Done
     (Err GateError.Again)
 freezes_out = refl
@@ -129,7 +129,7 @@ thaws_history = refl
 thaws_queued : (run small opening thaws).words.sync 1 ≡ 3
 thaws_queued = refl
 
--- the kernel freezes, and user space joins it, by five events: the lock, two loads, the store and the release
+-- the kernel freezes, and user space joins it, by five steps: the lock, two loads, the store and the release
 abbrev kernel_freezes : List Entry
 kernel_freezes = Begins 0 (Op.Freeze Holder.Kernel) ∷ steps 42 0
 

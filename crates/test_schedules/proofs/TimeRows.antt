@@ -1,4 +1,4 @@
--- Worked schedules in the order of time, by computing: what a schedule alone allows, and what one that goes on from all that was seen refuses.
+-- Worked executions in the order of time, by computing: what an execution alone allows, and what one that goes on from all that was seen refuses.
 use Rattle.std.{proofs.Common.{◌≡◌, ◌+◌, ◌*◌, ◌<◌, ℕ, zero, suc, true, false, List, [], ◌∷◌, ◌++◌, refl, sym, ap, ◌∙◌, arith}, specs.Prelude.{Ok, Err, Option, Some, None, slice_index}}
 use Rattle.std.proofs.lemmas.List.{append_assoc}
 use Rattle.access_model.specs.declared.{actions.Holder.Holder, errors.GateError.GateError}
@@ -16,13 +16,13 @@ use Rattle.gate_steps.specs.call_events.{Spans.{IsEventDuring, IsCausedDuring, I
 use Rattle.test_schedules.specs.Schedules.{small, steps}
 use Rattle.test_schedules.proofs.TreeRows.{freezes as frozen, snapshots}
 
--- whose entry stands at a place; past the end, nobody's, which 64 is
+-- whose transition stands at a place; past the end, nobody's, which 64 is
 abbrev task_at : List Entry → ℕ → ℕ
 task_at [] k = 64
 task_at (e ∷ es) zero = task_of e
 task_at (e ∷ es) (suc k) = task_at es k
 
--- an event of a call, whose task had seen a schedule, stands in one that goes on from it
+-- a step of a call, whose task had seen an execution, stands in one that goes on from it
 during_goes_on : (items : DealtNumbers) (op : Op) (earlier : List Traced) (e : Traced) (seen : List Entry) (left : List (List Entry))
     (during : IsEventDuring small items op earlier e (seen ∷ []) left) → IsPrefix seen during.entries
 during_goes_on items op earlier e seen left during =
@@ -41,7 +41,7 @@ refuses = closes ++ (Begins 1 (Op.Want 0 1 true) ∷ steps 4 1)
 refuses_ends : (step_answer small (run small opening refuses) 1 (Ok tt)).progress ≡ Progress.Done (Err GateError.ReadOnly)
 refuses_ends = refl
 
--- the cause is there, and of some schedule alone no more is said
+-- the cause is there, and of some execution alone no more is said
 refuses_cause : WantRefused small 1 0 (last_question 1 (since_begun 1 (trail_of small refuses))) GateError.ReadOnly
 refuses_cause = refl
 
@@ -49,7 +49,7 @@ abbrev phase_in : Option Phase → Phase
 phase_in None = Phase.Mounts (MountPhase.Drop 0 0)
 phase_in (Some phase) = phase
 
--- where the want stands then, its events so far, and its last one
+-- where the want stands then, its steps so far, and its last one
 abbrev stands : Phase
 stands = phase_in ((run small opening refuses).views 1).phase
 
@@ -93,7 +93,7 @@ reopens = closes ++ (Begins 0 (Op.ChangeMount 0 false true) ∷ steps 7 0)
 reopens_flags : (run small opening reopens).words.flags 0 ≡ 0
 reopens_flags = refl
 
--- whose task has seen that is not refused for what was before: that schedule does not go on from what it had seen
+-- whose task has seen that is not refused for what was before: that execution does not go on from what it had seen
 refuses_apart : IsPrefix reopens refuses → ⊥
 refuses_apart on = let no : 1 ≡ 0 = ap (λ (l : List Entry). task_at l 10) on.1 in omega (arith, no)
 
@@ -131,7 +131,7 @@ thawed_stage = refl
 thawed_never : IsPresentTree small (run small opening thawed).words loaded → ⊥
 thawed_never tree = omega (arith, tree.frozen)
 
--- and not by the schedule in which the snapshot came before it
+-- and not by the execution in which the snapshot came before it
 older_apart : IsPrefix thawed snapshots → ⊥
 older_apart on = let no : 2 ≡ 1 = ap (λ (l : List Entry). task_at l 67) on.1 in omega (arith, no)
 

@@ -1,4 +1,4 @@
--- Worked schedules of calls at the tree, by computing, on two processors and one mount.
+-- Worked executions of calls at the tree, by computing, on two processors and one mount.
 use Rattle.std.{proofs.Common.{◌≡◌, ◌+◌, ◌*◌, true, List, [], ◌∷◌, ◌++◌, refl}, specs.Prelude.{Ok, Err, Some}}
 use Rattle.access_model.specs.declared.{actions.{Action.Action, Gate.Gate, Holder.Holder, Kind.Kind}, errors.GateError.GateError, replies.Reply.Reply}
 use Rattle.gate_world.specs.{traces.Snapshots.values_noted, Worlds.{run, history, opening}, declared.operations.Op.Op}

@@ -1,4 +1,4 @@
--- Schedules that were written out by hand, on two processors and one mount.
+-- Executions that were written out by hand, on two processors and one mount.
 use Rattle.std.specs.Prelude.{ℕ, true, Ok, List, ◌∷◌, ◌++◌, replicate}
 use Rattle.gate_world.specs.declared.{config.Config.{Config}, operations.Op.TheVariants.{Want, DropMount}}
 use Rattle.gate_world.specs.declared.entries.Entry.{Entry, TheVariants.{Begins, Steps}}

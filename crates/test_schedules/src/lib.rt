@@ -1,4 +1,4 @@
-//! Worked schedules: what the definitions give for schedules that were written out by hand, by computing, and worlds that a clause of the
+//! Worked executions: what the definitions give for executions that were written out by hand, by computing, and states that a clause of the
 //! theorem refuses. They stand in proofs/.
 #![tactic(auto)]
 

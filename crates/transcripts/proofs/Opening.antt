@@ -24,7 +24,7 @@ pub answer_mapped : {A E F : Type 0} (r : Result A E) (s : Result A F) (x : A) (
 answer_mapped (Ok y) s x P Q h mapped same e = let is : y ≡ x = cc in subst P is h
 answer_mapped (Err y) s x P Q h mapped same e = absurd (false≢true (sym same ∙ ap is_ok e))
 
--- the session of an opening world and an opening model
+-- the session of an opening state and an opening model
 pub opens : {D : Type 0} (shows : D → Config → World → Type 0) (session : Session D) → IsWithin session.config →
     shows session.driver session.config opening →
     bounded_state_of session.model ≡ opened session.config.tasks session.config.mounts session.config.nodes session.config.capacity →

@@ -1,4 +1,4 @@
--- A play that some schedule leads to, one entry on.
+-- A play that some schedule leads to, one transition on.
 use Rattle.std.proofs.Common.{◌≡◌, ℕ, refl, sym, ap, subst, ◌∙◌, List, [], ◌∷◌, ◌++◌}
 use Rattle.std.specs.Prelude.{Bool, true, false, if◌then◌else◌, nat_lt, Option, Some, None}
 use Rattle.access_model.specs.{States.{State}, Actions.{IsAllowed}, Histories.{Done, end_of}, declared.actions.Action.{Action}}
@@ -10,18 +10,18 @@ use Rattle.gate_schedules.specs.{Answers.{step_answer, phase_step, idle_step}, d
 use Rattle.gate_schedules.proofs.schedules.HeadlineProof.{whole_run, whole_moves}
 use Rattle.transcripts.specs.{Transcript.{ReplayState, played}, Reached.{IsReached}}
 
--- a run of one entry more
+-- a run of one transition more
 run_more : (c : Config) (w : World) (es : List Entry) (e : Entry) → run c w (es ++ e ∷ []) ≡ happens c (run c w es) e
 run_more c w [] e = refl
 run_more c w (x ∷ es) e = run_more c (happens c w x) es e
 
--- the actions of one entry more
+-- the actions of one transition more
 history_more : (c : Config) (w : World) (earlier : List Done) (es : List Entry) (e : Entry) →
     history c w earlier (es ++ e ∷ []) ≡ with_action (task_of e) (action_of c (run c w es) e) (history c w earlier es)
 history_more c w earlier [] e = refl
 history_more c w earlier (x ∷ es) e = history_more c (happens c w x) (with_action (task_of x) (action_of c w x) earlier) es e
 
--- the play after an entry is reached where the play before it is
+-- the play after a transition is reached where the play before it is
 pub reached_more : (p : ReplayState) (e : Entry) → IsReached p → IsReached (played p e)
 reached_more p e h =
     let now = run p.config opening h.entries in
@@ -39,7 +39,7 @@ allowed_by : (c : Config) (s new s_new : State) (t : ℕ) (o : Option Action) (a
     IsAllowed (model_limits c) s t a
 allowed_by c s new s_new t o a h e = (subst (λ (x : Option Action). Moves c s t x new) e h).0
 
--- an action that an event adds is allowed in the state after the actions so far
+-- an action that a step adds is allowed in the state after the actions so far
 pub allowed : (p : ReplayState) (e : Entry) (a : Action) → IsReached p → action_of p.config p.world e ≡ Some a →
     IsAllowed (model_limits p.config) (end_of p.done) (task_of e) a
 allowed p e a h added =
@@ -61,7 +61,7 @@ cond_adds : (b : Bool) (s : Step) (o : Option Action) → s.action ≡ o → (if
 cond_adds true s o e = e
 cond_adds false s o e = refl
 
--- the action of a step is the one that its entry adds
+-- the action of a step is the one that its transition adds
 pub step_adds : (c : Config) (w : World) (t : ℕ) (hook : HookAnswer) → (step_answer c w t hook).action ≡ action_of c w (Steps t hook)
 step_adds c w t hook =
     let phase = (w.views t).phase in

@@ -1,4 +1,4 @@
--- A run, event by event.
+-- A run, step by step.
 use Rattle.std.proofs.Common.{◌≡◌, ℕ, ◌+◌, ◌-◌, ◌<◌, suc, refl, sym, ap, subst, ◌∙◌, arith, inl, inr, ◌⊎◌}
 use Rattle.std.specs.Prelude.{Bool, true, false, Option, Result}
 use Rattle.access_model.specs.declared.{errors.GateError.{GateError}, replies.Reply.{Reply}}
@@ -14,14 +14,14 @@ use Rattle.transcripts.specs.{Sessions.{ShowsPlay}, declared.session.Session.{Se
 abbrev IsLast : Progress → Type 0
 IsLast x = (x ≡ Waiting) ⊎ ((answer : Result Reply GateError) × (x ≡ Ended answer))
 
--- a run that is on its way, after so many events
+-- a run that is on its way, after so many steps
 pub record OnTheWay {D : Type 0} (shows : D → Config → World → Type 0) (session : Session D)
     (p : ReplayState) (t : ℕ) (failure : Option HookFailure) (events : ℕ) : Type 0 where
   pub now : ReplayState
   pub shown : ShowsPlay shows session now
   pub left : run_of p t failure ≡ run_from (1000 - events) now t failure
 
--- before its first event
+-- before its first step
 pub starts : {D : Type 0} {shows : D → Config → World → Type 0} (session : Session D) (p : ReplayState) (t : ℕ) (failure : Option HookFailure) →
     ShowsPlay shows session p → OnTheWay shows session p t failure 0
 unfolding run_of
@@ -37,7 +37,7 @@ module _ {D : Type 0} {shows : D → Config → World → Type 0} (session : Ses
   pub shows_in_run : (new : Session D) → ShowsPlay shows new (after_event way.now t hook) → ShowsPlay shows new (next_play way.now t failure)
   shows_in_run new h = subst (λ (a : HookAnswer). ShowsPlay shows new (after_event way.now t a)) same h
 
--- what a run comes to by an event that answers this, where so many more may follow
+-- what a run comes to by a step that answers this, where so many more may follow
 abbrev turn : ℕ → ReplayState → ℕ → Option HookFailure → Progress → Progress × ReplayState
 turn left q t failure x =
     elim x [
@@ -47,7 +47,7 @@ turn left q t failure x =
       | Ended answer ↦ (Ended answer, next_play q t failure)
     ]
 
--- one event more
+-- one step more
 one_turn : (p q : ReplayState) (t : ℕ) (failure : Option HookFailure) (events : ℕ) (x : Progress) → events < 1000 →
     run_of p t failure ≡ run_from (1000 - events) q t failure → x ≡ next_progress q t failure →
     run_of p t failure ≡ turn (1000 - (events + 1)) q t failure x
@@ -55,7 +55,7 @@ one_turn p q t failure events x lt left is =
     let e : 1000 - events ≡ suc (1000 - (events + 1)) = omega arith in
     left ∙ ap (λ (n : ℕ). run_from n q t failure) e ∙ ap (turn (1000 - (events + 1)) q t failure) (sym is)
 
--- an event after which the operation goes on
+-- a step after which the operation goes on
 pub goes_on : {D : Type 0} {shows : D → Config → World → Type 0} (session new : Session D) (p : ReplayState) (t : ℕ) (failure : Option HookFailure) (events : ℕ)
     (way : OnTheWay shows session p t failure events) → events < 1000 → Going ≡ next_progress way.now t failure →
     ShowsPlay shows new (next_play way.now t failure) → OnTheWay shows new p t failure (events + 1)
@@ -76,7 +76,7 @@ abbrev going_ends : Progress → Bool
 going_ends Going = false
 going_ends _ = true
 
--- the last event of a run
+-- the last step of a run
 last_turn : (left : ℕ) (q : ReplayState) (t : ℕ) (failure : Option HookFailure) (x : Progress) → going_ends x ≡ true →
     turn left q t failure x ≡ (x, next_play q t failure)
 last_turn left q t failure Idle a = refl

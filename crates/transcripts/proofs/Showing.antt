@@ -1,4 +1,4 @@
--- Sessions after an entry: they show the play after it.
+-- Sessions after a transition: they show the play after it.
 use Rattle.std.proofs.Common.{◌≡◌, ℕ, sym, ap, subst, ◌∙◌, List}
 use Rattle.std.specs.Prelude.{Option, Some, None, Result, Ok, Err, OnOk, IsOk}
 use Rattle.access_model.specs.{States.{BoundedState}, Actions.{IsAllowed}, Histories.{Done, end_of}, declared.actions.Action.{Action}}
@@ -13,25 +13,25 @@ use Rattle.schedule_lines.specs.declared.faults.Fault.{Fault}
 use Rattle.transcripts.specs.{Transcript.{ReplayState, played, after_event}, Sessions.{ShowsPlay}, declared.session.Session.{Session}}
 use Rattle.transcripts.proofs.Playing.{reached_more, allowed, step_adds}
 
--- the model after these actions, with one more where an entry adds one
+-- the model after these actions, with one more where a transition adds one
 abbrev model_after : Config → List Done → ℕ → Option Action → BoundedState
 model_after c done t o = record { limits = model_limits c; state = end_of (with_action t o done) }
 
--- the gates after an entry show the world after it
+-- the gates after a transition show the state after it
 abbrev DriverAfter : {D : Type 0} → (D → Config → World → Type 0) → Session D → Session D → Entry → Type 0
 DriverAfter shows old new e = (c : Config) (w : World) → shows old.driver c w → shows new.driver c (happens c w e)
 
--- the gates answer a step by what their world says
+-- the gates answer a step by what their state says
 abbrev StepAnswers : {D : Type 0} → (D → Config → World → Type 0) → Session D → ℕ → HookAnswer → Step → Type 0
 StepAnswers shows old t hook r = (c : Config) (w : World) → shows old.driver c w → r ≡ step_answer c w t hook
 
--- the model after an entry that adds this
+-- the model after a transition that adds this
 model_of : (s : BoundedState) (c : Config) (done : List Done) (t : ℕ) (o : Option Action) → s ≡ model_after c done t o →
     (o_is : Option Action) → o ≡ o_is → s ≡ model_after c done t o_is
 model_of s c done t o h o_is e = subst (λ (x : Option Action). s ≡ model_after c done t x) e h
 
 module _ {D : Type 0} {shows : D → Config → World → Type 0} where
-  -- a session whose gates and model made an entry shows the play after it
+  -- a session whose gates and model made a transition shows the play after it
   moved : (old new : Session D) (p : ReplayState) (e : Entry) → ShowsPlay shows old p → new.config ≡ old.config → DriverAfter shows old new e →
       bounded_state_of new.model ≡ model_after p.config p.done (task_of e) (action_of p.config p.world e) → ShowsPlay shows new (played p e)
   moved old new p e h same after model = record {

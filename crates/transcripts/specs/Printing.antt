@@ -19,13 +19,13 @@ reply_after task Going used = []
 reply_after task Waiting used = []
 reply_after task (Done answer) used = answer_line task answer used
 
--- an event with its reply, where there is one; or that there was none, as the task is idle
+-- a step with its reply, where there is one; or that there was none, as the task is idle
 abbrev pub event_and_reply : ℕ → Option Event → Option Action → Progress → ℕ → List ℕ
 event_and_reply task None action progress used = idle_line task
 event_and_reply task (Some event) action progress used =
     event_line task event action (is_waiting progress) ++ reply_after task progress used
 
--- the line of a step's event, and the reply where there is one
+-- the line of a step, and the reply where there is one
 unfoldable pub step_text : ℕ → Step → ℕ → List ℕ
 step_text task step used = event_and_reply task step.event step.action step.progress used
 

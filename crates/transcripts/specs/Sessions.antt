@@ -5,11 +5,11 @@ use Rattle.access_model.specs.Histories.{end_of}
 use Rattle.gate_world.specs.{Configs.{model_limits}, Worlds.{World}, declared.config.Config.{Config}}
 use Rattle.transcripts.specs.{Reached.{IsReached}, Transcript.{ReplayState}, declared.session.Session.{Session}}
 
--- what gates of this type show of a world
+-- what gates of this type show of a state
 abbrev pub Showing : Type 0 → Type 1
 Showing D = D → Config → World → Type 0
 
--- The session shows this play: its gates show its world, by what they show, the model is where the actions so far lead, and some schedule leads there.
+-- The session shows this play: its gates show its state, by what they show, the model is where the actions so far lead, and some schedule leads there.
 pub record ShowsPlay {D : Type 0} (shows : Showing D) (session : Session D) (p : ReplayState) : Type 0 where
   pub config : session.config ≡ p.config
   pub driver : shows session.driver p.config p.world

@@ -1,5 +1,5 @@
--- Transcripts: the bytes that a text of lines prints, and the fault at which it ends, if any. The gates are those of the headline: the
--- same worlds, moved by the same entries.
+-- Transcripts: the bytes that a text of lines prints, and the fault at which it ends, if any. The gates are those of the theorem: the
+-- same states, moved by the same transitions.
 use Rattle.std.specs.Prelude.{ℕ, zero, suc, ◌+◌, ◌==◌, Bool, true, false, if◌then◌else◌, Option, Some, None, Result, Ok, Err, List, [], ◌∷◌, ◌++◌, map, take, drop}
 use Rattle.std.specs.List.{flat_map}
 use Rattle.access_model.specs.{Holders.{held_by}, declared.actions.{Holder.{Holder, TheVariants.{Kernel, User}}, NodeInfo.{NodeInfo}}}
@@ -20,7 +20,7 @@ use Rattle.schedule_lines.specs.{declared.lines.Front.TheVariants.{Line as Whole
 use Rattle.schedule_lines.specs.Printing.{word_line, refused_line, model_line, holder_line, read_only_mount_line, held_mount_line, held_level_line, open_file_line, node_line}
 use Rattle.transcripts.specs.{Printing.{step_text, ended_text}, Limits.{is_config}}
 
--- a schedule on its way: its configuration, the world, and the actions that its events added so far, the newest first
+-- a schedule on its way: its configuration, the state, and the actions that its steps added so far, the newest first
 pub record ReplayState : Type 0 where
   pub config : Config
   pub world : World
@@ -30,7 +30,7 @@ pub record ReplayState : Type 0 where
 abbrev pub opening_play : Config → ReplayState
 opening_play c = record { config = c; world = opening; done = [] }
 
--- the play after an entry of its schedule: the same that the headline says of
+-- the play after a transition of its schedule: the same that the theorem says of
 abbrev pub played : ReplayState → Entry → ReplayState
 played p e = record p { world = happens p.config p.world e; done = with_action (task_of e) (action_of p.config p.world e) p.done }
 
@@ -167,24 +167,24 @@ abbrev pub begin_text : ℕ → Result (Unit {0}) GateError → List ℕ
 begin_text t (Ok done) = []
 begin_text t (Err refusal) = refused_line t refusal
 
--- the play after an event of this task, of which a hook that it asks answers this
+-- the play after a step of this task, of which a hook that it asks answers this
 abbrev pub after_event : ReplayState → ℕ → HookAnswer → ReplayState
 after_event p t hook = played p (Steps t hook)
 
--- what the hook answers that the next event of this task asks, where one may fail and all others answer Ok
+-- what the hook answers that the next step of this task asks, where one may fail and all others answer Ok
 abbrev pub hook_answer : ReplayState → ℕ → Option HookFailure → HookAnswer
 hook_answer p t None = Ok tt
 hook_answer p t (Some failure) = failing_answer failure (wanted_hook p.config p.world t)
 
--- how this task's operation stands after its next event in a run where this hook may fail
+-- how this task's operation stands after its next step in a run where this hook may fail
 abbrev pub next_progress : ReplayState → ℕ → Option HookFailure → Progress
 next_progress p t failure = (step_answer p.config p.world t (hook_answer p t failure)).progress
 
--- the play after that event
+-- the play after that step
 abbrev pub next_play : ReplayState → ℕ → Option HookFailure → ReplayState
 next_play p t failure = after_event p t (hook_answer p t failure)
 
--- so many events, up to the reply or the first event that has to wait
+-- so many steps, up to the reply or the first step that has to wait
 abbrev pub run_from : ℕ → ReplayState → ℕ → Option HookFailure → Progress × ReplayState
 run_from zero p t failure = (Going, p)
 run_from (suc left) p t failure =
@@ -195,7 +195,7 @@ run_from (suc left) p t failure =
       | Ended answer ↦ (Ended answer, next_play p t failure)
     ]
 
--- a run: 1,000 events at most, where this hook may fail and all others answer Ok
+-- a run: 1,000 steps at most, where this hook may fail and all others answer Ok
 unfoldable pub run_of : ReplayState → ℕ → Option HookFailure → Progress × ReplayState
 run_of p t failure = run_from 1000 p t failure
 

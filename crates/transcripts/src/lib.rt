@@ -1,5 +1,5 @@
-//! What a replay prints: the bytes that the lines of a schedule print, and the fault at which it ends, as a definition over the worlds of
-//! the headline; and the session that prints it: the gates of a schedule, whichever they are, and the model beside them.
+//! What a replay prints: the bytes that the lines of a schedule print, and the fault at which it ends, as a definition over the states of
+//! the theorem; and the session that prints it: the gates of a schedule, whichever they are, and the model beside them.
 #![tactic(auto)]
 
 pub mod printing;

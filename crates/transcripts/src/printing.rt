@@ -7,7 +7,7 @@ ghost use Rattle.transcripts.specs.Printing.{step_text, reply_after, ended_text,
 use gate_schedules::{Progress, Step};
 use schedule_text::Output;
 
-/// The event, and then the reply where there is one; or that the task is idle. `used` is the blocks charged now.
+/// The step, and then the reply where there is one; or that the task is idle. `used` is the blocks charged now.
 #[tactic(auto, unfolding(crate::specs::Printing::step_text))]
 pub fn print_step(out: &mut Output, task: u8, step: Step, used: u64)
     ensures { Prints out.old out.new (step_text task step used) }

@@ -14,10 +14,10 @@ use model_state::Model;
 use schedule_text::{Fault, HookFailure, Output, Request, TaskCommand};
 use std::alloc::{AllocError, Global};
 
-/// How many events a line `run` does at most.
+/// How many steps a line `run` does at most.
 pub const EVENTS: u16 = 1_000;
 
-/// The gates, moved event by event, and the model, moved by the actions that the events add.
+/// The gates, moved step by step, and the model, moved by the actions that the steps add.
 #[derive(Drop)]
 pub struct Session<D> {
     config: Config,
@@ -25,7 +25,7 @@ pub struct Session<D> {
     model: Model,
 }
 
-/// How far a `run` came: how many events it did, and how the operation stands after the last one.
+/// How far a `run` came: how many steps it did, and how the operation stands after the last one.
 #[derive(Clone, Copy)]
 pub struct Ran {
     pub events: u16,
@@ -185,11 +185,11 @@ impl<D: Driver> Session<D> {
         self.driver.begin(task, op)
     }
 
-    /// Does one event, and the action that it adds.
+    /// Does one step, and the action that it adds.
     ///
     /// # Errors
     ///
-    /// Invalid, if the model doesn't allow the action. Gates that are known to show a world add no such action.
+    /// Invalid, if the model doesn't allow the action. Gates that are known to show a state add no such action.
     pub fn step(&mut self, task: u8, hook: Result<(), u16>) -> Result<Step, Fault>
         ensures answer { (p : ReplayState) → ShowsPlay D.shows self.old p → result ≡ Ok (step_answer p.config p.world task hook) }
         ensures shows { (p : ReplayState) → ShowsPlay D.shows self.old p → ShowsPlay D.shows self.new (played p (Steps task hook)) }
@@ -203,8 +203,8 @@ impl<D: Driver> Session<D> {
         }
     }
 
-    /// Does one event, and the action that it adds, if the model allows it. Else the model stays as it was, and the gates have done the event
-    /// all the same: so a build that isn't proved can be looked at behind its first wrong step. Gates that are known to show a world add no
+    /// Does one step, and the action that it adds, if the model allows it. Else the model stays as it was, and the gates have done the step
+    /// all the same: so a build that isn't proved can be looked at behind its first wrong step. Gates that are known to show a state add no
     /// such action.
     #[inline(always)]
     pub fn step_judged(&mut self, task: u8, hook: Result<(), u16>) -> JudgedStep
@@ -220,11 +220,11 @@ impl<D: Driver> Session<D> {
         JudgedStep { step, is_allowed }
     }
 
-    /// Does one event, and the action that it adds. Returns only how the operation stands then, so that a run copies no event.
+    /// Does one step, and the action that it adds. Returns only how the operation stands then, so that a run copies no step.
     ///
     /// # Errors
     ///
-    /// Invalid, if the model doesn't allow the action. Gates that are known to show a world add no such action.
+    /// Invalid, if the model doesn't allow the action. Gates that are known to show a state add no such action.
     #[inline(always)]
     fn advance(&mut self, task: u8, hook: Result<(), u16>) -> Result<Progress, Fault>
         ensures answer { (p : ReplayState) → ShowsPlay D.shows self.old p → result ≡ Ok (step_answer p.config p.world task hook).progress }
@@ -239,7 +239,7 @@ impl<D: Driver> Session<D> {
         }
     }
 
-    /// Goes on to the reply, or to the first event that finds that the task has to wait, or to the last event that one line
+    /// Goes on to the reply, or to the first step that finds that the task has to wait, or to the last step that one line
     /// may do. A hook may fail; all others answer Ok.
     fn run(&mut self, task: u8, failure: Option<HookFailure>) -> Result<Ran, Fault>
         ensures few { IfOk result (λ ran. ran.events ≤ 1000) }
@@ -267,7 +267,7 @@ impl<D: Driver> Session<D> {
         })
     }
 
-    /// What the hook answers that the next event of a task asks, where one may fail and all others answer Ok.
+    /// What the hook answers that the next step of a task asks, where one may fail and all others answer Ok.
     pub fn hook_answer(&self, task: u8, failure: Option<HookFailure>) -> Result<(), u16>
         ensures { (p : ReplayState) → ShowsPlay D.shows self.now p → result ≡ hook_answer p task failure }
     {

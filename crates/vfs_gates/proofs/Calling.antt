@@ -1,4 +1,4 @@
--- A call that begins an operation and does its events on what the task keeps, and what it writes down at the end.
+-- A call that begins an operation and does its steps on what the task keeps, and what it writes down at the end.
 use Rattle.gate_steps.specs.declared.seating.Knowledge.{Knowledge}
 use Rattle.gate_steps.specs.call_events.{Answers.unless_refused, Asking.{OpUnderWayWith, CalledAsking}, Runs.{OpUnderWay, Called}, TaskState.TaskState}
 use Rattle.gate_steps.specs.declared.seating.Numbered.{Numbered}
@@ -74,7 +74,7 @@ call_with op task gates start start_is from ghost_agrees answer answer_is grante
 abbrev pub items_of : Call → DealtNumbers
 items_of call = call.task.seat.me.0.items
 
--- What comes after the last event of a call that has done some, and what it has left of the accesses and the numbers. Before that event so
+-- What comes after the last step of a call that has done some, and what it has left of the accesses and the numbers. Before that step so
 -- many came to a wait.
 pub record Left (call : Call) : Type 0 where
   pub next : Next Phase
@@ -92,7 +92,7 @@ goes_on op start now (Go q) phase is waits went = went.0
 goes_on op start now (Wait q) phase is waits went = went.0
 goes_on op start now (Done answer) phase is waits went = absurd (let f : ⊥ = cc in f)
 
--- before the first event
+-- before the first step
 module _ (call : Call) where
   -- the task's own number
   abbrev number : ℕ
@@ -197,11 +197,11 @@ module _ (call : Call) where
       call.task.seat.me.0) ∙
       ap (λ (s : SeatedTask). record s { begins = Some op; phase = Some (first_phase s.config (own_number s.items) op) }) call.start_is
 
-  -- as the first event finds them
+  -- as the first step finds them
   pub after_begin : GhostAgrees number call.gates (Some op) (state_at (Some call.first) state.accesses) flags (items_of call)
   after_begin = subst (λ (d : Config). GhostAgrees number d (Some op) (state_at (Some call.first) state.accesses) flags (items_of call)) same begun
 
-  -- so the first event may be done
+  -- so the first step may be done
   pub is_agrees : StateAgrees call.gates (Some op) (Some call.first) state.accesses (items_of call)
   is_agrees = record { number = number; flags = flags; ghost_agrees = after_begin }
 
@@ -214,9 +214,9 @@ module _ (call : Call) where
   pub has_begun : OpUnderWay op call.start (task_state call.task.seat.table_id call.gates (Some op) (Some call.first) call.task.seat.me.0)
   has_begun = has_asked_none.0
 
-  -- after the last event, as it is written down
+  -- after the last step, as it is written down
   module _ (left : Left call) where
-    -- the state that the last event left
+    -- the state that the last step left
     abbrev found : SeatedTask
     found = task_state left.table call.gates None (phase_after left.next) left.known
 

@@ -1,4 +1,4 @@
--- The world of gates that are closed.
+-- The state of gates that are closed.
 use Rattle.gate_steps.specs.{declared.seating.Knowledge.{Knowledge}, Rules.{TableShows, first_items}}
 use Rattle.gate_steps.specs.{Seating.{DealtNumbers, numbered, times, view_in, deal}, Tables.{IsClosing}}
 use Rattle.gate_steps.specs.{call_events.GhostAgrees.{IsStill, AllRest}, Histories.{IsReached}}
@@ -32,7 +32,7 @@ dealt_view n from zero = refl
 dealt_view n from (suc k) = by_bool (eqb from n) (λ b. cond b opening_view (view_in n (deal (suc from) k)) ≡ opening_view) refl
     (dealt_view n (suc from) k)
 
--- so gates that are closed with the first task, which knows that no number has had an event, have all words as they begin
+-- so gates that are closed with the first task, which knows that no number has had a step, have all words as they begin
 pub opens_so : (c : Config) → HasOpeningWords c (first_items c)
 opens_so c ws seen e =
     let w : World = e.ended.world in

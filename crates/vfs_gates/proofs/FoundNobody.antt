@@ -68,7 +68,7 @@ both_none_wait : (asks : List Ask) → AskedBothOrNone asks → NoneWaits asks
 both_none_wait asks (inl both) = subst NoneWaits (sym both.2) (tt, (tt, tt))
 both_none_wait asks (inr none) = subst NoneWaits (sym none) tt
 
--- Where a freeze has found somebody, its next event reads whether to wait.
+-- Where a freeze has found somebody, its next step reads whether to wait.
 step_asks : (phase : Phase) (step : FreezeStep) → WaitsInside step →
     option_map (call_of phase) (freeze_hook step) ≡ Some (call_of phase KeepWaiting)
 step_asks phase (Waits d) is = refl
@@ -93,7 +93,7 @@ module _ (c : Config) (op : Op) (items : DealtNumbers) where
   abbrev comes : List Traced → Next Phase
   comes trace = (state_of_trace c (own_number items) op trace).comes
 
-  -- an operation that has found somebody after these events, and went on with others, has asked
+  -- an operation that has found somebody after these steps, and went on with others, has asked
   went_on : (e : Traced) (later earlier : List Traced) → NoneWaits (asks_of c op items (e ∷ (later ++ earlier))) →
       HasFoundSomebody (comes earlier) → ⊥
   went_on e [] earlier none is =

@@ -87,7 +87,7 @@ adds_free (Create d kind) (NodeReply n) trace none = (refl, tt)
 adds_free (Create d kind) reply trace none = tt
 adds_free op reply trace none = search refl
 
--- a task with no number of its own has no event
+-- a task with no number of its own has no step
 pub no_move : (c : Config) (op : Op) (earlier : List Traced) (e : Traced) (seen gone : List (List Entry)) (s : Next Phase) →
     IsNextMove c op [] earlier e seen gone s → ⊥
 no_move c op [] e seen gone (Go phase) h = h.2

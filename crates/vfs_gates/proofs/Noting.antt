@@ -1,4 +1,4 @@
--- The room for snapshots follows an event of a snapshot: what the event has loaded is noted there.
+-- The room for snapshots follows a step of a snapshot: what the step has loaded is noted there.
 use Rattle.std.proofs.Common.{◌≡◌, ℕ, zero, suc, ◌+◌, ◌≤◌, refl, sym, ap, ◌∙◌, subst, arith, Bool, add-one, inl, inr}
 use Rattle.std.proofs.lemmas.{List.{length-replicate, length-set, take-set, take_all}, Bool.{cases_Bool, Decides.{nat_tests}}}
 use Rattle.std.proofs.lemmas.Grind.{common_steps}
@@ -21,7 +21,7 @@ use Rattle.gate_steps.specs.{Seating.{DealtNumbers, done_by, items_after}, decla
 use Rattle.vfs_gates.specs.Buffers.{BufferWords, BuffersMatch, HasNodes, IsSized, LastTells, NextTells, StepTells, after_noting, completed, noted_in, trace_so_far, with_words}
 use Rattle.vfs_gates.specs.TaskStates.{own_view}
 
--- what an event adds to the own view: itself, and the snapshot that it completes
+-- what a step adds to the own view: itself, and the snapshot that it completes
 trace_after : (begins : Option Op) (phase : Phase) (hook : HookAnswer) (found : ℕ) (x : Numbered) (xs : DealtNumbers) →
     (own_view (items_after begins phase hook found (x ∷ xs))).trace ≡
     record { event = event_of (next_of phase hook).0 (next_of phase hook).1 found; hook = hook } ∷ trace_so_far begins x.view
@@ -97,7 +97,7 @@ module _ (r : BufferWords) (nodes : ℕ) (begins : Option Op) (hook : HookAnswer
   abbrev trace_at : Taking → List Traced
   trace_at s = record { event = event_at s; hook = hook } ∷ trace_so_far begins x.view
 
-  -- what has been loaded before, and the room after the event where the snapshot goes on
+  -- what has been loaded before, and the room after the step where the snapshot goes on
   abbrev before : TreeWords
   before = loads_noted nodes (trace_so_far begins x.view)
 
@@ -167,7 +167,7 @@ module _ (r : BufferWords) (nodes : ℕ) (begins : Option Op) (hook : HookAnswer
             (sym (trace_after begins (Trees (Snapshots s)) hook found x xs)) (refl, tt);
       }
 
-  -- each of its events
+  -- each of its steps
   follows_sized : (wait : Bool) (task : ℕ) (step : SnapshotStep) →
       BuffersMatch nodes r begins (Some (Trees (Snapshots (taking wait task step)))) (x ∷ xs) →
       Matches (taking wait task step) (after_noting (taking wait task step) (event_at (taking wait task step)) r) (comes_at (taking wait task step))
@@ -204,7 +204,7 @@ module _ (r : BufferWords) (nodes : ℕ) (begins : Option Op) (hook : HookAnswer
       Matches (record s { nodes = n }) (after_noting (record s { nodes = n }) (event_at (record s { nodes = n })) r) (comes_at (record s { nodes = n })))
       (sym h.next.0) (follows_sized s.wait s.task s.step) h
 
--- so it follows what was noted of an event
+-- so it follows what was noted of a step
 follows_at : (r : BufferWords) (s : Taking) (event : Event) (nodes : ℕ) (begins : Option Op) (hook : HookAnswer) (found : ℕ) (items : DealtNumbers) →
     1 ≤ length items → event ≡ event_of (next_of (Trees (Snapshots s)) hook).0 (next_of (Trees (Snapshots s)) hook).1 found →
     BuffersMatch nodes r begins (Some (Trees (Snapshots s))) items →

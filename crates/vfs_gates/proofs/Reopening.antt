@@ -57,7 +57,7 @@ module _ (c : Config) (t m : ℕ) where
       subst (λ p. Opens c t m (after_of p e.event.found e.hook).0) (sym h.1) (goes_on e.event.found e.hook h.0 h.2)
   opens_after (Next.Done answer) added e h = h
 
-  -- so its course ends in no refusal
+  -- so its trace ends in no refusal
   pub opens : (trace : List Traced) → Opens c t m (state_of_trace c t (Op.ChangeMount m false true) trace).comes
   opens [] = (ChangeStep.Locks, refl, tt)
   opens (e ∷ earlier) = opens_after (state_of_trace c t (Op.ChangeMount m false true) earlier).comes _ e (opens earlier)

@@ -179,7 +179,7 @@ begun_in call r begins phase h =
     subst (λ (p : Phase). BuffersMatch call.task.config.nodes r (Some call.op) (Some p) call.task.seat.me.0.items) (sym call.first_is)
     (record { room = h.room; last = h.last; next = begun_tells call.task.config call.task.number r [] call.op })
 
--- of a call that does its events in a line
+-- of a call that does its steps in a line
 module _ (call : Call) (r : BufferWords) (other : is_of_snapshot call.first ≡ false)
     (h : BuffersMatch call.task.config.nodes r call.task.begins call.task.state.phase call.task.seat.me.0.items) where
   other_start : is_of_snapshot (first_phase call.start.config (own_number call.start.items) call.op) ≡ false
@@ -204,13 +204,13 @@ module _ (call : Call) (r : BufferWords) (other : is_of_snapshot call.first ≡ 
       called_room call.task.config.nodes r call.op call.start _ answer call.task.begins call.task.begins call.task.state.phase
       call.task.state.phase other_start (ended_at call left answer is) (idle call) start_room
 
--- what the room tells follows an event that found this
+-- what the room tells follows a step that found this
 abbrev pub FollowsBy : BufferWords → BufferWords → Event → Phase → ℕ → Option Op → HookAnswer → ℕ → DealtNumbers → Type 0
 FollowsBy r left event phase nodes begins hook found items =
     1 ≤ length items → event ≡ event_of (next_of phase hook).0 (next_of phase hook).1 found → BuffersMatch nodes r begins (Some phase) items →
     BuffersMatch nodes left None (phase_after (after_of phase event.found hook).0) (items_after begins phase hook found items)
 
--- an event of a task, which follows the room
+-- a step of a task, which follows the room
 pub stepped_room : {seen gone : List (List Entry)} (nodes : ℕ) (r left : BufferWords) (begins : Option Op) (phase : Phase) (hook : HookAnswer) (table table_left : TableId)
     (c : Config) (items items_left : DealtNumbers) (event : Event) (action : Option Action) (next : Next Phase) (number : ℕ) (state : TaskState)
     (flags : List Bool) → GhostAgrees number c begins state flags items →
@@ -255,7 +255,7 @@ not_snapshot (OpensOne x) not = refl
 not_snapshot (Snapshots x) not = absurd (not x refl)
 not_snapshot (TreeClears x) not = refl
 
--- an event of an operation that is no snapshot leaves the last snapshot
+-- a step of an operation that is no snapshot leaves the last snapshot
 leaves_last : (begins : Option Op) (phase : Phase) (hook : HookAnswer) (found : ℕ) (x : Numbered) (xs : DealtNumbers) → is_of_snapshot phase ≡ false →
     (own_view (items_after begins phase hook found (x ∷ xs))).snapshot ≡ x.view.snapshot
 leaves_last None phase hook found x xs other =

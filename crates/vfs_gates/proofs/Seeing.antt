@@ -47,7 +47,7 @@ call_saw op old left answer called s some_there e =
     let there : 1 ≤ length left.items = omega (arith, ap length is, own.1) in
     subst (λ n. IsOfAMoment c n left.items s) number (saw_a_moment c left.items left.seen called.history s there e)
 
--- an event that completes no snapshot leaves the last one; one that completes one, where nothing was added before it, notes what the
+-- a step that completes no snapshot leaves the last one; one that completes one, where nothing was added before it, notes what the
 -- call began with
 module _ (c : Config) (t : ℕ) (op : Op) (others : List (ℕ × ℕ)) (e : Traced) (earlier : List Traced) (v : View) where
   abbrev before : Option TreeWords → List Action → Option Snapshot
@@ -67,7 +67,7 @@ module _ (c : Config) (t : ℕ) (op : Op) (others : List (ℕ × ℕ)) (e : Trac
 abbrev pub noted_by : DealtNumbers → TreeWords → Snapshot
 noted_by before loaded = record { loaded = loaded; done = length (own_view before).actions; others = done_by (spare_of before) }
 
--- a whole call whose last event but one completed a snapshot, and which had added nothing before it
+-- a whole call whose last step but one completed a snapshot, and which had added nothing before it
 pub call_took : (op : Op) (old left : SeatedTask) (answer : Result Reply GateError) (called : Called op old left answer)
     (loaded : TreeWords) (release last : Traced) (earlier : List Traced) → 1 ≤ length old.items →
     called.trace ≡ release ∷ last ∷ earlier →

@@ -19,7 +19,7 @@ use Rattle.vfs_gates.specs.{TaskStates.{SeatedTask, own_number, own_view, refusa
 use Rattle.vfs_gates.proofs.Seeing.{call_saw, same_own}
 
 module _ (c : Config) (t : ℕ) (wait : Bool) (others : List (ℕ × ℕ)) (v : View) where
-  -- the last snapshot after these events
+  -- the last snapshot after these steps
   abbrev seen : List Traced → Option Noted
   seen trace = ran_snapshot c t (SnapshotOp wait) others trace v
 
@@ -45,7 +45,7 @@ module _ (c : Config) (t : ℕ) (wait : Bool) (others : List (ℕ × ℕ)) (v : 
   NextInvariant trace (Wait phase) = AtPhase trace phase
   NextInvariant trace (Done answer) = Answers trace answer
 
-  -- the same of what comes after an event of a snapshot, as it says it itself
+  -- the same of what comes after a step of a snapshot, as it says it itself
   abbrev ComesNext : List Traced → Next Snapshot → Type 0
   ComesNext trace n = NextInvariant trace (map_next Trees (map_next Snapshots n))
 
@@ -65,13 +65,13 @@ module _ (c : Config) (t : ℕ) (wait : Bool) (others : List (ℕ × ℕ)) (v : 
   kids_come trace e s None words added none is =
       (words, is ∙ ap (λ (l : List Action). last_snapshot (Some words) (l ++ v.actions) others (seen trace)) none)
 
-  -- an answer stays what it was, with an event that completes none
+  -- an answer stays what it was, with a step that completes none
   answer_stays : (trace : List Traced) (e : Traced) (answer : Result Reply GateError) → seen (e ∷ trace) ≡ seen trace →
       Answers trace answer → Answers (e ∷ trace) answer
   answer_stays trace e (Ok reply) same h = (h.0, same ∙ h.1)
   answer_stays trace e (Err refusal) same h = tt
 
-  -- the event of a step
+  -- the step at a program point
   step_comes : (trace : List Traced) (e : Traced) (s : Snapshot) (step : SnapshotStep) (added : List Action) → added ≡ [] →
       seen (e ∷ trace) ≡ last_snapshot (snapshot_completes s.nodes step trace e.event.found) (added ++ v.actions) others (seen trace) →
       StandsAt trace step → ComesNext (e ∷ trace) (snapshot_after s step e.event.found).0
@@ -97,7 +97,7 @@ module _ (c : Config) (t : ℕ) (wait : Bool) (others : List (ℕ × ℕ)) (v : 
   adds_nothing s (LoadsKids n) found = refl
   adds_nothing s (Releases answer) found = refl
 
-  -- one event more
+  -- one step more
   phase_comes : (trace : List Traced) (e : Traced) (phase : Phase) (added : List Action) → added ≡ [] → AtPhase trace phase →
       seen (e ∷ trace) ≡ last_snapshot (completed_by (Go phase) trace e) (added ++ v.actions) others (seen trace) →
       NextInvariant (e ∷ trace) (trace_state_after (Go phase) added e).comes × ((trace_state_after (Go phase) added e).added ≡ [])
@@ -114,7 +114,7 @@ module _ (c : Config) (t : ℕ) (wait : Bool) (others : List (ℕ × ℕ)) (v : 
   more_comes trace e (Wait phase) added none h next is = phase_comes trace e phase added none h is
   more_comes trace e (Done answer) added none h next is = absurd next
 
-  -- all events
+  -- all steps
   all_come : (trace : List Traced) → IsTrace c t (SnapshotOp wait) trace →
       NextInvariant trace (state_of_trace c t (SnapshotOp wait) trace).comes × ((state_of_trace c t (SnapshotOp wait) trace).added ≡ [])
   all_come [] h = (tt, refl)

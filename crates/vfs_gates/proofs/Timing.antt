@@ -31,12 +31,12 @@ calls_in_order one two old left begins ends answer reply first second same seen 
     (in_order begins.config old.items begins.items one two first.trace second.trace old.seen left.seen begins.seen ends.seen
     first.history.history.log second.history.history.log effect (call_effect two begins ends reply second) seen)
 
--- an event of a trace has completed a snapshot of these words
+-- a step of a trace has completed a snapshot of these words
 abbrev HasCompleted : Config → ℕ → Op → List Traced → TreeWords → Type 0
 HasCompleted c t op trace loaded = (later : List Traced) × (e : Traced) × (earlier : List Traced) × (trace ≡ later ++ e ∷ earlier) ×
     (completed_by (state_of_trace c t op earlier).comes earlier e ≡ Some loaded)
 
--- of a number that had none, what it has was taken by one of its events, and so it is where it had one before
+-- of a number that had none, what it has was taken by one of its steps, and so it is where it had one before
 module _ (c : Config) (t : ℕ) (op : Op) (others : List (ℕ × ℕ)) (v : View) where
   abbrev had : View
   had = record v { snapshot = None }

@@ -73,13 +73,13 @@ given_tells number c state flags n l items is ghost_agrees idle =
 still : (had more : ℕ) → counted (counted had + more) ≡ counted (had + more)
 still had more = omega arith
 
--- an event more
+-- a step more
 module _ (c : Config) (t : ℕ) (phase : Phase) (hook : HookAnswer) (found : ℕ) (others : List (ℕ × ℕ)) where
   -- what comes after it
   abbrev after : Next Phase
   after = (after_of phase (found_by (next_of phase hook).1 found) hook).0
 
-  -- of an operation that has come to the event's phase
+  -- of an operation that has come to the step's phase
   of_op : (op : Op) (v : View) (waited : ℕ) → v.op ≡ Some op → phase_after (state_of_trace c t op v.trace).comes ≡ Some phase →
       waited ≡ counted (waits_in c t op v.trace) → WaitsTell c t (view_after_with_others others v phase found hook) (counted (waited + is_wait after))
   of_op op v waited is at told =
@@ -99,7 +99,7 @@ module _ (c : Config) (t : ℕ) (phase : Phase) (hook : HookAnswer) (found : ℕ
   of_view v waited None is idle told at = absurd (let none : None ≡ Some phase = sym idle ∙ at in let f : ⊥ = cc in f)
   of_view v waited (Some op) is stands told at = of_op op v waited is (sym stands ∙ at) told
 
--- what is told so far of an operation that has begun and has had no event: none
+-- what is told so far of an operation that has begun and has had no step: none
 abbrev pub since : Option Op → ℕ → ℕ
 since None waited = waited
 since (Some op) waited = 0
@@ -112,7 +112,7 @@ pub since_going : (begins : Option Op) (waited : ℕ) → is_some begins ≡ fal
 since_going None waited is = refl
 since_going (Some op) waited is = absurd (true≢false is)
 
--- a task's own number, after an event
+-- a task's own number, after a step
 after_event : (c : Config) (begins : Option Op) (phase : Phase) (hook : HookAnswer) (found : ℕ) (items : DealtNumbers) (number waited : ℕ)
     (accesses : Accesses) (flags : List Bool) → GhostAgrees number c begins (state_at (Some phase) accesses) flags items →
     WaitsTell c (own_number items) (own_view items) waited →
@@ -147,7 +147,7 @@ ran_tells : (c : Config) (op : Op) (trace : List Traced) (items : DealtNumbers) 
 ran_tells c op trace [] waits there is = absurd (omega arith)
 ran_tells c op trace (x ∷ xs) waits there is = record { stands = refl; told = ap (λ n. counted n) (sym is) }
 
--- one that has begun and has had an event
+-- one that has begun and has had a step
 has_ran : (c : Config) (op : Op) (trace : List Traced) (items : DealtNumbers) → None ≡ begins_at op trace →
     items_at c op trace items ≡ ran_items c op trace items
 has_ran c op [] items is = absurd (let f : ⊥ = cc in f)
@@ -178,7 +178,7 @@ pub has_number : (number : ℕ) (c : Config) (begins : Option Op) (state : TaskS
 has_number number c begins state flags [] ghost_agrees = absurd ghost_agrees
 has_number number c begins state flags (x ∷ xs) ghost_agrees = omega arith
 
--- so a call tells how many of the events that it has done came to a wait
+-- so a call tells how many of the steps that it has done came to a wait
 pub left_tells : (call : Call) (left : Left call) (waited : ℕ) → waited ≡ counted (left.waits + is_wait left.next) →
     WaitsTell call.task.config (own_number left.known.items) (own_view left.known.items) waited
 left_tells call left waited is =
@@ -190,13 +190,13 @@ left_tells call left waited is =
     let P : Config × ℕ → Type 0 = λ z. WaitsTell z.0 (own_number left.known.items) (own_view left.known.items) z.1 in
     subst P (λ i. ((call.from ∙ sym (same call)) i, sym is i)) tells
 
--- where none came to one before the last event of a line
+-- where none came to one before the last step of a line
 pub once : (next : Next Phase) (waited : ℕ) → waited ≡ is_wait next → waited ≡ counted (0 + is_wait next)
 once (Go phase) waited is = is
 once (Wait phase) waited is = is
 once (Done answer) waited is = is
 
--- an operation that has a most number of events waits for nobody
+-- an operation that has a most number of steps waits for nobody
 never_waits : (c : Config) (op : Op) (trace : List Traced) → IsBounded (most_events c op) → MayWait c op trace → ⊥
 never_waits c (Want m p true) trace bounded waits = bounded
 never_waits c (Want m p false) trace bounded waits = true≢false (sym waits.0)

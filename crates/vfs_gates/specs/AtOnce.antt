@@ -12,7 +12,7 @@ pub record BeginsAtOnce (op : Op) (old left : SeatedTask) (outcome : Result Prog
   pub refused : (refusal : GateError) → refusal_at op old ≡ Some refusal → (outcome ≡ Err refusal) × (left ≡ old)
   pub begun : refusal_at op old ≡ None → (progress : Progress) × (outcome ≡ Ok progress) × (left.begins ≡ None) × ProgressMatches op old progress left
 
--- some operation that has a most number of events was begun so
+-- some operation that has a most number of steps was begun so
 pub record TriedAtOnce (now : SeatedTask) (begun : Result Progress GateError) : Type 0 where
   pub op : Op
   pub start : SeatedTask

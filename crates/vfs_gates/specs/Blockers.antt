@@ -17,7 +17,7 @@ pub record WasBlocked (c : Config) (items : DealtNumbers) (phase : Phase) (hook 
   pub blocker : HasCulpritAmong c (since_begun (own_number items) (trail_of c entries)) (own_number items) phase
   pub leaves : left ≡ (entries ++ Steps (own_number items) hook ∷ []) ∷ []
 
--- The same of an event of a call, which came to a wait: of the worlds since the call began.
+-- The same of a step of a call, which came to a wait: of the states since the call began.
 pub record WasBlockedDuring (c : Config) (items : DealtNumbers) (op : Op) (earlier : List Traced) (e : Traced)
     (seen left : List (List Entry)) : Type 0 where
   pub during : IsEventDuring c items op earlier e seen left

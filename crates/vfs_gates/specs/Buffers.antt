@@ -39,11 +39,11 @@ with_words words r = record r { next = words }
 abbrev pub completed : BufferWords → BufferWords
 completed r = record { taken = true; last = r.next; next = r.last }
 
--- the words with what an event has loaded
+-- the words with what a step has loaded
 abbrev pub noted_in : TreeWords → Event → TreeWords
 noted_in words e = if is_load e.touch then loaded words e.word e.found else words
 
--- the buffers after an event of a snapshot, which is complete with the load of its last word
+-- the buffers after a step of a snapshot, which is complete with the load of its last word
 abbrev pub after_noting : Taking → Event → BufferWords → BufferWords
 after_noting x e r =
     if loads_last x.nodes x.step then completed (with_words (noted_in r.next e) r) else with_words (noted_in r.next e) r
@@ -58,7 +58,7 @@ abbrev pub LastTells : BufferWords → Option Snapshot → Type 0
 LastTells r None = r.taken ≡ false
 LastTells r (Some s) = (r.taken ≡ true) × (r.last ≡ s.loaded)
 
--- the events of the operation under way: none yet where it has just begun
+-- the steps of the operation under way: none yet where it has just begun
 abbrev pub trace_so_far : Option Op → View → List Traced
 trace_so_far None v = v.trace
 trace_so_far (Some op) v = []

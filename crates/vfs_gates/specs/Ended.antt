@@ -18,16 +18,16 @@ pub record ClosedState : Type 0 where
   pub config : Config
   pub words : List ℕ
 
--- The words are those of a world that the rule holds of, with a legal history that ends in the model that it shows, of which each number's
+-- The words are those of a state that the invariant holds of, with an allowed trace that ends in the model that it shows, of which each number's
 -- own list is its part, in which each number's last snapshot has its moment, and which are the actions of a schedule that makes of the
--- opening that world. In that world every number is idle and holds nothing.
+-- opening that state. In that state every number is idle and holds nothing.
 pub record Ended (c : Config) (ws : List ℕ) : Type 0 where
   pub world : World
   pub ruled : Ruled c ws world
   pub history : HasHistory c world
   pub still : (t : ℕ) → t < c.tasks → IsStill c (world.views t)
 
--- A schedule leaves these words: with it no task is under way, and each number has the list of that world. So each clause of `every_schedule` says
+-- A schedule leaves these words: with it no task is under way, and each number has the list of that state. So each clause of `every_schedule` says
 -- of closed gates what it says of a schedule with no operation under way.
 pub record IsLeftBySchedule (c : Config) (ws : List ℕ) (w : World) : Type 0 where
   pub within : IsWithin c
@@ -36,7 +36,7 @@ pub record IsLeftBySchedule (c : Config) (ws : List ℕ) (w : World) : Type 0 wh
   pub idle : (t : ℕ) → t < c.tasks → ((world_after c entries).views t).phase ≡ None
   pub lists : (t : ℕ) → ((world_after c entries).views t).actions ≡ (w.views t).actions
 
--- In that world the numbers that the task brought have the views that it knew: closing adds no event and no action to any list. Its schedule
+-- In that state the numbers that the task brought have the views that it knew: closing adds no step and no action to any list. Its schedule
 -- goes on from each that the task had seen, and so from all that was seen by those that were joined.
 pub record EndedWith (c : Config) (ws : List ℕ) (items : DealtNumbers) (seen : List (List Entry)) : Type 0 where
   pub ended : Ended c ws
@@ -54,7 +54,7 @@ LeavesSoundTree c ws =
     IsSound c.nodes (slice_index ws (stride * place Used)) (λ n. node_shown (slice_index ws (stride * place (Node n))))
     (λ n. slice_index ws (stride * place (Kids n)))
 
--- A schedule leaves closed gates which goes on from each that these numbers' task had seen, and each of these numbers has no entry behind one of
+-- A schedule leaves closed gates which goes on from each that these numbers' task had seen, and each of these numbers has no transition behind one of
 -- them.
 pub record IsLeftAfter (c : Config) (ws : List ℕ) (w : World) (items : DealtNumbers) (seen : List (List Entry)) : Type 0 where
   pub left : IsLeftBySchedule c ws w

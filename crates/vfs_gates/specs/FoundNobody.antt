@@ -23,7 +23,7 @@ HasFoundSomebody (Go phase) = FoundAt phase
 HasFoundSomebody (Wait phase) = FoundAt phase
 HasFoundSomebody next = ⊥
 
--- After none of these events it has: each level was summed once, and nobody was counted there.
+-- After none of these steps it has: each level was summed once, and nobody was counted there.
 abbrev pub FoundNobody : Config → ℕ → Op → List Traced → Type 0
 FoundNobody c n op trace = (later earlier : List Traced) → trace ≡ later ++ earlier →
     HasFoundSomebody (state_of_trace c n op earlier).comes → ⊥

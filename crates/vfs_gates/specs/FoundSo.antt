@@ -7,7 +7,7 @@ use Rattle.gate_world.specs.declared.operations.Op.{Op, TheVariants.{ChangeMount
 use Rattle.gate_world.specs.declared.{config.Config.Config, entries.Entry.Entry, views.Traced.Traced}
 use Rattle.gate_steps.specs.{Seating.DealtNumbers, call_events.Spans.IsEventDuring}
 
--- What is so in a world, if an operation has nothing to add there: the mount is read-only, by its own flag or the superblock's, or it is writable, by
+-- What is so in a state, if an operation has nothing to add there: the mount is read-only, by its own flag or the superblock's, or it is writable, by
 -- both; the superblock is as it was asked for; the level has no callback queued that isn't taken; everything is frozen. Of a callback that ran the
 -- model has nothing. Every other operation that is done adds an action.
 abbrev pub IsSo : Config → Op → Reply → World → Type 0
@@ -19,7 +19,7 @@ IsSo c (Callback i) reply w = Unit {0}
 IsSo c (Snapshot wait) reply w = (shown c w).stage ≡ 4
 IsSo c op reply w = ⊥
 
--- It was so at an instant between call and return: in the world in which the last event of the call happens, with which the call returns.
+-- It was so at an instant between call and return: in the state in which the last step of the call happens, with which the call returns.
 pub record WasSoDuring (c : Config) (items : DealtNumbers) (op : Op) (reply : Reply) (seen left : List (List Entry)) : Type 0 where
   pub earlier : List Traced
   pub last : Traced

@@ -1,4 +1,4 @@
--- Tasks that meet, receipts of what was seen, and worlds before and after a call. A caller finds the words for it here, too.
+-- Tasks that meet, receipts of what was seen, and states before and after a call. A caller finds the words for it here, too.
 use Rattle.std.specs.Prelude.{◌≡◌, false, ℕ, ◌<◌, ◌≤◌, ◌⊎◌, List, [], ◌∷◌, ◌++◌}
 use mathlib.Core.Option.{some}
 use lib.ListN.{get_elem?}
@@ -10,7 +10,7 @@ use Rattle.gate_world.specs.{Shown.{shown}, Views.{held_at}, Worlds.{World}, dec
 use Rattle.gate_steps.specs.{Meetings.{StandsNow}, Seating.{DealtNumbers, HaveHistory, numbered, times}, call_events.Grown.{StaySeen}}
 use Rattle.vfs_gates.specs.{declared.gates.Gates.{Gates}, Held.{own_actions}, TaskStates.{SeatedTask, own_number, own_view}}
 
--- Two tasks meet: the numbers of both stand in one world, which goes on from all that either had seen. From then on both have seen it. Nothing
+-- Two tasks meet: the numbers of both stand in one state, which goes on from all that either had seen. From then on both have seen it. Nothing
 -- else of them changes.
 pub record Meets (one two one_left two_left : SeatedTask) : Type 0 where
   pub config : two.config ≡ one.config
@@ -39,7 +39,7 @@ pub record HasDone (n : ℕ) (list : List Action) (items : DealtNumbers) : Type 
   pub there : get_elem? items place ≡ some (numbered n view)
   pub done : view.actions ≡ list
 
--- Some numbers stand in a world that a task has seen when it calls, and some in one that goes on from what the call leaves.
+-- Some numbers stand in a state that a task has seen when it calls, and some in one that goes on from what the call leaves.
 pub record Encloses (before after : DealtNumbers) (old left : SeatedTask) : Type 0 where
   pub first_seen : List (List Entry)
   pub first : HaveHistory old.config before first_seen
@@ -73,7 +73,7 @@ abbrev pub NoneIs : (Action → Type 0) → List Action → Type 0
 NoneIs Is [] = Unit {0}
 NoneIs Is (a ∷ earlier) = (Is a → ⊥) × NoneIs Is earlier
 
--- no number has in the second of two worlds such an action that it has not in the first
+-- no number has in the second of two states such an action that it has not in the first
 abbrev pub NoneSince : (Action → Type 0) → Config → World → World → Type 0
 NoneSince Is c first last =
     (t : ℕ) → t < c.tasks → (added : List Action) × ((last.views t).actions ≡ added ++ (first.views t).actions) × NoneIs Is added
@@ -93,15 +93,15 @@ TakesMount m (Want k p wait) = k ≡ m
 TakesMount m (WantWrite k p) = k ≡ m
 TakesMount m op = ⊥
 
--- A call begins in a world in which its task's numbers stand as they did, and which goes on from all that the task had seen. What the call leaves goes
--- on from that world.
+-- A call begins in a state in which its task's numbers stand as they did, and which goes on from all that the task had seen. What the call leaves goes
+-- on from that state.
 pub record BeginsIn (c : Config) (items : DealtNumbers) (seen left : List (List Entry)) : Type 0 where
   pub began : List Entry
   pub all : HaveHistory c items (began ∷ [])
   pub from : StaySeen seen (began ∷ [])
   pub on : StaySeen (began ∷ []) left
 
--- In a world that was seen this number had this list.
+-- In a state that was seen this number had this list.
 pub record SawList (c : Config) (n : ℕ) (list : List Action) (seen : List (List Entry)) : Type 0 where
   pub items : DealtNumbers
   pub then : List (List Entry)

@@ -9,7 +9,7 @@ use Rattle.vfs_gates.specs.TaskStates.{own_number, own_view, spare_of}
 
 -- The snapshot of this number is of a moment of the one history in which the numbers of a task have their views. It is of all nodes, sound
 -- and clean. At that moment everything was frozen, the tree was the one loaded, and the numbers that the snapshot notes had done just what
--- it notes. What had been done until then is a legal history, which cuts their own lists there, and no node of the tree was dirty.
+-- it notes. What had been done until then is an allowed trace, which cuts their own lists there, and no node of the tree was dirty.
 pub record IsOfAMoment (c : Config) (number : ℕ) (items : DealtNumbers) (s : Snapshot) : Type 0 where
   pub last_seen : List (List Entry)
   pub all : HaveHistory c items last_seen

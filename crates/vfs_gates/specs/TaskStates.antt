@@ -9,7 +9,7 @@ pub use Rattle.gate_steps.specs.call_events.SeatedTasks.{SeatedTask, task_state,
 abbrev pub IsFrom : SeatedTask → Gates → Type 0
 IsFrom s g = (s.table ≡ g.words.table.shared.table_id) × (s.config ≡ g.words.config)
 
--- the level at which the freeze of a task asks next whether to wait; 0 where its next event reads no such answer
+-- the level at which the freeze of a task asks next whether to wait; 0 where its next step reads no such answer
 abbrev pub level_asked : Option Phase → ℕ
 level_asked None = 0
 level_asked (Some phase) = level_at phase

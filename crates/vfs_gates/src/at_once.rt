@@ -49,7 +49,8 @@ impl Task {
         }
     }
 
-    /// Begins an operation that has this first phase and asks no hook, and does its steps in a line, likewise.
+    /// Begins an operation that has this first phase and asks no hook, and does its steps in a line. Where one of them finds something
+    /// else, it notes where the operation stands.
     #[inline(always)]
     pub(crate) fn take_at_once<P: FastPath>(
         &mut self,
@@ -77,7 +78,8 @@ impl Task {
         }
     }
 
-    /// Begins a snapshot, and does its steps in a line, likewise. What they load is noted in the task's buffers.
+    /// Begins a snapshot, and does its steps in a line. Where one of them finds something else, it notes where the snapshot stands. What
+    /// they load is noted in the task's buffers.
     #[inline(always)]
     pub(crate) fn load_at_once(&mut self, gates: &Gates, wait: bool) -> Result<Progress, GateError>
         requires { IsFrom self.old gates.now }

@@ -54,7 +54,7 @@ impl SnapshotBuffers {
         self.taken = true;
     }
 
-    /// Notes an event of a snapshot. With the load of its last word it is the last snapshot.
+    /// Notes a step of a snapshot. With the load of its last word it is the last snapshot.
     fn note(&mut self, snapshot: Snapshot, event: Event)
         ensures { words_in self.new ≡ after_noting snapshot event (words_in self.old) }
     {
@@ -66,7 +66,7 @@ impl SnapshotBuffers {
         }
     }
 
-    /// An event of an operation under way was done, which stood at this phase. Those of a snapshot are noted.
+    /// A step of an operation under way was done, which stood at this phase. Those of a snapshot are noted.
     pub fn follow(&mut self, phase: Phase, event: Event)
         ensures { (nodes : ℕ) (begins : Option OpType) (hook : HookAnswer) (found : ℕ) (items : DealtNumbers) → 1 ≤ length items →
             event ≡ event_of (next_of phase hook).0 (next_of phase hook).1 found →

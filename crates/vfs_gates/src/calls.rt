@@ -25,7 +25,7 @@ pub(crate) fn outcome(answer: Result<Reply, GateError>) -> Result<(), GateError>
     answer.map(|_| ())
 }
 
-/// 1 where the event before found what the operation waits for, else 0.
+/// 1 where the step before found what the operation waits for, else 0.
 #[inline(always)]
 pub(crate) fn waits<P: PendingOp>(next: &Next<P>) -> u64
     ensures { result ≡ is_wait (map_next P.as_phase next.now) }
@@ -62,7 +62,7 @@ impl Task {
         )
     }
 
-    /// Does the events of the operation that has begun, which has a most number of them and asks no hook, until it replies.
+    /// Does the steps of the operation that has begun, which has a most number of them and asks no hook, until it replies.
     #[cold]
     #[inline(never)]
     pub(crate) fn finish(&mut self, gates: &Gates) -> Result<Reply, GateError>
@@ -78,7 +78,7 @@ impl Task {
         }
     }
 
-    /// The same; answers only whether it was done. The place for what `finish` answers is made here: a call that finds nothing in its way
+    /// Does the steps of the operation that has begun until it replies, and answers only whether it was done. The place for what `finish` answers is made here: a call that finds nothing in its way
     /// makes none, since a store before a step on a word keeps that step waiting.
     #[inline(always)]
     fn finish_outcome(&mut self, gates: &Gates) -> Result<(), GateError>
@@ -89,7 +89,7 @@ impl Task {
         outcome(self.finish(gates))
     }
 
-    /// Ends a call whose operation was begun so and has a most number of events: does what is left of it.
+    /// Ends a call whose operation was begun so and has a most number of steps: does what is left of it.
     #[inline(always)]
     pub(crate) fn finish_begun(
         &mut self,
@@ -107,7 +107,7 @@ impl Task {
         self.finish_outcome(gates)
     }
 
-    /// Begins an operation that has a most number of events and this first phase, and does its events in a line. Where one of them finds
+    /// Begins an operation that has a most number of steps and this first phase, and does its steps in a line. Where one of them finds
     /// something else, it notes where the operation stands and does the rest.
     #[inline(always)]
     pub(crate) fn perform<P: FastPath>(

@@ -27,7 +27,7 @@ impl Task {
         WritePhase::new(mount, cpu, self.number())
     }
 
-    /// A callback, likewise.
+    /// A callback by the task that is to begin.
     #[inline(always)]
     pub(crate) fn first_callback(&self, level: u8) -> Callback
         ensures { Callbacks result ≡ first_phase self.now.config (own_number self.now.items) (CallbackOp level) }
@@ -35,7 +35,7 @@ impl Task {
         Callback::new(level, self.config.tasks)
     }
 
-    /// A remount, likewise.
+    /// A remount by the task that is to begin.
     #[inline(always)]
     pub(crate) fn first_remount(&self, read_only: bool) -> Remount
         ensures { Remounts result ≡ first_phase self.now.config (own_number self.now.items) (RemountSb read_only) }
@@ -49,7 +49,7 @@ impl Task {
         Remount::new(read_only, self.number(), processors, mounts, nodes)
     }
 
-    /// A freeze, likewise.
+    /// A freeze by the task that is to begin.
     #[inline(always)]
     pub(crate) fn first_freeze(&self, holder: Holder) -> Freeze
         ensures { Freezes result ≡ first_phase self.now.config (own_number self.now.items) (FreezeOp holder) }
@@ -63,7 +63,7 @@ impl Task {
         Freeze::new(holder, self.number(), tasks, processors, nodes)
     }
 
-    /// A thaw, likewise.
+    /// A thaw by the task that is to begin.
     #[inline(always)]
     pub(crate) fn first_thaw(&self, holder: Holder) -> Thaw
         ensures { Thaws result ≡ first_phase self.now.config (own_number self.now.items) (ThawOp holder) }
@@ -71,7 +71,7 @@ impl Task {
         Thaw::new(holder, self.number())
     }
 
-    /// A snapshot, likewise.
+    /// A snapshot by the task that is to begin.
     #[inline(always)]
     pub(crate) fn first_snapshot(&self, wait: bool) -> Snapshot
         ensures { snapshot_at result Locks ≡ first_phase self.now.config (own_number self.now.items) (SnapshotOp wait) }

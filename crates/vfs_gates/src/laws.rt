@@ -34,7 +34,7 @@ pub fn a_last_snapshot_is_of_a_moment()
         1 ≤ length old.items → (own_view left.items).snapshot ≡ Some s → IsOfAMoment old.config (own_number old.items) left.items s }
 {}
 
-/// So a call whose last event but one completed a snapshot, and which had added no action before it, has seen the tree of a moment of
+/// So a call whose last step but one completed a snapshot, and which had added no action before it, has seen the tree of a moment of
 /// that history, after just what its task's own number, and those that it had to give, had done before the call. Does nothing: its
 /// contract is the law.
 pub fn a_call_sees_a_moment()
@@ -56,10 +56,10 @@ pub fn a_snapshot_that_replied_was_taken()
         Called (SnapshotOp wait) old left (Ok reply) → HasTaken old.config old.items left.items }
 {}
 
-/// A call that was refused, whatever its operation, has its cause in a schedule: one that ends right before the event that brought the
-/// refusal, with the operation under way and just the call's earlier events done. That event finds there what the call's trace says, and
+/// A call that was refused, whatever its operation, has its cause in a schedule: one that ends right before the step that brought the
+/// refusal, with the operation under way and just the call's earlier steps done. That step finds there what the call's trace says, and
 /// the refusal has there what `every_schedule` says of it (clause `causes`): a want that was ReadOnly, say, a moment since it began at which
-/// the shown model had the mount read-only, and a change that was Busy one at which something was counted there. Does nothing: its
+/// the shown state had the mount read-only, and a change that was Busy one at which something was counted there. Does nothing: its
 /// contract is the law.
 pub fn a_refused_call_has_its_cause()
     ensures { (op : Op) (old left : SeatedTask) (refusal : GateError) (called : Called op old left (Err refusal)) →
@@ -72,7 +72,7 @@ pub fn closed_gates_leave_a_sound_tree()
     ensures { (c : Config) (ws : List ℕ) → Ended c ws → LeavesSoundTree c ws }
 {}
 
-/// What closed gates have, a schedule leaves: all words of its world are theirs, no operation is under way in it, and each number has the list that it
+/// What closed gates have, a schedule leaves: all words of its state are theirs, no operation is under way in it, and each number has the list that it
 /// has in theirs. So what `every_schedule` says of such a schedule is so of closed gates. Does nothing: its contract is the law.
 pub fn closed_gates_are_left_by_a_schedule()
     ensures { (c : Config) (ws : List ℕ) (e : Ended c ws) → IsLeftBySchedule c ws e.world }
@@ -115,7 +115,7 @@ pub fn a_call_that_takes_nothing_leaves_a_task_as_it_was()
         Performs op old left outcome → Rests left }
 {}
 
-/// Where two tasks were joined and the gates closed, each of their own numbers has in the world that is left the view that its task knew. Does
+/// Where two tasks were joined and the gates closed, each of their own numbers has in the state that is left the view that its task knew. Does
 /// nothing: its contract is the law.
 pub fn joined_tasks_end_as_they_were()
     ensures { (c : Config) (ws : List ℕ) (first second : DealtNumbers) (seen : List (List Entry))

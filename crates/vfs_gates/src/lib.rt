@@ -1,5 +1,5 @@
 //! The gates on a table of atomic words, driven by tasks that threads own. A task is a token: it has its own number, with the
-//! right to do that number's events, and the numbers that it may still give to others. What a caller names of the crates below it finds here, too.
+//! right to do that number's steps, and the numbers that it may still give to others. What a caller names of the crates below it finds here, too.
 #![tactic(auto)]
 
 mod at_once;

@@ -1,4 +1,4 @@
-//! Tasks that meet, and receipts. By a meeting one thread knows that all its tasks have done stands in one world; by receipts, threads that send each
+//! Tasks that meet, and receipts. By a meeting one thread knows that all its tasks have done stands in one state; by receipts, threads that send each
 //! other word know in which order their calls took effect. Neither writes a word. `laws::one_world` says what follows.
 
 ghost use Rattle.std.specs.Prelude.{◌≡◌, ◌++◌, []};
@@ -59,7 +59,7 @@ impl Task {
     ghost use Rattle.vfs_gates.specs.TaskStates.{IsFrom};
     ghost use Rattle.vfs_gates.specs.Meetings.{IsOf, Meets};
 
-    /// Lets two tasks meet: all that either has done stands in one world, which both have seen from then on. Nothing else of them changes, and no
+    /// Lets two tasks meet: all that either has done stands in one state, which both have seen from then on. Nothing else of them changes, and no
     /// word is written. They may hold what they hold. An operation under way stays one operation. Four loads, of which nothing is used.
     ///
     /// A call's contract speaks of its own task. What the other task holds before the call and after it, it held at each moment of the call: that

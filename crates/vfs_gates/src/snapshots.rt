@@ -35,7 +35,7 @@ fn leave(snapshot: Snapshot, step: SnapshotStep, found: u64, rest: &mut Next<Tre
     false
 }
 
-/// Leaves the line, to load this node again, likewise.
+/// Leaves the line, to load this node again, as `rest` says then.
 #[cold]
 #[inline(never)]
 fn leave_at_node(snapshot: Snapshot, node: u8, rest: &mut Next<TreePhase>) -> bool

@@ -1,4 +1,4 @@
-//! A task: the right to do the events of one number.
+//! A task: the right to do the steps of one number.
 
 ghost use Rattle.std.specs.Prelude.{◌≡◌, ◌≤◌, ◌<◌, ◌↔◌, ◌++◌, ℕ, slice_index_or, IsTrue, Some, None, OnOk, OnErr, option_map, [], false, length};
 ghost use Rattle.gate_world.specs.Configs.{IsWithin};
@@ -24,7 +24,7 @@ use mount_counts::MountPhase;
 use std::marker::Model;
 
 /// A task: a token that one thread owns at a time. It has a number of its own, with which it acts, and the numbers that it may
-/// still give to others. Contracts see its table, its configuration, the operation that it has begun until its first event, the
+/// still give to others. Contracts see its table, its configuration, the operation that it has begun until its first step, the
 /// phase at which it stands, its numbers with their views, its own first, and the schedules that it has seen: nothing of these is kept
 /// when it runs. Each call goes on from what its task has seen (`laws::in_time`).
 ///
@@ -53,7 +53,7 @@ use std::marker::Model;
 pub struct Task {
     pub(crate) number: u8,
     pub(crate) config: Config,
-    /// The operation that has begun, until its first event.
+    /// The operation that has begun, until its first step.
     pub(crate) begins: Option<Op>,
     pub(crate) state: TaskState,
     /// The numbers that it has to give.
@@ -171,8 +171,8 @@ impl Task {
         node < self.config.nodes && self.state.accesses.files[node as usize]
     }
 
-    /// How often the task's last operation came to a wait: how many of its events found what it waits for. It stands still at 2^64 - 1. Until an
-    /// operation that has begun has its first event, it is told of the one before; where there was none, 0.
+    /// How often the task's last operation came to a wait: how many of its steps found what it waits for. It stands still at 2^64 - 1. Until an
+    /// operation that has begun has its first step, it is told of the one before; where there was none, 0.
     pub fn waited(&self) -> u64
         ensures { result ≡ waited_at self.now }
     {
@@ -188,7 +188,7 @@ impl Task {
         self.buffers.last()
     }
 
-    /// Begins an operation; it has no event, and changes no word.
+    /// Begins an operation; it has no step, and changes no word.
     ///
     /// # Errors
     ///
@@ -237,8 +237,8 @@ impl Task {
         }
     }
 
-    /// Does the next event of the operation that has begun, in one atomic step, where a hook of the file system answers this. An idle
-    /// task does nothing. What the event found decides how the operation stands, and the action that the event added.
+    /// Does the next step of the operation that has begun, in one atomic step, where a hook of the file system answers this. An idle
+    /// task does nothing. What the step found decides how the operation stands, and the action that the step added.
     pub fn step(&mut self, gates: &Gates, hook: Result<(), u16>) -> Step
         requires { IsFrom self.old gates.now }
         ensures table { self.new.table ≡ self.old.table }
@@ -254,7 +254,7 @@ impl Task {
         self.step_there(gates, phase, hook)
     }
 
-    /// Does the next event of an operation that stands here, in the form of its own kind, so that it goes through no other's phases.
+    /// Does the next step of an operation that stands here, in the form of its own kind, so that it goes through no other's phases.
     #[inline(always)]
     fn step_there(&mut self, gates: &Gates, phase: Phase, hook: Result<(), u16>) -> Step
         requires from { IsFrom self.old gates.now }
@@ -279,7 +279,7 @@ impl Task {
         }
     }
 
-    /// The event of an operation of one kind: a function of its own for each kind, so that none pays for another's.
+    /// The step of an operation of one kind: a function of its own for each kind, so that none pays for another's.
     #[inline(never)]
     fn step_as<P: PendingOp>(&mut self, gates: &Gates, under_way: P, hook: Result<(), u16>) -> Step
         requires from { IsFrom self.old gates.now }
@@ -370,7 +370,7 @@ impl Task {
     }
 }
 
-/// How an operation stands after an event, and its next phase.
+/// How an operation stands after a step, and its next phase.
 #[inline(always)]
 fn standing<P: PendingOp>(next: Next<P>) -> (Progress, Option<Phase>)
     ensures { result ≡ (progress_of (map_next P.as_phase next), phase_after (map_next P.as_phase next)) }

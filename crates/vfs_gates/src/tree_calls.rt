@@ -49,7 +49,7 @@ impl Task {
     ghost use Rattle.vfs_gates.specs.TaskStates.{IsFrom, own_number};
     ghost use Rattle.gate_steps.specs.call_events.Runs.{IsBounded, Performs, Replies, the_reply};
 
-    /// Begins a call at the tree that has this first phase and a most number of events, and does its events until it replies.
+    /// Begins a call at the tree that has this first phase and a most number of steps, and does its steps until it replies.
     #[inline(always)]
     fn call(&mut self, gates: &Gates, op: Op, first: TreePhase) -> Result<Reply, GateError>
         requires from { IsFrom self.old gates.now }
@@ -71,7 +71,7 @@ impl Task {
         )
     }
 
-    /// Begins an operation that waits for nobody, and does its events until it replies, each of which is noted: a task keeps what its
+    /// Begins an operation that waits for nobody, and does its steps until it replies, each of which is noted: a task keeps what its
     /// snapshot loads.
     fn run(&mut self, gates: &Gates, op: Op) -> Result<Reply, GateError>
         requires from { IsFrom self.old gates.now }
@@ -82,7 +82,7 @@ impl Task {
         self.finish(gates)
     }
 
-    /// Begins an operation, and does its events, each of which is noted, until it replies, however long it has to wait.
+    /// Begins an operation, and does its steps, each of which is noted, until it replies, however long it has to wait.
     fn run_waiting<R: Wait>(&mut self, rt: &R, gates: &Gates, op: Op) -> Result<Reply, GateError>
         requires { IsFrom self.old gates.now }
         ensures { Replies the_reply op self.old self.new result }

@@ -37,8 +37,8 @@ impl Task {
     ghost use Rattle.gate_steps.specs.call_events.Runs.{the_reply, Called, Replies, Performs};
     ghost use Rattle.gate_steps.specs.call_events.Asking.{PerformsAsking, RepliesAsking};
 
-    /// Does the events of the operation that has begun and asks no hook until it replies, however long it has to wait. After an event that
-    /// found what the operation waits for it pauses, and the longer the more often one did (`Backoff`). A wait may take several events before
+    /// Does the steps of the operation that has begun and asks no hook until it replies, however long it has to wait. After a step that
+    /// found what the operation waits for it pauses, and the longer the more often one did (`Backoff`). A wait may take several steps before
     /// it looks again, so none of these makes the pauses short again.
     #[cold]
     #[inline(never)]
@@ -63,8 +63,8 @@ impl Task {
         unreachable!()
     }
 
-    /// The same for a call that tells only whether the operation was done. It is a function of its own, so that the room for the whole
-    /// answer is cleared where the call has to wait, and not at its start.
+    /// Does the steps of the operation that has begun until it replies, and answers only whether it was done. It is a function of its own, so
+    /// that the room for the whole answer is cleared where the call has to wait, and not at its start.
     #[inline(always)]
     fn finish_waiting_outcome<R: Wait>(&mut self, rt: &R, gates: &Gates) -> Result<(), GateError>
         requires { IsFrom self.old gates.now }
@@ -91,7 +91,7 @@ impl Task {
         self.finish_waiting_outcome(rt, gates)
     }
 
-    /// Begins an operation that has this first phase, and does its events until it replies, however long it has to wait, with the hooks of
+    /// Begins an operation that has this first phase, and does its steps until it replies, however long it has to wait, with the hooks of
     /// the file system.
     #[inline(always)]
     fn perform_waiting<R: Wait, H: TimedHooks, P: Waiting>(
@@ -117,7 +117,7 @@ impl Task {
         answer
     }
 
-    /// Begins an operation that has this first phase and asks no hook, and does its events in a line. Where one of them finds something
+    /// Begins an operation that has this first phase and asks no hook, and does its steps in a line. Where one of them finds something
     /// else, it notes where the operation stands and does the rest, however long it has to wait.
     #[inline(always)]
     fn perform_or_wait<R: Wait, P: FastPath>(

@@ -1,4 +1,5 @@
-//! Pairs of a read lock and its return, for what a Rust program would take: `locks WHAT THREADS PAIRS` prints how many nanoseconds that took.
+//! Pairs of a read lock and its return, for what a Rust program would take: `locks WHAT THREADS
+//! PAIRS` prints how many nanoseconds that took.
 use crossbeam_utils::sync::ShardedLock;
 use std::hint::black_box;
 use std::process::exit;

@@ -1,4 +1,4 @@
--- The order of events of a close: which word an event touches and how, and what comes after it.
+-- The order of steps of a close: which word a step touches and how, and what comes after it.
 use Rattle.std.specs.Prelude.{ℕ, ◌==◌, ◌&&◌, if◌then◌else◌, Option, Some, None, Ok, Err}
 use Rattle.access_model.specs.declared.actions.{Action.{Action, TheVariants.{Return, Close as CloseAction}}, Gate.TheVariants.{Level}}
 use Rattle.access_model.specs.declared.{errors.GateError.TheVariants.{Again}, replies.Next.{Next, TheVariants.{Go, Wait, Done}}}
@@ -25,14 +25,14 @@ closed_from x node =
     if node.opens == 0 then LoadsFile x else
     if node.removed && (node.opens == 1) then enters x node else LowersCount x node
 
--- after an event at the level: inside it, the node is freed, on the same processor
+-- after a step at the level: inside it, the node is freed, on the same processor
 abbrev pub then_frees : ℕ → NodeWord → ℕ → Next DownRead → Next ClosePhase
 then_frees f node p (Go r) = Go (Enters f node r)
 then_frees f node p (Wait r) = Wait (Enters f node r)
 then_frees f node p (Done (Ok reply)) = Go (FreesNode f p node)
 then_frees f node p (Done (Err refusal)) = Done (Err refusal)
 
--- the word and the touch of the next event
+-- the word and the touch of the next step
 abbrev pub next : ClosePhase → WordName × Touch
 next (LoadsFile x) = (Node x.file, Load)
 next (LowersCount x node) = (Node x.file, Cas (word_of node) (word_of (closed_node node)))
@@ -42,7 +42,7 @@ next (RefundsBlocks p blocks) = (Used, Sub blocks)
 next (Uncounts p) = (Removed, Sub 1)
 next (Leaves p) = up_read_next (leaves_on p)
 
--- What comes after the event that found this value, and the action that the event adds. The compare-exchange of a last close can't fail
+-- What comes after the step that found this value, and the action that the step adds. The compare-exchange of a last close can't fail
 -- behind the gates; where it does, it is done again.
 abbrev pub after : ClosePhase → ℕ → Next ClosePhase × Option Action
 after (LoadsFile x) found = (after_look (LoadsFile x) (closed_from x) (any_file_in found), None)

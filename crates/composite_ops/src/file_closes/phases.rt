@@ -1,4 +1,4 @@
-//! The order of events of a close.
+//! The order of steps of a close.
 
 ghost use Rattle.std.specs.Prelude.{◌≡◌};
 ghost use Rattle.node_words.specs.Nodes.{closed_node, any_file_in};
@@ -20,7 +20,7 @@ pub struct Closing {
     pub wait: bool,
 }
 
-/// Where a close stands between two of its events (`__fput`). Freeze level 3 (`SB_FREEZE_FS`) is that of a last close alone.
+/// Where a close stands between two of its steps (`__fput`). Freeze level 3 (`SB_FREEZE_FS`) is that of a last close alone.
 #[derive(Clone, Copy, PartialEq, Eq)]
 pub enum ClosePhase {
     /// Loads the file's node.
@@ -111,7 +111,7 @@ impl Closing {
     }
 }
 
-/// What comes after an event at the level: inside it, the node is freed, on the same processor.
+/// What comes after a step at the level: inside it, the node is freed, on the same processor.
 fn frees_then(file: u8, node: NodeWord, cpu: u8, next: Next<DownRead>) -> Next<ClosePhase>
     ensures { result ≡ then_frees file node cpu next }
 {
@@ -124,7 +124,7 @@ fn frees_then(file: u8, node: NodeWord, cpu: u8, next: Next<DownRead>) -> Next<C
 }
 
 impl ClosePhase {
-    /// A close before its first event.
+    /// A close before its first step.
     #[inline(always)]
     pub fn new(file: u8, cpu: u8, task: u8, wait: bool) -> ClosePhase
         ensures { result ≡ LoadsFile record { file = file; cpu = cpu; task = task; wait = wait } }
@@ -137,7 +137,7 @@ impl ClosePhase {
         })
     }
 
-    /// The word and the touch of the next event.
+    /// The word and the touch of the next step.
     pub fn next(self) -> (WordName, Touch)
         ensures { result ≡ next self }
     {
@@ -162,7 +162,7 @@ impl ClosePhase {
         }
     }
 
-    /// What comes after the event, which found this, and the action that the event adds.
+    /// What comes after the step, which found this, and the action that the step adds.
     pub fn after(self, found: u64) -> (Next<ClosePhase>, Option<Action>)
         ensures { result ≡ after self found }
     {

@@ -1,4 +1,4 @@
-//! The orders of events of the two, each one gate's after the other's.
+//! The orders of steps of the two, each one gate's after the other's.
 
 ghost use Rattle.std.specs.Prelude.{◌≡◌, true};
 ghost use Rattle.percpu_rwsem.specs.declared.readers.DownReadStep.TheVariants.{EntersSection};
@@ -10,7 +10,7 @@ use cpu_words::{Touch, WordName};
 use mount_counts::{Want, WantStep};
 use percpu_rwsem::{DownRead, UpRead};
 
-/// Where a taking or a return of write access stands between two of its events: at a step of the gate that it is at. The level is 1
+/// Where a taking or a return of write access stands between two of its steps: at a phase of the gate that it is at. The level is 1
 /// (`SB_FREEZE_WRITE`).
 #[derive(Clone, Copy, PartialEq, Eq)]
 pub enum WritePhase {
@@ -46,7 +46,7 @@ fn up_read(cpu: u8) -> UpRead
     UpRead { level: 1, cpu }
 }
 
-/// What comes after an event at the level: inside it, the mount is wanted, on the same processor.
+/// What comes after a step at the level: inside it, the mount is wanted, on the same processor.
 #[inline(always)]
 fn wants_then(mount: u8, cpu: u8, next: Next<DownRead>) -> Next<WritePhase>
     ensures { result ≡ then_wants mount cpu next }
@@ -64,7 +64,7 @@ fn wants_then(mount: u8, cpu: u8, next: Next<DownRead>) -> Next<WritePhase>
     }
 }
 
-/// What comes after an event at the mount: where it is refused, the level is left, on the same processor.
+/// What comes after a step at the mount: where it is refused, the level is left, on the same processor.
 #[inline(always)]
 fn gives_back_then(mount: u8, cpu: u8, next: Next<Want>) -> Next<WritePhase>
     ensures { result ≡ then_gives_back mount cpu next }
@@ -82,7 +82,7 @@ fn gives_back_then(mount: u8, cpu: u8, next: Next<Want>) -> Next<WritePhase>
 }
 
 impl WritePhase {
-    /// A taking before its first event: of level 1, where it waits while the level is closed, and then of this mount.
+    /// A taking before its first step: of level 1, where it waits while the level is closed, and then of this mount.
     #[inline(always)]
     pub fn new(mount: u8, cpu: u8, task: u8) -> WritePhase
         ensures { result ≡ Takes mount record { level = 1; cpu = cpu; task = task; wait = true; step = EntersSection } }
@@ -91,7 +91,7 @@ impl WritePhase {
         WritePhase::Takes { mount, read }
     }
 
-    /// The word and the touch of the next event.
+    /// The word and the touch of the next step.
     #[inline(always)]
     pub fn next(self) -> (WordName, Touch)
         ensures { result ≡ next self }
@@ -104,7 +104,7 @@ impl WritePhase {
         }
     }
 
-    /// What comes after the event, which found this, and the action that the event adds.
+    /// What comes after the step, which found this, and the action that the step adds.
     #[inline(always)]
     pub fn after(self, found: u64) -> (Next<WritePhase>, Option<Action>)
         ensures { result ≡ after self found }

@@ -1,4 +1,4 @@
--- What an event of one task at a gate keeps, whatever the event is: of a reader, or of a task that has the flag set.
+-- What a step of one task at a gate keeps, whatever the step is: of a reader, or of a task that has the flag set.
 use Rattle.std.{proofs.Common.{◌≡◌, ℕ, ◌+◌, ◌*◌, ◌%◌, ◌<◌, ◌≤◌, sym, ap, subst, inl, inr, arith}, specs.Prelude.◌⊎◌}
 use Rattle.finite_sums.{proofs.Totals.{each_updated, total_same, total_updated, total_add, total_swap, total_at, residues}, specs.Sums.{update, total}}
 use Rattle.cpu_words.specs.Sums.{lead}
@@ -49,7 +49,7 @@ counts_follow tasks processors count count' at t v net lt word own = record {
 
 module _ {tasks processors bit unowned : ℕ} {shut : ℕ → Type 0} {count : ℕ → ℕ} {at : ℕ → GateView}
     (good : GateHolds tasks processors bit unowned shut count at) (t : ℕ) (lt : t < tasks) where
-  -- what a sum in progress says after an event of a reader, where its lead moves with what the reader moves
+  -- what a sum in progress says after a step of a reader, where its lead moves with what the reader moves
   lead_kept : (v : GateView) (count' : ℕ → ℕ) (up down k sum : ℕ) →
       (admitted v + unread k v + down ≤ admitted (at t) + unread k (at t) + up) × (unread k (at t) + up ≤ unread k v + down) →
       (down ≤ lead processors count k sum + up → lead processors count' k sum + down ≡ lead processors count k sum + up) →
@@ -66,7 +66,7 @@ module _ {tasks processors bit unowned : ℕ} {shut : ℕ → Type 0} {count : �
       let m : lead processors count' k sum + down ≡ lead processors count k sum + up = moved (omega (arith, d, a2, u2, moves)) in
       (d.0, omega (arith, d, a, u, m, moves, a2, u2), omega (arith, d, a, u, m, moves, a2, u2))
 
-  -- What any event of a reader keeps. The words move the lead of a sum of which k words are read by `up k` or `down k`. Either no
+  -- What any step of a reader keeps. The words move the invariant of a partial sum of which k words are read by `up k` or `down k`. Either no
   -- flag is set, or what is admitted of the task falls, and with what it seeks on the words to come it moves as the lead, or less.
   pub reader_event : (v : GateView) (count' up down : ℕ → ℕ) →
       CountsHold tasks processors count' (update at t v) → admitted v ≤ 1024 → v.barring ≡ (at t).barring →
@@ -99,7 +99,7 @@ module _ {tasks processors bit unowned : ℕ} {shut : ℕ → Type 0} {count : �
             omega (arith, good.open_to i s, open_to i s, total_updated (past i) tasks t at v lt, total_at tasks t (λ x. past i (at x)) lt);
       }
 
-  -- an event of the flag, or of a task that has it set: no count word and nothing else of a view changes
+  -- a step of the flag, or of a task that has it set: no count word and nothing else of a view changes
   pub flag_event : (b : Barring) (bit' unowned' : ℕ) (shut' : ℕ → Type 0) →
       bars b + unowned' + bit ≡ bars (at t).barring + unowned + bit' →
       BarringHolds processors count (total tasks (λ x. admitted (at x))) (λ k. total tasks (λ x. unread k (at x))) b →

@@ -1,4 +1,4 @@
--- Each event of a task that bars a gate keeps what holds there: it sets the flag, reads the words, shuts what may be shut, clears the flag.
+-- Each step of a task that bars a gate keeps what holds there: it sets the flag, reads the words, shuts what may be shut, clears the flag.
 use Rattle.std.proofs.lemmas.Grind.{common_steps}
 use Rattle.std.proofs.Common.{◌≡◌, ℕ, suc, ◌+◌, ◌*◌, ◌%◌, ◌<◌, ◌≤◌, ap, subst, arith}
 use Rattle.finite_sums.{proofs.Totals.{total_le, total_bound, total_add, total_at, total_none, total_zero}, specs.Sums.{update, total}}
@@ -55,7 +55,7 @@ module _ {tasks processors bit unowned : ℕ} {shut : ℕ → Type 0} {count : �
     sum_ends k sum last zero_sum d = grind (arith, common_steps, ahead, ahead_step, ahead_past)
 
   module _ (t : ℕ) (lt : t < tasks) where
-    -- the gate after an event of the task that bars it
+    -- the gate after a step of the task that bars it
     abbrev HoldsAfter : (bit' unowned' : ℕ) → Barring → Type 0
     HoldsAfter bit' unowned' b = GateHolds tasks processors bit' unowned' shut count (update at t (record (at t) { barring = b }))
 

@@ -1,4 +1,4 @@
--- Each event at a freeze level keeps what holds of its counts.
+-- Each step at a freeze level keeps what holds of its counts.
 use Rattle.std.proofs.{Common.{◌≡◌, ℕ, zero, suc, ◌+◌, ◌<◌, ◌≤◌, refl, sym, ap, ◌∙◌, subst, inl, inr, arith}, lemmas.Bool.Decides.eqb_tells}
 use Rattle.finite_sums.{proofs.Totals.{total_at, update_map}, specs.Sums.{update, total}}
 use Rattle.cpu_words.specs.{Touches.{wrap_add, wrap_sub}, gate_counts.Gates.{Apart, bars, below, GateHolds}}
@@ -35,7 +35,7 @@ module _ {tasks processors block full : ℕ} {count : ℕ → ℕ} {at : ℕ →
   ]
 
   module _ (t : ℕ) (lt : t < tasks) where
-    -- the level after an event that makes this of the words and of the task's view
+    -- the level after a step that makes this of the words and of the task's view
     abbrev HoldsAfter : (ℕ → ℕ) → LevelView → Type 0
     HoldsAfter count' v = LevelHolds tasks processors block full count' (update at t v)
 
@@ -101,11 +101,11 @@ module _ {tasks processors block full : ℕ} {count : ℕ → ℕ} {at : ℕ →
             (returns good.gate t lt few narrow p lp h Apart (sym (ap barring_of e)) held
             (omega (arith, ap (λ r. below 0 (processor_of r)) e)))
 
-      -- the level after an event of the writer, which goes from one role to another
+      -- the level after a step of the writer, which goes from one role to another
       abbrev Becomes : (block' full' : ℕ) → LevelRole → Type 0
       Becomes block' full' r = LevelHolds tasks processors block' full' count (update at t (record (at t) { role = r }))
 
-      -- an event of the writer keeps the level where it keeps it as a gate
+      -- a step of the writer keeps the level where it keeps it as a gate
       writes : (r0 r : LevelRole) (block' full' : ℕ) → (at t).role ≡ r0 → processor_of r0 ≡ 0 → processor_of r ≡ 0 → block' ≤ 1 →
           GateHolds tasks processors block' full' (λ i. full' ≡ 1) count
           (update (λ x. level_as_gate (at x)) t (record (level_as_gate (at t)) { barring = barring_of r })) → Becomes block' full' r

@@ -1,4 +1,4 @@
--- Each event of a reader keeps what holds at its gate: it counts up, passes the gate's questions, is granted or refused, and counts down.
+-- Each step of a reader keeps what holds at its gate: it counts up, passes the gate's questions, is granted or refused, and counts down.
 use Rattle.std.{proofs.Common.{◌≡◌, ℕ, suc, ◌+◌, ◌*◌, ◌%◌, ◌<◌, ◌≤◌, refl, ap, subst, inl, inr, arith}, specs.Prelude.◌⊎◌}
 use Rattle.finite_sums.{proofs.Totals.{update_at, update_off, each_updated, total_updated, total_bound}, specs.Sums.{update, total}}
 use Rattle.cpu_words.specs.Touches.{wrap_add, wrap_sub}
@@ -7,11 +7,11 @@ use Rattle.cpu_words.proofs.gate_counts.{Events.{counts_follow, reader_event}, N
 
 module _ {tasks processors bit unowned : ℕ} {shut : ℕ → Type 0} {count : ℕ → ℕ} {at : ℕ → GateView}
     (good : GateHolds tasks processors bit unowned shut count at) (t : ℕ) (lt : t < tasks) where
-  -- the gate after an event that makes this of the words and of the task's view
+  -- the gate after a step that makes this of the words and of the task's view
   abbrev HoldsAfter : (ℕ → ℕ) → GateView → Type 0
   HoldsAfter count' v = GateHolds tasks processors bit unowned shut count' (update at t v)
 
-  -- an event that writes no count word, and leaves the task counted for as much
+  -- a step that writes no count word, and leaves the task counted for as much
   pub moves : (h q s : ℕ) (b : Barring) → b ≡ (at t).barring → h + below 0 q + below 0 s ≡ counted (at t) → h + below 0 q ≤ 1024 →
       ((bit ≡ 0) ⊎ ((h + below 0 q ≤ admitted (at t)) × ((k : ℕ) →
       (h + below 0 q + below k s ≤ admitted (at t) + unread k (at t)) × (unread k (at t) ≤ below k s)))) →

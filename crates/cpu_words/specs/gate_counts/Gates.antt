@@ -73,7 +73,7 @@ pub record CountsHold (tasks processors : ℕ) (count : ℕ → ℕ) (at : ℕ �
       (count p + total tasks (λ t. (at t).taken p)) % 18446744073709551616 ≡ total tasks (λ t. (at t).added p) % 18446744073709551616
   pub own : (t : ℕ) → t < tasks → total processors (at t).added ≡ total processors (at t).taken + counted (at t)
 
--- What holds at one gate between any two events. `bit` is its flag, `unowned` is 1 where the flag is set and no task's own, and
+-- What holds at one gate between any two steps. `bit` is its flag, `unowned` is 1 where the flag is set and no task's own, and
 -- `shut i` is the condition that nobody is past question i while it stands.
 pub record GateHolds (tasks processors bit unowned : ℕ) (shut : ℕ → Type 0) (count : ℕ → ℕ) (at : ℕ → GateView) : Type 0 where
   pub counts : CountsHold tasks processors count at

@@ -49,7 +49,7 @@ level_as_gate v = record {
   barring = barring_of v.role;
 }
 
--- What holds of one level's counts between any two events. `full` is 1 while the level is frozen, where `block` is no task's own.
+-- What holds of one level's counts between any two steps. `full` is 1 while the level is frozen, where `block` is no task's own.
 pub record LevelHolds (tasks processors block full : ℕ) (count : ℕ → ℕ) (at : ℕ → LevelView) : Type 0 where
   pub known : block ≤ 1
   pub gate : GateHolds tasks processors block full (λ i. full ≡ 1) count (λ t. level_as_gate (at t))

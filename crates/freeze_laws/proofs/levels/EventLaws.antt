@@ -1,4 +1,4 @@
--- each kind of event at one level keeps its predicate
+-- each kind of step at one level keeps its predicate
 use Rattle.std.proofs.{Common.{◌≡◌, ℕ, true, false, ◌+◌, ◌%◌, ◌<◌, ◌≤◌, refl, sym, ap, subst, ◌∙◌, inl, inr, arith}, lemmas.Bool.Decides.{eqb_tells, nat_tests}}
 use Rattle.std.specs.Prelude.{Bool, nat_lt, if◌then◌else◌}
 use Rattle.finite_sums.{proofs.Totals.{each_updated, total_updated, total_at, total_none}, specs.Sums.{update, total}}

@@ -11,12 +11,12 @@ use Rattle.freeze_laws.specs.levels.Events.{LooksClaimed, Calls, Freezes, Thaws,
 use Rattle.freeze_laws.specs.levels.Laws.{OutsideSince, WholeGrace, GracesAreWhole}
 use Rattle.freeze_laws.specs.levels.Roles.{SyncRole, Out, Fast, Waiting, Past, Entered, Closed, Claimed, Ready, entering, claimed}
 
--- an event that changes the section word of a task begins or ends its section
+-- a step that changes the section word of a task begins or ends its section
 event_turns : (tasks t : ℕ) → (l l' : SyncLevel) (k : SyncEvent) → Happens tasks t l l' k → (u : ℕ) → l.inside u ≤ 1 →
     (l'.section u ≡ l.section u) ⊎ ((l.inside u ≡ 0) ⊎ (l'.inside u ≡ 0))
 event_turns tasks t l l' k h u small = grind arith
 
--- what an event makes of one task's role, as far as grace periods go
+-- what a step makes of one task's role, as far as grace periods go
 data Turn (tasks : ℕ) (l l' : SyncLevel) (t : ℕ) : Type 0 where
   Same : l'.at t ≡ l.at t → Turn tasks l l' t
   Quiet : entering (l'.at t) ≡ 0 → claimed (l'.at t) ≡ 0 → Turn tasks l l' t
@@ -25,7 +25,7 @@ data Turn (tasks : ℕ) (l l' : SyncLevel) (t : ℕ) : Type 0 where
   Looked : (g : Grace) → l.at t ≡ Waiting g → l'.at t ≡ waits (looked g (l.section g.task)) → Turn tasks l l' t
   LookedClaimed : (g : Grace) → l.at t ≡ Claimed g → l'.at t ≡ claims (looked g (l.section g.task)) → Turn tasks l l' t
 
--- the task of the event, or another one
+-- the task of the step, or another one
 turned : (tasks s : ℕ) (l l' : SyncLevel) (r : SyncRole) (t : ℕ) → l'.at ≡ update l.at s r →
     (l.at t ≡ l.at s → l'.at t ≡ r → Turn tasks l l' t) → Turn tasks l l' t
 turned tasks s l l' r t e f =
@@ -226,7 +226,7 @@ module _ (tasks n : ℕ) (m : ℕ → SyncLevel) (run : SyncRun tasks n m) where
       (λ b. (d.0, omega (arith, d), d.2, stays, d.4, grind (arith, nat_tests, d.4), below, tt))
       (λ b. (d.0, omega (arith, d), d.2, stays, λ u l. below u (grind (arith, nat_tests, d.4)))))
 
-  -- what a role says of the past is kept by each event
+  -- what a role says of the past is kept by each step
   turn_says : (t : ℕ) → t < tasks → (i : ℕ) → suc i ≤ n → Says tasks m t i ((m i).at t) → Turn tasks (m i) (m (suc i)) t →
       Says tasks m t (suc i) ((m (suc i)).at t)
   turn_says t lt i le before (Same e) = says_more tasks m t i ((m (suc i)).at t) refl (subst (Says tasks m t i) (sym e) before)

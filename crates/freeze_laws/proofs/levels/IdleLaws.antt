@@ -11,7 +11,7 @@ use Rattle.freeze_laws.proofs.levels.NumberLaws
 found_is : (tasks : ℕ) (l : SyncLevel) → (right : SyncLevelHolds tasks l) → state_found l.sync ≡ Some right.level.word.state
 found_is tasks l right = ap state_found_in right.level.packed
 
--- of all kinds of event only a callback's transition leaves GP_IDLE where it was not
+-- of all kinds of step only a callback's transition leaves GP_IDLE where it was not
 event_idle : (tasks t : ℕ) → t < tasks → (l l' : SyncLevel) (k : SyncEvent) → SyncLevelHolds tasks l → Happens tasks t l l' k →
     (state_found l.sync ≡ Some GpState.Idle → ⊥) → state_found l'.sync ≡ Some GpState.Idle →
     (k ≡ Calls) × (l.at t ≡ Ready) × (state_found l.sync ≡ Some GpState.Exit)

@@ -42,7 +42,7 @@ module _ (tasks sync block full : ℕ) (section : ℕ → ℕ) (at : ℕ → Syn
   exchanged on P block' full' at' h put e = put_holds P tasks block' full' section at' (on level.word) put h
       (subst (λ o. transition_of on o ≡ Some put) level.packed e)
 
-  -- an event that leaves the word
+  -- a step that leaves the word
   pub unchanged : (block' full' : ℕ) (section' : ℕ → ℕ) (at' : ℕ → SyncRole) →
       (SyncHolds tasks level.word block full section at → SyncHolds tasks level.word block' full' section' at') →
       SyncNumberHolds tasks sync block' full' section' at'

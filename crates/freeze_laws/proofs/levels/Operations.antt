@@ -1,4 +1,4 @@
--- each event of an operation at a level is one of the level
+-- each step of an operation at a level is one of the level
 use Rattle.std.proofs.lemmas.Grind.{common_steps}
 use Rattle.std.proofs.{Common.{◌≡◌, ℕ, true, ◌+◌, ◌<◌, refl, sym, ap, ◌∙◌, arith}, lemmas.Bool.{eq-eqb}}
 use Rattle.std.specs.Prelude.{Option, Some, ◌==◌}
@@ -23,7 +23,7 @@ role_from : (tasks : ℕ) (s : GpState) → down_write_role (entered_from tasks 
 role_from tasks s = grind arith
 
 module _ (tasks t : ℕ) (lt : t < tasks) (l : SyncLevel) where
-  -- an event of this task
+  -- a step of this task
   step_by : (l' : SyncLevel) (k : SyncEvent) → Happens tasks t l l' k → SyncStep tasks l l'
   step_by l' k h = record { task = t; there = lt; kind = k; happens = h }
 
@@ -90,7 +90,7 @@ summed_knows : (d : DownWrite) (taken : Taken) →
 summed_knows d taken = grind arith
 
 module _ (t other : ℕ) (l : SyncLevel) (d : DownWrite) (lt : t < d.tasks) where
-  -- an event of the enter
+  -- a step of the enter
   enters_by : (x : Transition) → KnowsWords on_enter x → l.at t ≡ Out → total d.tasks (λ x. entered (l.at x)) + l.full ≡ 0 →
       SyncStep d.tasks l (record l {
         sync = left (transition_next d.level x).1 l.sync;
@@ -148,7 +148,7 @@ exit_knows : (u : UpWrite) (found v : ℕ) (n : TransitionNext) → MakesTransit
 exit_knows u found v next h = grind arith
 
 module _ (tasks t other : ℕ) (l : SyncLevel) (u : UpWrite) (lt : t < tasks) where
-  -- an event of the exit
+  -- a step of the exit
   exits_by : (x : Transition) → KnowsWords on_exit x → l.at t ≡ Entered →
       SyncStep tasks l (record l {
         sync = left (transition_next u.level x).1 l.sync;
@@ -189,7 +189,7 @@ grace_knows : (b : Callback) (n : GraceNext) →
 grace_knows b next = grind arith
 
 module _ (t other : ℕ) (l : SyncLevel) (b : Callback) (lt : t < b.tasks) where
-  -- an event of the claim
+  -- a step of the claim
   claims_by : (x : Transition) → KnowsWords on_claim x → l.at t ≡ Out →
       SyncStep b.tasks l (record l {
         sync = left (transition_next b.level x).1 l.sync;

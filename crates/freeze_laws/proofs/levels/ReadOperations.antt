@@ -1,4 +1,4 @@
--- each event of a down-read is one of its level
+-- each step of a down-read is one of its level
 use Rattle.std.proofs.lemmas.Grind.{common_steps}
 use Rattle.std.proofs.Common.{◌≡◌, ℕ, true, false, ◌-◌, ◌<◌, refl, sym, ap, subst, ◌∙◌, arith}
 use Rattle.std.specs.Prelude.{Bool, Option, Some, ◌==◌, if◌then◌else◌}
@@ -15,7 +15,7 @@ use Rattle.freeze_laws.specs.levels.Events.{SyncLevel, SyncEvent, TurnsSection, 
 use Rattle.freeze_laws.specs.levels.Operations.{down_read_role, down_read_inside, by_next, DownReadIsThere, DownReadsAreThere}
 
 module _ (tasks t : ℕ) (lt : t < tasks) (l : SyncLevel) where
-  -- an event of this task
+  -- a step of this task
   step_by : (l' : SyncLevel) (k : SyncEvent) → Happens tasks t l l' k → SyncStep tasks l l'
   step_by l' k h = record { task = t; there = lt; kind = k; happens = h }
 
@@ -102,6 +102,6 @@ down_read_there tasks other l r LeavesBlocked lt here in_it =
       inside = update l.inside r.task (by_next (λ (y : DownRead). down_read_inside y.step) 0 (left_blocked r r.wait));
     })) (sym (blocked_role r r.wait)) (turned tasks r.task lt l _ here e)
 
--- so each event of a down-read is there
+-- so each step of a down-read is there
 pub down_reads_are_there : DownReadsAreThere
 down_reads_are_there tasks other l r lt here in_it = down_read_there tasks other l r r.step lt here in_it

@@ -1,4 +1,4 @@
--- each event of a level keeps what is right of it
+-- each step of a level keeps what is right of it
 use Rattle.std.{proofs.Common.{◌≡◌, ℕ, zero, suc, ◌-◌, ◌<◌, ◌≤◌, sym, subst, arith}, specs.Prelude.{Option}}
 use Rattle.finite_sums.specs.Sums.{update}
 use Rattle.cpu_words.specs.Touches.{wrap_add}

@@ -1,4 +1,4 @@
--- A moment of a history stays one, is the end of a legal history, and cuts each own list.
+-- A moment of a history stays one, is the end of an allowed trace, and cuts each own list.
 use Rattle.std.proofs.Common.{arith}
 use Rattle.std.{proofs.Common.{◌≡◌, ℕ, List, [], ◌∷◌, ◌++◌, length, refl, ap}, specs.Prelude.{if◌then◌else◌, ◌==◌, Option, true, false}}
 use Rattle.access_model.specs.{Histories.{Done, IsLegal, own_part, IsMerge}, States.Limits, declared.actions.{Action.Action, NodeInfo.NodeInfo}}

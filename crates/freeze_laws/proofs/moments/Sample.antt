@@ -18,7 +18,7 @@ thawed = (0, Action.Stage 0) ∷ (1, Action.Grant (Gate.Level 1)) ∷ frozen
 abbrev done_then : List (ℕ × ℕ)
 done_then = (0, 2) ∷ (1, 0) ∷ []
 
--- the whole is legal
+-- the whole is allowed
 its_legal : IsLegal two_tasks thawed
 its_legal = grind arith
 
@@ -31,7 +31,7 @@ its_moment =
     stays 2 opening_state.tree done_then frozen now (1, Action.Grant (Gate.Level 1)) in
     stays 2 opening_state.tree done_then ((1, Action.Grant (Gate.Level 1)) ∷ frozen) more (0, Action.Stage 0)
 
--- so a legal history may go on after such a moment, to another stage
+-- so an allowed trace may go on after such a moment, to another stage
 pub sample : (l : Limits) × (log : List Done) × IsLegal l log × WasFrozenWith l.nodes opening_state.tree ((0, 2) ∷ (1, 0) ∷ []) log ×
     ((end_of log).stage ≡ 0)
 sample = (two_tasks, thawed, its_legal, its_moment, refl)

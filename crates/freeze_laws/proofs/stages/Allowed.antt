@@ -1,4 +1,4 @@
--- The action of each event is allowed in each state that shows the moment before it.
+-- The action of each step is allowed in each state that shows the moment before it.
 use Rattle.std.proofs.{Common.{◌≡◌, ℕ, zero, suc, ◌-◌, ◌<◌, ◌≤◌, refl, ap, ◌∙◌, subst, inl, inr, arith}, lemmas.{Bool.Decides.eqb_tells, Option.none-some}}
 use Rattle.std.specs.Prelude.{◌==◌, Bool, true, false, Option, Some, None}
 use Rattle.access_model.specs.{Actions.MayDo, States.{Limits, State, IsClean}, declared.actions.Action.Action}
@@ -54,7 +54,7 @@ module _ (l : Limits) (x : Stages) (h : Holds l.tasks l.nodes x) (t : ℕ) (lt :
       MayDo l s t action
   may_be act action a asks f = subst (λ b. AsksOthers l s b → MayDo l s t b) (some_inj a) f asks
 
-  -- the action of each event is allowed
+  -- the action of each step is allowed
   pub may : (kind : StageEvent) (x' : Stages) → Happens l.tasks l.nodes t x x' kind → (action : Action) → action_of kind x ≡ Some action →
       AsksOthers l s action → MayDo l s t action
   may Begins x' (e, p) action a asks =

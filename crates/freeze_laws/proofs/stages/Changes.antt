@@ -1,4 +1,4 @@
--- What a task's event leaves: a changed role beside changed words.
+-- What a task's step leaves: a changed role beside changed words.
 use Rattle.std.{proofs.Common.{◌≡◌, ℕ, ◌+◌, ◌*◌, ◌<◌, ◌≤◌, ap, ◌∙◌, inl, inr, arith}, specs.Prelude.◌⊎◌}
 use Rattle.finite_sums.{proofs.Totals.{each_updated, total_updated, total_at, update_off}, specs.Sums.{update, total}}
 use Rattle.freeze_laws.proofs.stages.Positions.{other_owns, passed_is}
@@ -12,7 +12,7 @@ free_knows stage sb stage' sb' r o h k = grind arith
 
 module _ (tasks stage sb remount : ℕ) (block : ℕ → ℕ) (at : ℕ → StageRole) (good : StagesHold tasks stage sb remount block at) (t : ℕ)
     (lt : t < tasks) where
-  -- what an event's words and role after it have to agree on with those before it
+  -- what a step's words and role after it have to agree on with those before it
   pub record Agrees (old new : StageRole) (stage' sb' remount' : ℕ) (block' : ℕ → ℕ) : Type 0 where
     pub stages : stage' ≤ 4
     pub superblock : sb' ≤ 1
@@ -56,7 +56,7 @@ module _ (tasks stage sb remount : ℕ) (block : ℕ → ℕ) (at : ℕ → Stag
       free_knows stage sb stage' sb' (at u) (other_owns tasks stage sb remount block at good t lt (ap owns e ∙ o) u lu ne)
       (elim h [ inl w ↦ inl (f w) | inr s ↦ inr s ]) (good.knows u lu)
 
-  -- what is passed after an event, beside what was
+  -- what is passed after a step, beside what was
   pub passed_moves : (old new : StageRole) (stage' sb' remount' : ℕ) (block' : ℕ → ℕ) → at t ≡ old →
       StagesHold tasks stage' sb' remount' block' (update at t new) →
       passed_shown tasks block' (update at t new) + (passed_by old + 3 * is_full stage sb) ≡

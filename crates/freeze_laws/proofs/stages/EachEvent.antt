@@ -1,4 +1,4 @@
--- Each event keeps what holds of the stage and of the marks.
+-- Each step keeps what holds of the stage and of the marks.
 use Rattle.std.{proofs.Common.{◌≡◌, ℕ, suc, ◌-◌, ◌<◌, ◌≤◌, refl, sym, subst, arith}, specs.Prelude.{true, false, Some, None}}
 use Rattle.finite_sums.specs.Sums.{update}
 use Rattle.freeze_laws.proofs.stages.MarkLaws.{cleared_anew, washed, marked}

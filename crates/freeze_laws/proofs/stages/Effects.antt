@@ -1,4 +1,4 @@
--- The effect of each event's action shows the stage after it, and an event without one leaves the stage that was shown.
+-- The effect of each step's action shows the stage after it, and a step without one leaves the stage that was shown.
 use Rattle.std.{proofs.Common.{◌≡◌, ℕ, zero, suc, ◌+◌, ◌-◌, ◌*◌, ◌<◌, refl, sym, ap, ◌∙◌, subst, arith}, specs.Prelude.{◌==◌, ◌||◌, true, false, Some, None}}
 use Rattle.finite_sums.specs.Sums.{update}
 use Rattle.access_model.specs.{States.State, declared.actions.Action.Action}
@@ -22,7 +22,7 @@ clearing_shows tasks y s t node zero h = h
 clearing_shows tasks y s t node (suc mark) h = record { stage_same = h.stage_same; passed_same = h.passed_same; sb_same = h.sb_same }
 
 module _ (tasks nodes : ℕ) (x : Stages) (h : Holds tasks nodes x) (t : ℕ) (lt : t < tasks) (s : State) (shows : ShowsAt tasks x s) where
-  -- what is shown after an event that changes the role: the stage, the superblock's flag, and so many levels passed
+  -- what is shown after a step that changes the role: the stage, the superblock's flag, and so many levels passed
   shown_after : (old new : StageRole) (stage' sb' remount' : ℕ) (block' : ℕ → ℕ) (s' : State) → x.at t ≡ old →
       StagesHold tasks stage' sb' remount' block' (update x.at t new) →
       s'.stage ≡ stage' → s'.passed + (passed_by old + 3 * is_full x.stage x.sb) ≡ s.passed + (passed_by new + 3 * is_full stage' sb') →
@@ -45,7 +45,7 @@ module _ (tasks nodes : ℕ) (x : Stages) (h : Holds tasks nodes x) (t : ℕ) (l
   stage_shown k old new e good p =
       shown_after old new k x.sb x.remount x.block (state_after s t (Some (Action.Stage k))) e good refl (omega (arith, p)) shows.sb_same
 
-  -- an event after which as many levels are passed, and no more than a block is another, shows what was shown
+  -- a step after which as many levels are passed, and no more than a block is another, shows what was shown
   quiet_shown : (block' : ℕ → ℕ) (old new : StageRole) → x.at t ≡ old → StagesHold tasks x.stage x.sb x.remount block' (update x.at t new) →
       passed_by new ≡ passed_by old → ShowsAt tasks (playing (record x { block = block' }) t new) s
   quiet_shown block' old new e good p =

@@ -1,4 +1,4 @@
--- Each event keeps what holds of the marks of nodes.
+-- Each step keeps what holds of the marks of nodes.
 use Rattle.std.proofs.{Common.{◌≡◌, ℕ, ◌+◌, ◌<◌, ◌≤◌, inl, inr, arith, ◌%◌, ◌/◌, ◌-◌}, lemmas.Bool.Decides.eqb_tells}
 use Rattle.finite_sums.{proofs.Totals.{total_at}, specs.Sums.update}
 use Rattle.freeze_laws.proofs.stages.{Facts.owner_only, Positions.{way, who_freezes, passed_own, passed_is}}

@@ -1,4 +1,4 @@
--- Each event that changes a role keeps what holds of the stage.
+-- Each step that changes a role keeps what holds of the stage.
 use Rattle.std.proofs.Common.{◌≡◌, ℕ, suc, ◌+◌, ◌<◌, ◌≤◌, refl, sym, ap, ◌∙◌, subst, inl, inr, arith, ◌%◌, ◌/◌, ◌-◌}
 use Rattle.std.specs.Prelude.{Bool, true, Option, Some, None}
 use Rattle.finite_sums.{proofs.Totals.{total_at, each_updated}, specs.Sums.{update, total}}
@@ -20,7 +20,7 @@ module _ (tasks : ℕ) (x : Stages) (good : StagesHold tasks x.stage x.sb x.remo
   pub ways : (under_way x.stage ≡ (x.stage % 4 + 3) / 4) × (is_full x.stage x.sb ≡ x.stage / 4 - x.sb)
   ways = way tasks x.stage x.sb x.remount x.block x.at good
 
-  -- an event on `umount`, or on no word read here, after which the role differs in who owns and in what it relies on
+  -- a step on `umount`, or on no word read here, after which the role differs in who owns and in what it relies on
   pub turns : (old new : StageRole) → x.at t ≡ old → total tasks (λ u. owns (x.at u)) + owns new ≤ owns old + 1 →
       freezes new ≡ freezes old → remounts new ≡ remounts old → closed_by new ≡ closed_by old → KnowsStage x.stage x.sb new →
       StagesAt (playing x t new)

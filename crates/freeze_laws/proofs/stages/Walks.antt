@@ -1,11 +1,11 @@
--- Whole operations, event by event: what one event leaves is what the next one asks for.
+-- Whole operations, step by step: what one step leaves is what the next one asks for.
 use Rattle.std.{proofs.Common.{◌≡◌, ℕ, refl, arith, suc, zero}, specs.Prelude.{true, false, Option, Some, None, List}}
 use Rattle.access_model.specs.declared.actions.{Action.Action, Holder.Holder}
 use Rattle.freeze_laws.specs.stages.Events.{Stages, SameDuties, StageEvent, Happens, action_of, Advances, Begins, ClearsBlock, ClearsMark, Completes, HoldsOne, LeavesOne}
 use Rattle.freeze_laws.specs.stages.Events.{LetsGo, LoadsSb, LoadsStage, Locks, LocksAgain, MarksNode, Passes, Releases, ReleasesOpen, SetsBlock, Syncs, Thaws}
 use Rattle.freeze_laws.specs.stages.{Laws.{with_one, StageRun, Ends, Goes, FreezeAndThawHappen}, Roles.{Before, HasPassed, CleanBelow, Owning}}
 
--- one event, and the rest of a run of one task and two nodes
+-- one step, and the rest of a run of one task and two nodes
 goes : {x x' last : Stages} {actions : List Action} (kind : StageEvent) → Happens 1 2 0 x x' kind → StageRun 1 2 x' actions last →
     StageRun 1 2 x (with_one (action_of kind x) actions) last
 goes kind happens rest = Goes _ _ _ _ kind happens rest

@@ -1,4 +1,4 @@
--- What an event at a level leaves: the number that a transition puts, and the role that its task has.
+-- What a step at a level leaves: the number that a transition puts, and the role that its task has.
 use Rattle.std.specs.Prelude.{ℕ, Option, Some, None}
 use Rattle.percpu_rwsem.specs.{Graces.started, SyncWords.{pack, unpack}}
 use Rattle.percpu_rwsem.specs.declared.grace.GraceNext.{GraceNext, TheVariants.{More, Wait, Ended}}

@@ -1,4 +1,4 @@
--- One level from event to event, and runs of it.
+-- One level from step to step, and runs of it.
 use Rattle.std.specs.Prelude.{◌≡◌, ℕ, suc, ◌+◌, ◌-◌, ◌<◌, Some}
 use Rattle.finite_sums.specs.Sums.{update, total}
 use Rattle.cpu_words.specs.Touches.{wrap_add}
@@ -22,7 +22,7 @@ pub record SyncLevelHolds (tasks : ℕ) (l : SyncLevel) : Type 0 where
   pub level : SyncNumberHolds tasks l.sync l.block l.full l.section l.at
   pub sections : SectionsHold tasks l.section l.inside l.at
 
--- the kinds of events that change something of a level
+-- the kinds of steps that change something of a level
 pub data SyncEvent : Type 0 where
   -- an addition to its own section word, by a task that is not on the fast path
   TurnsSection : SyncEvent
@@ -44,10 +44,10 @@ pub data SyncEvent : Type 0 where
   -- the end of a freeze, which leaves the level closed, and the thaw that is to open it
   Freezes : SyncEvent
   Thaws : SyncEvent
-  -- an event that finds something else, or is about other words
+  -- a step that finds something else, or is about other words
   Stays : SyncEvent
 
--- The event of this kind by task t: what has to hold before it, and what is there after it. Besides the task's own role this asks
+-- The step of this kind by task t: what has to hold before it, and what is there after it. Besides the task's own role this asks
 -- the layer above for three things: a task that finds GP_IDLE is inside a section, nobody has entered where a writer enters, and a
 -- thaw finds the level frozen.
 abbrev pub Happens : ℕ → ℕ → SyncLevel → SyncLevel → SyncEvent → Type 0
@@ -79,7 +79,7 @@ Happens tasks t l l' Freezes = (l.at t ≡ Closed) × (l' ≡ record l { full = 
 Happens tasks t l l' Thaws = (l.at t ≡ Out) × (l.full ≡ 1) × (l' ≡ record l { full = 0; at = update l.at t Closed })
 Happens tasks t l l' Stays = l' ≡ l
 
--- some event of some task
+-- some step of some task
 pub record SyncStep (tasks : ℕ) (l l' : SyncLevel) : Type 0 where
   pub task : ℕ
   pub there : task < tasks

@@ -69,6 +69,6 @@ WritersFind = (tasks : ℕ) (l : SyncLevel) → (right : SyncLevelHolds tasks l)
     (right.level.word.count ≡ 1) × (l.full ≡ 0) × (l.block ≡ closed (l.at t)) ×
     ((state_found l.sync ≡ Some Passed) ⊎ (is_queued right.level.word.state ≡ true)) × NoneFast tasks l
 
--- Each event at a level keeps what holds there.
+-- Each step at a level keeps what holds there.
 abbrev pub EventsKeep : Type 0
 EventsKeep = (tasks : ℕ) (l l' : SyncLevel) → SyncLevelHolds tasks l → SyncStep tasks l l' → SyncLevelHolds tasks l'

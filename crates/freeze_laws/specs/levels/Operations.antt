@@ -1,4 +1,4 @@
--- The operations at a level as events of it: what a task is doing there before each step, and what its event leaves.
+-- The operations at a level as steps of it: what a task is doing there before each step, and what the step leaves.
 use Rattle.std.specs.Prelude.{◌≡◌, ℕ, ◌+◌, ◌<◌}
 use Rattle.finite_sums.specs.Sums.{update, total}
 use Rattle.access_model.specs.declared.replies.Next.{Next, TheVariants.{Go, Wait, Done}}
@@ -75,23 +75,23 @@ put_at l (Block i) value = record l { block = value }
 put_at l (Section t) value = record l { section = update l.section t value }
 put_at l _ value = l
 
--- a level after a task's event, where the word had this value, and the task has this role then
+-- a level after a task's step, where the word had this value, and the task has this role then
 abbrev pub left_by : SyncLevel → ℕ → WordName × Touch → ℕ → SyncRole → SyncLevel
 left_by l t event value role = record (put_at l event.0 (left event.1 value)) { at = update l.at t role }
 
--- what comes after an event is read as its phase, or as done
+-- what comes after a step is read as its phase, or as done
 abbrev pub by_next : {P X : Type 0} → (P → X) → X → Next P → X
 by_next read done (Go phase) = read phase
 by_next read done (Wait phase) = read phase
 by_next read done (Done answer) = done
 
--- what holds of the phase after an event, where there is one
+-- what holds of the phase after a step, where there is one
 abbrev pub HoldsOfNext : {P : Type 0} → (P → Type 0) → Next P → Type 0
 HoldsOfNext holds (Go phase) = holds phase
 HoldsOfNext holds (Wait phase) = holds phase
 HoldsOfNext holds (Done answer) = Unit {0}
 
--- A task's event on a word that had this value is one of the level, and leaves the task with the role of the phase after it, or this one
+-- A task's step on a word that had this value is one of the level, and leaves the task with the role of the phase after it, or this one
 -- where it is done; and what a phase knows, the phase after it does.
 abbrev pub IsEventThere : {P : Type 0} → ℕ → ℕ → SyncLevel → WordName × Touch → ℕ → (ℕ → Next P) → (P → SyncRole) → SyncRole →
     (P → Type 0) → Type 0
@@ -130,13 +130,13 @@ DownReadIsThere tasks other l r step =
       inside = update l.inside r.task (by_next (λ (x : DownRead). down_read_inside x.step) 0 next);
     }
 
--- Each event of a down-write is one of its level; it enters where nobody has entered.
+-- Each step of a down-write is one of its level; it enters where nobody has entered.
 abbrev pub DownWritesAreThere : Type 0
 DownWritesAreThere = (t other : ℕ) (l : SyncLevel) (d : DownWrite) → t < d.tasks → SyncLevelHolds d.tasks l →
     l.at t ≡ down_write_role d.step → KnowsDownWrite d.step → (l.at t ≡ Out → total d.tasks (λ x. entered (l.at x)) + l.full ≡ 0) →
     DownWriteIsThere t other l d d.step
 
--- each event of an up-write is
+-- each step of an up-write is
 abbrev pub UpWritesAreThere : Type 0
 UpWritesAreThere = (tasks t other : ℕ) (l : SyncLevel) (u : UpWrite) → t < tasks → l.at t ≡ up_write_role u.step →
     KnowsUpWrite u.step → UpWriteIsThere tasks t other l u u.step

@@ -79,7 +79,7 @@ module _ (section : ℕ → ℕ) (at : ℕ → SyncRole) where
   RoleHolds tasks Past = NoneBelow tasks
   RoleHolds tasks r = Unit {0}
 
--- What holds at one level between any two events. `full` is 1 while the level is frozen, where its count and `block` are no task's own.
+-- What holds at one level between any two steps. `full` is 1 while the level is frozen, where its count and `block` are no task's own.
 pub record SyncHolds (tasks : ℕ) (word : SyncWord) (block full : ℕ) (section : ℕ → ℕ) (at : ℕ → SyncRole) : Type 0 where
   pub lawful : is_lawful word.state word.taken word.count ≡ true
   -- the count is the number of writers that have entered, and is at most 1

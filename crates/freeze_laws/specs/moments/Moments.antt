@@ -33,7 +33,7 @@ abbrev pub CutsLists : List (ℕ × ℕ) → List Done → (ℕ → List Action)
 CutsLists [] earlier lists = Unit {0}
 CutsLists (k ∷ ks) earlier lists = CutsList k.0 k.1 earlier (lists k.0) × CutsLists ks earlier lists
 
--- What a moment of a history tells: what was done until then is a legal history too, it cuts each of these numbers' own lists where the
+-- What a moment of a history tells: what was done until then is an allowed trace too, it cuts each of these numbers' own lists where the
 -- number had done so many actions, and no node of the tree is dirty.
 pub record MomentTells
     (l : Limits) (tree : ℕ → Option NodeInfo) (done : List (ℕ × ℕ)) (lists : ℕ → List Action) (earlier : List Done) : Type 0 where

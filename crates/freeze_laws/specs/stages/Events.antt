@@ -1,4 +1,4 @@
--- The stage from event to event.
+-- The stage from step to step.
 use Rattle.std.specs.Prelude.{◌≡◌, ℕ, zero, suc, ◌-◌, ◌<◌, ◌≤◌, Bool, true, false, Option, Some, None}
 use Rattle.finite_sums.specs.Sums.{update, total}
 use Rattle.access_model.specs.States.{Limits, State}
@@ -34,7 +34,7 @@ pub record SameDuties (old new : StageRole) : Type 0 where
   pub closed_same : closed_by new ≡ closed_by old
   pub passed_same : passed_by new ≡ passed_by old
 
--- the kinds of events that change the stage, the flags, a block or a mark, or what a task is doing with them
+-- the kinds of steps that change the stage, the flags, a block or a mark, or what a task is doing with them
 pub data StageEvent : Type 0 where
   -- an owner's lock of `umount`, that of a freeze which goes on, and the releases of both
   Locks : StageEvent
@@ -79,19 +79,19 @@ pub data StageEvent : Type 0 where
   -- the clearing of a node's mark by a freeze, and by a remount
   ClearsMark : (node : ℕ) → StageEvent
   ClearsMarkReadOnly : (sb node : ℕ) → StageEvent
-  -- another call's event that may leave a node dirty, and one that leaves it clean
+  -- another call's step that may leave a node dirty, and one that leaves it clean
   MarksNode : (node mark : ℕ) → StageEvent
   WashesNode : (node : ℕ) → StageEvent
-  -- an event after which the task relies on something else that is so
+  -- a step after which the task relies on something else that is so
   Recalls : (old new : StageRole) → StageEvent
-  -- an event that is about other words
+  -- a step that is about other words
   Stays : StageEvent
 
 -- the same moment with another role of task t
 abbrev pub playing : Stages → ℕ → StageRole → Stages
 playing x t r = record x { at = update x.at t r }
 
--- The event of this kind by task t: what has to hold before it, and what is there after it. Besides the task's own role this asks the
+-- The step of this kind by task t: what has to hold before it, and what is there after it. Besides the task's own role this asks the
 -- layer above for four things: at a lock nobody owns `umount`; a clearing loop begins with nodes that are clean, and ends with all nodes;
 -- who marks a node has an access that no freeze has taken: level 2 is not passed, and the superblock is writable.
 abbrev pub Happens : ℕ → ℕ → ℕ → Stages → Stages → StageEvent → Type 0
@@ -162,7 +162,7 @@ abbrev pub cleaned : ℕ → ℕ → Option Action
 cleaned node zero = None
 cleaned node (suc mark) = Some (Clean node)
 
--- The action that an event adds. An event on a node's mark by another call may add one of its own, which is that call's.
+-- The action that a step adds. A step on a node's mark by another call may add one of its own, which is that call's.
 abbrev pub action_of : StageEvent → Stages → Option Action
 action_of Begins x = Some (Stage 1)
 action_of (Advances clean) x = Some (Stage 2)

@@ -10,23 +10,23 @@ use Rattle.freeze_laws.specs.stages.Shown.{is_passed, passed_shown, ShowsStages,
 abbrev pub opening : Stages
 opening = record { stage = 0; sb = 0; remount = 0; block = λ i. 0; dirty = λ n. 0; at = λ t. Aside }
 
--- an event of a task at a moment at which all holds
+-- a step of a task at a moment at which all holds
 pub record StageStep (tasks nodes : ℕ) (x x' : Stages) (t : ℕ) (kind : StageEvent) : Type 0 where
   pub right : Holds tasks nodes x
   pub there : t < tasks
   pub happens : Happens tasks nodes t x x' kind
 
--- Each event keeps what holds of the stage and of the marks.
+-- Each step keeps what holds of the stage and of the marks.
 abbrev pub EventsKeep : Type 0
 EventsKeep = (tasks nodes : ℕ) (x x' : Stages) (t : ℕ) (kind : StageEvent) → StageStep tasks nodes x x' t kind → Holds tasks nodes x'
 
--- The action of each event is allowed in each state that shows the moment before it.
+-- The action of each step is allowed in each state that shows the moment before it.
 abbrev pub ActionsAreAllowed : Type 0
 ActionsAreAllowed = (l : Limits) (x x' : Stages) (t : ℕ) (kind : StageEvent) → StageStep l.tasks l.nodes x x' t kind → (s : State) →
     RepresentsStages l x s →
     (action : Action) → action_of kind x ≡ Some action → AsksOthers l s action → IsAllowed l s t action
 
--- And its effect shows the stage after it; an event with no action leaves the stage that was shown.
+-- And its effect shows the stage after it; a step with no action leaves the stage that was shown.
 abbrev pub ActionsHaveTheirEffect : Type 0
 ActionsHaveTheirEffect = (tasks nodes : ℕ) (x x' : Stages) (t : ℕ) (kind : StageEvent) → StageStep tasks nodes x x' t kind → (s : State) →
     ShowsStages tasks x.stage x.sb x.remount x.block x.at s →
@@ -49,7 +49,7 @@ abbrev pub PositionsAreAlone : Type 0
 PositionsAreAlone = (tasks nodes : ℕ) (x : Stages) → Holds tasks nodes x → (t : ℕ) → t < tasks → has_position (x.at t) ≡ 1 →
     (is_full x.stage x.sb ≡ 0) × ((u : ℕ) → u < tasks → (u ≡ t → ⊥) → has_position (x.at u) ≡ 0)
 
--- Only the freeze under way moves the stage: an event of another task leaves it, at stages 1 to 3.
+-- Only the freeze under way moves the stage: a step of another task leaves it, at stages 1 to 3.
 abbrev pub OnlyTheFreezeMovesTheStage : Type 0
 OnlyTheFreezeMovesTheStage = (tasks nodes : ℕ) (x x' : Stages) (t : ℕ) (kind : StageEvent) → StageStep tasks nodes x x' t kind →
     1 ≤ x.stage → x.stage ≤ 3 → freezes (x.at t) ≡ 0 → x'.stage ≡ x.stage
@@ -86,7 +86,7 @@ abbrev pub with_one : Option Action → List Action → List Action
 with_one None actions = actions
 with_one (Some action) actions = action ∷ actions
 
--- a run of events of task 0, with the actions that it adds, the first one first
+-- a run of steps of task 0, with the actions that it adds, the first one first
 pub data StageRun (tasks nodes : ℕ) : Stages → List Action → Stages → Type 0 where
   Ends : (x : Stages) → StageRun tasks nodes x [] x
   Goes : (x x' last : Stages) (actions : List Action) (kind : StageEvent) → Happens tasks nodes 0 x x' kind →

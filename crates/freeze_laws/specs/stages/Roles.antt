@@ -125,7 +125,7 @@ under_way stage = bit (nat_lt 0 stage && nat_lt stage 4)
 abbrev pub is_full : ℕ → ℕ → ℕ
 is_full stage sb = if stage == 4 && sb == 0 then 1 else 0
 
--- The stage between any two events.
+-- The stage between any two steps.
 pub record StagesHold (tasks stage sb remount : ℕ) (block : ℕ → ℕ) (at : ℕ → StageRole) : Type 0 where
   pub stages : stage ≤ 4
   pub superblock : sb ≤ 1
@@ -146,7 +146,7 @@ pub record StagesHold (tasks stage sb remount : ℕ) (block : ℕ → ℕ) (at :
 abbrev pub CleanBelow : ℕ → (ℕ → ℕ) → Type 0
 CleanBelow n dirty = (m : ℕ) → m < n → dirty m ≡ 0
 
--- The marks of the nodes between any two events: none is left at stages 3 and 4, nor where the superblock's flag is set.
+-- The marks of the nodes between any two steps: none is left at stages 3 and 4, nor where the superblock's flag is set.
 pub record MarksHold (tasks nodes stage sb : ℕ) (dirty : ℕ → ℕ) (at : ℕ → StageRole) : Type 0 where
   pub frozen : 3 ≤ stage → CleanBelow nodes dirty
   pub read_only : sb ≡ 1 → CleanBelow nodes dirty

@@ -1,4 +1,4 @@
--- What the stage, the blocks and the flags show of the access model, and what its state after an event is to be.
+-- What the stage, the blocks and the flags show of the access model, and what its state after a step is to be.
 use Rattle.std.specs.Prelude.{◌≡◌, ℕ, ◌+◌, ◌<◌, ◌==◌, ◌&&◌, ◌||◌, if◌then◌else◌, zero, true, false, Option, Some, None}
 use Rattle.finite_sums.specs.Sums.{total}
 use Rattle.access_model.specs.{Actions.after_action, Holders.{held_by, is_unheld}, States.{Limits, State, NobodyHolds, IsFile, is_dirty, NoneRemoved}}
@@ -34,7 +34,7 @@ AsksOthers l s (Pass i) = NobodyHolds l s (Level i)
 AsksOthers l s (Clean n) = (n < l.nodes) × IsFile (s.tree n)
 AsksOthers l s action = Unit {0}
 
--- the state after an event that adds this action, or none
+-- the state after a step that adds this action, or none
 abbrev pub state_after : State → ℕ → Option Action → State
 state_after s t None = s
 state_after s t (Some action) = after_action s t action

@@ -1,4 +1,4 @@
--- Each event keeps what holds of the holders.
+-- Each step keeps what holds of the holders.
 use Rattle.std.proofs.Common.{◌≡◌, ℕ, ◌+◌, ◌<◌, ◌≤◌, true, false, refl, sym, ap, ◌∙◌, subst, inl, inr, arith}
 use Rattle.std.proofs.lemmas.Bool.Decides.{eqb_tells}
 use Rattle.finite_sums.specs.Sums.{update, total}
@@ -54,7 +54,7 @@ module _ (tasks : ℕ) (x : HolderMoment) (good : HoldsAt tasks x) (t : ℕ) (lt
       let e : minds (update x.at t Apart u) ≡ minds (x.at u) = ap minds (update_off x.at t Apart u ne) in
       omega (arith, e, o, good.alone, total_updated minds tasks t x.at Apart lt, total_at tasks u (λ y. minds (update x.at t Apart y)) lu)
 
-  -- an event of the task that makes this of the stage and the holders, and of its role
+  -- a step of the task that makes this of the stage and the holders, and of its role
   any_event : (old new : HolderRole) (stage' holders' : ℕ) → x.at t ≡ old → holders' ≡ word_of (holders_in holders') →
       total tasks (λ y. minds (x.at y)) + minds new ≤ minds old + 1 →
       is_held holders' + (between new + is_four x.stage) ≡ is_held x.holders + (between old + is_four stage') →
@@ -102,7 +102,7 @@ module _ (tasks : ℕ) (x : HolderMoment) (good : HoldsAt tasks x) (t : ℕ) (lt
       let f : is_four x.stage ≡ 1 = four_is x.stage k.0 in
       (omega (arith, f, own_between (ap minds e), ap between e, good.held), f, k.1)
 
-  -- each event keeps it
+  -- each step keeps it
   pub after_kind : (kind : HolderEvent) (x' : HolderMoment) → Happens tasks t x x' kind → HoldsAt tasks x'
   after_kind Finds x' (e, four, none, p) = subst (HoldsAt tasks) (sym p)
       (any_event Apart (Found (holders_in x.holders)) x.stage x.holders e good.lawful (omega (arith, none)) refl

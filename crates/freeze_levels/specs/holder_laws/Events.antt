@@ -1,4 +1,4 @@
--- The holders from event to event.
+-- The holders from step to step.
 use Rattle.std.specs.Prelude.{◌≡◌, ℕ, true, false}
 use Rattle.finite_sums.specs.Sums.{update, total}
 use Rattle.access_model.specs.{declared.actions.{Holder.{Holder}, Holders.{Holders}}, Holders.{nobody, with_holder, is_unheld}}
@@ -19,7 +19,7 @@ HoldsAt tasks x = HoldersHold tasks x.stage x.holders x.at
 abbrev pub playing : HolderMoment → ℕ → HolderRole → HolderMoment
 playing x t r = record x { at = update x.at t r }
 
--- the kinds of events that change the stage or the holders, or what a task is doing with them
+-- the kinds of steps that change the stage or the holders, or what a task is doing with them
 pub data HolderEvent : Type 0 where
   -- an owner's load at stage 4
   Finds : HolderEvent
@@ -36,10 +36,10 @@ pub data HolderEvent : Type 0 where
   LeavesLast : (held : Holders) → HolderEvent
   -- a thaw's store of stage 0
   Thaws : HolderEvent
-  -- an event that is about other words
+  -- a step that is about other words
   Stays : HolderEvent
 
--- The event of this kind by task t: what has to hold before it, and what is there after it. The layer above tells that nobody else relies
+-- The step of this kind by task t: what has to hold before it, and what is there after it. The layer above tells that nobody else relies
 -- on the holders where one begins to: it owns `umount`.
 abbrev pub Happens : ℕ → ℕ → HolderMoment → HolderMoment → HolderEvent → Type 0
 Happens tasks t x x' Finds =

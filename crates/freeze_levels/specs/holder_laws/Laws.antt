@@ -8,7 +8,7 @@ use Rattle.freeze_levels.specs.holder_laws.Events.{HolderMoment, HoldsAt, Holder
 abbrev pub opening : HolderMoment
 opening = record { stage = 0; holders = 0; at = λ t. Apart }
 
--- each event keeps what holds of the holders
+-- each step keeps what holds of the holders
 abbrev pub EventsKeep : Type 0
 EventsKeep = (tasks t : ℕ) (x x' : HolderMoment) (kind : HolderEvent) → HoldsAt tasks x → t < tasks → Happens tasks t x x' kind →
     HoldsAt tasks x'

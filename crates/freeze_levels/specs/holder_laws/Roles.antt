@@ -39,7 +39,7 @@ abbrev pub KnowsHolders : ℕ → ℕ → HolderRole → Type 0
 KnowsHolders stage holders (Found held) = (stage ≡ 4) × (holders ≡ word_of held)
 KnowsHolders stage holders r = Unit {0}
 
--- The holders between any two events: some freeze is held exactly where the stage is 4 and no freeze is between its store of stage 4 and its
+-- The holders between any two steps: some freeze is held exactly where the stage is 4 and no freeze is between its store of stage 4 and its
 -- store of its holder, nor a thaw between its store that nobody holds one and its store of stage 0.
 pub record HoldersHold (tasks stage holders : ℕ) (at : ℕ → HolderRole) : Type 0 where
   -- the word is one of some holders

@@ -1,9 +1,7 @@
 -- Holdings that agree at mounts and at levels: with them a task may be at the same calls.
-use Rattle.std.proofs.Common.{◌≡◌, ℕ, zero, suc, ◌<◌, ◌≤◌, Bool, true, false, refl, sym, ap, ◌∙◌, arith}
-use Rattle.std.specs.Prelude.{◌||◌, nat_lt}
-use Rattle.gated_tree.specs.declared.phases.TreePhase.{TreePhase}
-use Rattle.gate_world.specs.{Fits.TreeAccess, Holdings.{Holdings, Agree}, Operations.{some_mount, holds_none, is_writer, is_faulter, may_mark}}
-use Rattle.gate_world.specs.declared.config.Config.{Config}
+use Rattle.gate_schedules.proofs.Prelude.{Bool, Config, Holdings, TreePhase, ap, arith, false, nat_lt, refl, suc, true, zero, ℕ, ◌<◌, ◌∙◌, ◌≡◌, ◌≤◌}
+use Rattle.std.specs.Prelude.{◌||◌}
+use Rattle.gate_world.specs.{Fits.TreeAccess, Holdings.Agree, Operations.{some_mount, holds_none, is_writer, is_faulter, may_mark}}
 
 pub agree_self : {c : Config} {held : Holdings} → Agree c held held
 agree_self = record { mounts = λ m lm. refl; levels = λ i one three. refl; files = λ n. refl }
@@ -41,8 +39,4 @@ module _ (c : Config) (held seen : Holdings) (mounts : (m : ℕ) → m < c.mount
   mark_agrees false = levels 3 (omega arith) (omega arith)
 
   pub access_agrees : (x : TreePhase) → TreeAccess c held x → TreeAccess c seen x
-  access_agrees (TreePhase.Mark x) may = sym (mark_agrees x.dirty) ∙ may
-  access_agrees (TreePhase.Snapshot x) may = sym (none_agree held.levels seen.levels levels) ∙ may
-  access_agrees (TreePhase.ClearMarks x) may = may
-  access_agrees (TreePhase.OpenFile x) may = tt
-  access_agrees other may = sym writer_agrees ∙ may
+  access_agrees x may = grind (arith, mark_agrees, none_agree, writer_agrees)

@@ -1,26 +1,23 @@
--- What an event leaves alone.
-use Rattle.std.proofs.lemmas.Grind.{common_steps}
+-- What a step leaves alone.
+use Rattle.gate_schedules.proofs.Prelude.{AtLevel, AtMount, Bool, Config, Fits, Fitting, Holdings, Holds, IsGood, Option, Owner, Phase, Stages}
+use Rattle.gate_schedules.proofs.Prelude.{SyncAt, Touch, Tree, View, WordName, Words, World, ap, arith, common_steps, each_updated, eq-eqb, eqb_tells}
+use Rattle.gate_schedules.proofs.Prelude.{held_of, if◌then◌else◌, inl, inr, inside, is_frozen_whole, owns, refl, shown, stage_role_of, subst, suc}
+use Rattle.gate_schedules.proofs.Prelude.{sym, sync_role_of, tree_bounds, tree_role_of, true≢false, update, update_same, ℕ, ◌+◌, ◌<◌, ◌==◌, ◌∙◌, ◌≡◌}
 use Rattle.access_model.specs.States.{openers}
-use Rattle.cpu_words.specs.{Words.Words, declared.{events.Touch.Touch, names.WordName.WordName}}
 use Rattle.cpu_words.specs.gate_counts.Levels.{LevelHolds, LevelRole, LevelView, Out as CountsNot}
-use Rattle.finite_sums.proofs.Totals.{each_updated, total_updated, update_map, update_same}
-use Rattle.finite_sums.specs.Sums.{update}
-use Rattle.freeze_levels.specs.{Holders.{holders_in}, holder_laws.Roles.{HolderRole, HoldersHold}}
+use Rattle.finite_sums.proofs.Totals.{total_updated, update_map}
+use Rattle.freeze_levels.specs.{Holders.holders_in, holder_laws.Roles.{HolderRole, HoldersHold}}
 use Rattle.gate_schedules.proofs.frames.Known.{known_same}
-use Rattle.gate_world.specs.{Fits.{Fits, HasFile, file_of}, Holdings.Holdings, Levels.{at_level, inside, is_frozen_whole, level_added_by, level_taken_by}}
-use Rattle.gate_world.specs.{SameRoles.{Roles, no_roles, roles_of}, Levels.sync_role_of, Owners.KnowsWords, Roles.{count_role_if, role_if, sync_role_if}}
-use Rattle.gate_world.specs.Rules.{AtLevel, AtMount, Files, Fitting, GatesHold, Holding, Holds, IsGood, IsSteady, Known, Owner, OwnerHolds, Part, SameView}
-use Rattle.gate_world.specs.Rules.{SameWords, Sections, Stages, SyncAt, Tree, ViewFits, at_mount, holder_role_of, holder_roles, owns, remounts, stage_role_of}
-use Rattle.gate_world.specs.{Rules.stage_roles, Shown.{closing, is_passed, shown}, Trees.{tree_bounds, tree_role_of, tree_roles}, Views.added_after}
-use Rattle.gate_world.specs.{Views.{has_open, held_at, held_of, holds_level, taken_after}, Worlds.World, declared.{config.Config.Config, views.View.View}}
-use Rattle.gate_world.specs.declared.work.Phase.{Phase}
+use Rattle.gate_world.specs.{Fits.{HasFile, file_of}, Levels.{at_level, level_added_by, level_taken_by}, Owners.KnowsWords, Roles.count_role_if}
+use Rattle.gate_world.specs.{Roles.{role_if, sync_role_if}, Rules.{Files, GatesHold, Holding, IsSteady, Known, OwnerHolds, Part, SameView, SameWords}}
+use Rattle.gate_world.specs.{Rules.{Sections, ViewFits, at_mount, holder_role_of, holder_roles, remounts, stage_roles}, SameRoles.{Roles, no_roles}}
+use Rattle.gate_world.specs.{SameRoles.roles_of, Shown.{closing, is_passed}, Trees.tree_roles, Views.{added_after, has_open, held_at, holds_level}}
+use Rattle.gate_world.specs.Views.{taken_after}
 use Rattle.node_words.specs.Nodes.{node_shown, opens_in}
 use Rattle.gated_tree.specs.Roles.{Role as TreeRole, TreeHolds, TreeState}
 use Rattle.freeze_laws.specs.{levels.Roles.{Out as IsApart, SyncNumberHolds, SyncRole}, stages.Roles.{StageRole, StagesHold}}
 use Rattle.mount_counts.specs.Roles.{MountHolds, MountView, Out, Role, ro_bit}
-use Rattle.std.proofs.{Common.{Bool, ap, arith, inl, inr, refl, subst, suc, sym, true≢false, ℕ, ◌+◌, ◌<◌, ◌∙◌, ◌≡◌}, lemmas.Bool.{eq-eqb, ne_eqb}}
-use Rattle.std.proofs.lemmas.Bool.Decides.{eqb_tells}
-use Rattle.std.specs.Prelude.{Option, false, if◌then◌else◌, true, ◌%◌, ◌==◌, ◌||◌}
+use Rattle.std.{proofs.lemmas.Bool.ne_eqb, specs.Prelude.{false, true, ◌%◌, ◌||◌}}
 
 pub added_load : (name : WordName) (added : ℕ → ℕ → ℕ) → added_after name Touch.Load added ≡ added
 added_load name added = grind arith
@@ -91,7 +88,7 @@ same_words w part = grind arith
 pub unwritten : {old new : Words} → new ≡ old → (part : Part) → SameWords old new part
 unwritten {old} e part = subst (λ ws. SameWords old ws part) (sym e) (same_words old part)
 
--- one mount after an event of this task, which makes this of its flags and counts and of the task's view
+-- one mount after a step of this task, which makes this of its flags and counts and of the task's view
 abbrev pub MountHoldsAfter : Config → World → ℕ → ℕ → ℕ → (ℕ → ℕ) → MountView → Type 0
 MountHoldsAfter c w t m flags count v =
     MountHolds c.tasks c.processors flags w.words.remount w.words.sb count (update (λ x. at_mount m (w.views x)) t v)
@@ -102,7 +99,7 @@ module _ (c : Config) (w : World) (t : ℕ) (lt : t < c.tasks) where
       is_passed c (record { words = ws; views = update w.views t v }) i ≡ is_passed c w i
   passed_same ws v i eb ec = grind (arith, common_steps)
 
-  -- the shown model after an event that is no event of a freeze
+  -- the shown state after a step that is no step of a freeze
   pub shown_as : (ws : Words) (v : View) → ws.block ≡ w.words.block → ((i : ℕ) → closing i v.phase ≡ closing i (w.views t).phase) →
       shown c (record { words = ws; views = update w.views t v }) ≡
       record (shown c w) {
@@ -173,26 +170,26 @@ module _ (c : Config) (w : World) (t : ℕ) (lt : t < c.tasks) where
   stage_roles_left v seen =
       update_map (λ (u : View). stage_role_of u.phase) w.views t v ∙ ap (update (stage_roles w) t) seen ∙ update_same (stage_roles w) t
 
-  -- what each task is doing with those who hold a freeze, likewise
+  -- what each task is doing with those who hold a freeze, where this one does what it did
   pub holder_roles_left : (v : View) → holder_role_of v.phase ≡ holder_role_of (w.views t).phase →
       ◌≡◌ {A = ℕ → HolderRole} (λ x. holder_role_of (update w.views t v x).phase) (holder_roles w)
   holder_roles_left v seen =
       update_map (λ (u : View). holder_role_of u.phase) w.views t v ∙ ap (update (holder_roles w) t) seen ∙ update_same (holder_roles w) t
 
-  -- what each task is doing at the tree, likewise
+  -- what each task is doing at the tree, where this one does what it did
   pub tree_roles_left : (v : View) → tree_role_of v.trace v.phase ≡ tree_role_of (w.views t).trace (w.views t).phase →
       ◌≡◌ {A = ℕ → TreeRole} (λ x. tree_role_of (update w.views t v x).trace (update w.views t v x).phase) (tree_roles w)
   tree_roles_left v seen =
       update_map (λ (u : View). tree_role_of u.trace u.phase) w.views t v ∙ ap (update (tree_roles w) t) seen ∙
       update_same (tree_roles w) t
 
-  -- which files each task has open, likewise
+  -- which files each task has open, where this one has those that it had
   pub opens_left : (v : View) → has_open v ≡ has_open (w.views t) →
       ◌≡◌ {A = ℕ → ℕ → Bool} (λ x. has_open (update w.views t v x)) (λ x. has_open (w.views x))
   opens_left v seen =
       update_map has_open w.views t v ∙ ap (update (λ x. has_open (w.views x)) t) seen ∙ update_same (λ x. has_open (w.views x)) t
 
-  -- each part of the rule where an event leaves what it reads
+  -- each conjunct of the invariant where a step leaves what it reads
   pub left_alone : (part : Part) (ws : Words) (v : View) → SameWords w.words ws part → SameView (w.views t) v part → Holds c w part →
       Holds c (record { words = ws; views = update w.views t v }) part
   left_alone Owner ws v same seen h = record {
@@ -240,7 +237,7 @@ module _ (c : Config) (w : World) (t : ℕ) (lt : t < c.tasks) where
         OwnerHolds c.tasks w.words.umount w.words.remount (λ x. (update w.views t v x).phase)
     owner_same v same = left_alone Owner w.words v (refl, refl) (same.owns_same, same.remounts_same) (good Owner)
 
-    -- an event that touches one mount
+    -- a step that touches one mount
     pub gates_after : (m : ℕ) (ws : Words) (v : View) →
         ws.remount ≡ w.words.remount → ws.sb ≡ w.words.sb →
         OwnerHolds c.tasks ws.umount ws.remount (λ x. (update w.views t v x).phase) →
@@ -290,7 +287,7 @@ pub record SameLevelCounts (old new : View) : Type 0 where
   pub added_same : level_added_by new.events ≡ level_added_by old.events
   pub taken_same : level_taken_by new.events ≡ level_taken_by old.events
 
--- so an event of such a phase leaves the levels alone
+-- so a step of such a phase leaves the levels alone
 module _ (c : Config) (w : World) (t : ℕ) (lt : t < c.tasks) (good : IsGood c w) (ws : Words) (v : View)
     (words : SameLevelWords w.words ws) (counts : SameLevelCounts (w.views t) v) (was : IsOffLevels (w.views t).phase)
     (now : IsOffLevels v.phase) where

@@ -1,17 +1,16 @@
--- Who holds a freeze, as the laws of the holders have it: what holds of it in a world, and what an event of a task leaves of it.
-use Rattle.std.proofs.{Common.{◌≡◌, ℕ, ◌<◌, ◌≤◌, sym, ap, ◌∙◌, subst, inl, inr, arith}, lemmas.Bool.{Decides.eqb_tells}}
-use Rattle.std.specs.Prelude.{Option}
-use Rattle.finite_sums.{proofs.Totals.{total_none, update_map, update_same}, specs.Sums.{update, total}}
-use Rattle.cpu_words.specs.Words.{Words}
-use Rattle.freeze_levels.{proofs.holder_laws.HolderLaws.events_keep, specs.holder_laws.{Events.{HolderMoment, HolderEvent, Happens, Moves, Stays}, Roles.{HoldersHold, minds}}}
-use Rattle.gate_world.specs.{Rules.{Holding, Holds, IsGood, Owner}}
-use Rattle.gate_world.specs.{Rules.{holder_role_of, holder_roles, owns}, Worlds.World, declared.{config.Config.Config, views.View.View, work.Phase.Phase}}
+-- Who holds a freeze, as the laws of the holders have it: what holds of it in a state, and what a step of a task leaves of it.
+use Rattle.gate_schedules.proofs.Prelude.{Config, Holds, IsGood, Option, Owner, Phase, View, Words, World, ap, arith, eqb_tells, inl, inr, owns}
+use Rattle.gate_schedules.proofs.Prelude.{subst, sym, total, update, update_same, ℕ, ◌<◌, ◌∙◌, ◌≡◌, ◌≤◌}
+use Rattle.finite_sums.proofs.Totals.{total_none, update_map}
+use Rattle.freeze_levels.{proofs.holder_laws.HolderLaws.events_keep, specs.holder_laws.Events.{HolderMoment, HolderEvent, Happens, Moves, Stays}}
+use Rattle.freeze_levels.specs.holder_laws.Roles.{HoldersHold, minds}
+use Rattle.gate_world.specs.Rules.{Holding, holder_role_of, holder_roles}
 use Rattle.gate_schedules.proofs.frames.Owners.{owns_le}
 
 pub holder_owner : (p : Option Phase) → minds (holder_role_of p) ≤ owns p
 holder_owner p = grind arith
 
--- the holders of a world
+-- the holders of a state
 abbrev pub holders_at : World → HolderMoment
 holders_at w = record { stage = w.words.stage; holders = w.words.holders; at = holder_roles w }
 
@@ -28,7 +27,7 @@ module _ (c : Config) (w : World) (good : IsGood c w) (t : ℕ) (lt : t < c.task
       ])
 
   module _ (ws : Words) (v : View) where
-    -- what is there of the holders where the event is one of these
+    -- what is there of the holders where the step is one of these
     abbrev pub IsHolderEvent : HolderEvent → Type 0
     IsHolderEvent kind = Happens c.tasks t (holders_at w) record {
       stage = ws.stage;

@@ -1,12 +1,11 @@
 -- What the owner of `umount` has found or left is still there: nobody else changes such a word.
-use Rattle.std.proofs.{Common.{arith, inl, inr, sym, true, true≢false, ◌≡◌, ◌<◌, ◌∙◌, ◌⊎◌, ap, ℕ}, lemmas.Bool.cases_Bool}
-use Rattle.std.specs.Prelude.{List, None, Some, false, is_some, ◌∷◌, []}
-use Rattle.finite_sums.{proofs.Totals.each_updated}
-use Rattle.cpu_words.specs.{Hooks.HookAnswer, Touches.{event_of, left}, Words.{Words, put, read}}
-use Rattle.cpu_words.specs.declared.{events.{Event.Event, Touch.Touch}, names.WordName.WordName}
-use Rattle.gate_world.specs.{traces.Found.is_load, Owners.{is_owned, is_owned_word, last_left, takes_lock, KnowsWords}, Rules.{Holds, IsGood, Known, Owner, owns}}
-use Rattle.gate_world.specs.{Views.{phase_after, view_after}, Work.{after_of, next_of}, Worlds.{World, after_step, found_at, value_at, words_after}}
-use Rattle.gate_world.specs.declared.{config.Config.Config, views.{Traced.Traced, View.View}, work.Phase.Phase}
+use Rattle.gate_schedules.proofs.Prelude.{Config, Holds, HookAnswer, IsGood, List, None, Owner, Phase, Some, Touch, Traced, View, WordName, Words}
+use Rattle.gate_schedules.proofs.Prelude.{World, [], after_of, after_step, ap, arith, cases_Bool, each_updated, found_at, inl, inr, left, owns}
+use Rattle.gate_schedules.proofs.Prelude.{phase_after, put, read, sym, true, true≢false, words_after, ℕ, ◌<◌, ◌∙◌, ◌∷◌, ◌≡◌}
+use Rattle.std.{proofs.Common.◌⊎◌, specs.Prelude.{false, is_some}}
+use Rattle.cpu_words.specs.{Touches.event_of, declared.events.Event.Event}
+use Rattle.gate_world.specs.{Owners.{is_owned, is_owned_word, last_left, takes_lock, KnowsWords}, Rules.Known, Views.view_after, Work.next_of}
+use Rattle.gate_world.specs.{Worlds.value_at, traces.Found.is_load}
 
 none_is_none : {A : Type 0} {B : Type 0} (x : A) → None ≡ Some x → B
 none_is_none x h = absurd (true≢false (ap is_some (sym h)))
@@ -51,7 +50,7 @@ pub known_same : (old new : Words) → (new.stage ≡ old.stage) × (new.sb ≡ 
     (trace : List Traced) → KnowsWords old trace → KnowsWords new trace
 known_same old new same trace h word value k = read_same old new same word (known_owned word trace value k) ∙ h word value k
 
--- the event of a phase, on a word that held this value
+-- the step of a phase, on a word that held this value
 abbrev pub event_on : Phase → ℕ → HookAnswer → Event
 event_on phase value hook = event_of (next_of phase hook).0 (next_of phase hook).1 value
 
@@ -63,7 +62,7 @@ pub record IsOwnersWork (w : World) (phase : Phase) (hook : HookAnswer) : Type 0
 
 module _ (c : Config) (w : World) (t : ℕ) (phase : Phase) (hook : HookAnswer) (good : IsGood c w) (lt : t < c.tasks)
     (e : (w.views t).phase ≡ Some phase) (work : IsOwnersWork w phase hook) where
-  -- what the task itself knew, and what its event found or left
+  -- what the task itself knew, and what its step found or left
   own_known : owns (phase_after (after_of phase (found_at w.words phase hook) hook).0) ≡ 1 →
       KnowsWords (words_after w.words phase hook) (view_after (w.views t) phase (value_at w.words phase hook) hook).trace
   own_known o word value h =
@@ -84,7 +83,7 @@ module _ (c : Config) (w : World) (t : ℕ) (phase : Phase) (hook : HookAnswer) 
         ]
       ]
 
-  -- what another owner knew: the event changes no owned word
+  -- what another owner knew: the step changes no owned word
   other_known : (y : ℕ) → y < c.tasks → (y ≡ t → ⊥) → owns (w.views y).phase ≡ 1 →
       KnowsWords (words_after w.words phase hook) (w.views y).trace
   other_known y ly ne o word value h =

@@ -1,5 +1,5 @@
 -- How many tasks may have a file open, and how much one of them counts.
-use Rattle.std.proofs.Common.{◌≡◌, ◌≤◌, refl, arith, Bool, true, false}
+use Rattle.gate_schedules.proofs.Prelude.{Bool, arith, false, refl, true, ◌≡◌, ◌≤◌}
 use Rattle.access_model.specs.States.{one_if, most_tasks}
 
 -- a model has at most 64 tasks

@@ -1,21 +1,20 @@
 -- What is proved of an operation: of each of its phases, and of its beginning and its trace.
-use Rattle.access_model.specs.declared.{actions.Action.Action, errors.GateError.GateError}
-use Rattle.cpu_words.specs.{Hooks.HookAnswer, Names.{Extents, IsWord}, declared.names.WordName.WordName}
-use Rattle.gate_world.specs.{Beginnings.{first_phase, is_in_order, is_in_range, is_within_room}, refusals.Causes.{all_counted, all_inside}, Configs.IsWithin}
-use Rattle.gate_world.specs.{Configs.{extents_among, extents_of}, traces.TraceStates.{IsTrace, state_of_trace}, Fits.{ActionFits, Fits, HasFile, PhaseFits, file_of}}
-use Rattle.gate_world.specs.{Holdings.{Agree, Holdings, held_after, holdings_of}, refusals.KeptCauses.CauseOf, LevelRuns.level_in, Moments.CompletesNow}
-use Rattle.gate_world.specs.{SameRoles.{no_roles, roles_of}, Rules.{IsGood, StepKeeps}, traces.Traces.{IsShort, Tells, actions_of, most_events}, Views.held_of}
-use Rattle.gate_world.specs.{Views.phase_after, refusals.Waits.HasReason, Work.{after_of, next_of}, Worlds.{World, after_step, found_at}}
-use Rattle.gate_world.specs.declared.{config.Config.Config, operations.Op.Op, views.Traced.Traced, work.Phase.Phase}
-use Rattle.freeze_laws.specs.levels.Events.{SyncStep}
-use Rattle.std.proofs.Common.{Bool, arith, false, true, ℕ, ◌+◌, ◌-◌, ◌<◌, ◌≡◌, ◌≤◌}
-use Rattle.std.specs.Prelude.{Err, List, None, Option, Some, ◌++◌, ◌∷◌}
+use Rattle.gate_schedules.proofs.Prelude.{Action, Bool, Config, Err, Fits, GateError, Holdings, HookAnswer, IsGood, IsWithin, List, None, Op, Option}
+use Rattle.gate_schedules.proofs.Prelude.{Phase, PhaseFits, Some, StepKeeps, SyncStep, Traced, WordName, World, after_of, after_step, arith, false}
+use Rattle.gate_schedules.proofs.Prelude.{found_at, held_after, held_of, level_in, phase_after, true, ℕ, ◌+◌, ◌<◌, ◌∷◌, ◌≡◌, ◌≤◌}
+use Rattle.cpu_words.specs.Names.{Extents, IsWord}
+use Rattle.gate_world.specs.{Beginnings.{first_phase, is_in_order, is_in_range, is_within_room}, Configs.{extents_among, extents_of}, Fits.ActionFits}
+use Rattle.gate_world.specs.{Fits.{HasFile, file_of}, Holdings.{Agree, holdings_of}, Moments.CompletesNow, SameRoles.{no_roles, roles_of}}
+use Rattle.gate_world.specs.{Work.next_of, refusals.{Causes.{all_counted, all_inside}, KeptCauses.CauseOf, Waits.HasReason}, traces.Traces.actions_of}
+use Rattle.gate_world.specs.traces.Traces.{most_events}
+use Rattle.std.{proofs.Common.◌-◌, specs.Prelude.◌++◌}
+use Rattle.gate_schedules.proofs.traces.TraceInvariant.{TraceLaws}
 
 pub by_bool : (b : Bool) (P : Bool → Type 0) → P true → P false → P b
 by_bool true P x y = x
 by_bool false P x y = y
 
--- the words that events may touch, among so many tasks: those of the nodes, and those of 64 nodes, which the word of a node may name
+-- the words that steps may touch, among so many tasks: those of the nodes, and those of 64 nodes, which the word of a node may name
 abbrev pub extents_touched : ℕ → Config → Extents
 extents_touched n c = record { tasks = n; processors = c.processors; mounts = c.mounts; nodes = 64 + (c.nodes - 64) }
 
@@ -27,23 +26,23 @@ word_among c n le name h = grind arith
 pub word_kept : (c : Config) → IsWithin c → (n : ℕ) (name : WordName) → IsWord (extents_touched n c) name → IsWord (extents_among n c) name
 word_kept c within n name h = grind arith
 
--- where nothing is counted at a gate in two worlds, its counts are the same in both
+-- where nothing is counted at a gate in two states, its counts are the same in both
 pub record IsQuiet (c : Config) (w next : World) : Type 0 where
   pub mounts : (m : ℕ) → all_counted c m w ≡ 0 → all_counted c m next ≡ 0 → next.words.count m ≡ w.words.count m
   pub levels : (i : ℕ) → all_inside c i w ≡ 0 → all_inside c i next ≡ 0 → next.words.level i ≡ w.words.level i
 
 -- of one phase
 pub record PhaseLaws (c : Config) (phase : Phase) : Type 0 where
-  -- its event keeps the rule, and moves the shown model by its action
+  -- its step keeps the invariant, and moves the shown state by its action
   pub step : IsWithin c → (w : World) → IsGood c w → (t : ℕ) → t < c.tasks → (hook : HookAnswer) → (w.views t).phase ≡ Some phase →
       StepKeeps c w t hook phase
-  -- its event is one of each level's
+  -- its step is one of each level's
   pub runs : IsWithin c → (w : World) → IsGood c w → (t : ℕ) → t < c.tasks → (hook : HookAnswer) → (w.views t).phase ≡ Some phase →
       (i : ℕ) → 1 ≤ i → i ≤ 3 → SyncStep c.tasks (level_in w i) (level_in (after_step w t phase hook) i)
-  -- a snapshot that its event completes is of the present tree
+  -- a snapshot that its step completes is of the present tree
   pub completes : IsWithin c → (w : World) → IsGood c w → (t : ℕ) → t < c.tasks → (hook : HookAnswer) → (w.views t).phase ≡ Some phase →
       CompletesNow c w t hook phase
-  -- the word of its event is one of these, among however many tasks its own number is one of
+  -- the word of its step is one of these, among however many tasks its own number is one of
   pub word : (n : ℕ) → c.tasks ≤ n → (t : ℕ) → t < n → (held : Holdings) (hook : HookAnswer) →
       PhaseFits c t held phase → IsWord (extents_touched n c) (next_of phase hook).0
   -- its action can be done
@@ -65,16 +64,16 @@ pub record PhaseLaws (c : Config) (phase : Phase) : Type 0 where
       ((after_step w t phase hook).views t).phase ≡ phase_after (after_of phase (found_at w.words phase hook) hook).0 →
       CauseOf c t w earlier (Some phase) →
       CauseOf c t (after_step w t phase hook) (w ∷ earlier) (phase_after (after_of phase (found_at w.words phase hook) hook).0)
-  -- where its event is a wait, another task has what it waits for, or had it when that was found; where it is a refusal, that has its cause
+  -- where its step is a wait, another task has what it waits for, or had it when that was found; where it is a refusal, that has its cause
   pub reasons : IsWithin c → (w : World) (earlier : List World) → IsGood c w → (t : ℕ) → t < c.tasks → (hook : HookAnswer) →
       (w.views t).phase ≡ Some phase → CauseOf c t w earlier (Some phase) →
       HasReason c w earlier t phase (after_of phase (found_at w.words phase hook) hook).0
 
--- the most events of any operation that has a most number of them
+-- the most steps of any operation that has a most number of them
 abbrev pub most_events_of_all : ℕ
 most_events_of_all = 132
 
--- where there is a most number of events, it is no more
+-- where there is a most number of steps, it is no more
 abbrev pub IsSmall : Option ℕ → Type 0
 IsSmall None = Unit {0}
 IsSmall (Some most) = most ≤ most_events_of_all
@@ -96,9 +95,7 @@ pub record OpLaws (c : Config) (op : Op) : Type 0 where
   -- its first phase relies on its file to be open, or not, only where it may begin with it so
   pub file : (t : ℕ) (held : Holdings) → is_in_order c held op ≡ true → is_within_room held op ≡ true →
       HasFile held.files (file_of (Some (first_phase c t op)))
-  -- its trace tells what is to be told, and is short
-  pub tells : IsWithin c → (t : ℕ) (trace : List Traced) → IsTrace c t op trace →
-      Tells c op trace (state_of_trace c t op trace).comes (state_of_trace c t op trace).added
-  pub short : IsWithin c → (t : ℕ) (trace : List Traced) → IsTrace c t op trace → IsShort (most_events c op) trace
-  -- its most number of events is small, where it has one
+  -- its traces tell what is to be told, and are short
+  pub traces : IsWithin c → TraceLaws c op
+  -- its most number of steps is small, where it has one
   pub most_small : IsWithin c → IsSmall (most_events c op)

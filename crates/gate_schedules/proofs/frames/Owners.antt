@@ -1,16 +1,13 @@
--- What every owner of `umount` may rely on, and its events: under the lock, on the word `umount`, and on a mount's flags.
-use Rattle.cpu_words.specs.{Words.Words}
-use Rattle.finite_sums.proofs.Totals.{HasPlace, each_updated, total_at, total_none, total_place, total_updated, update_at, update_map, update_off}
-use Rattle.finite_sums.proofs.Totals.{update_same}
-use Rattle.finite_sums.specs.Sums.{total, update}
+-- What every owner of `umount` may rely on, and its steps: under the lock, on the word `umount`, and on a mount's flags.
+use Rattle.gate_schedules.proofs.Prelude.{AtMount, Bool, Config, Holdings, IsGood, Option, Owner, Phase, View, Words, World, ap, arith, each_updated}
+use Rattle.gate_schedules.proofs.Prelude.{eqb_tells, held_of, inl, inr, owns, refl, shown, suc, total, update, update_at, update_same, ℕ, ◌+◌, ◌<◌}
+use Rattle.gate_schedules.proofs.Prelude.{◌==◌, ◌∙◌, ◌≡◌, ◌≤◌}
+use Rattle.finite_sums.proofs.Totals.{HasPlace, total_at, total_none, total_place, total_updated, update_map, update_off}
 use Rattle.gate_schedules.proofs.frames.Frames.{MountHoldsAfter, gates_after, holds_as, owner_same, shown_held, shown_still, view_as}
-use Rattle.gate_world.specs.{Holdings.Holdings}
-use Rattle.gate_world.specs.{Rules.{AtMount, GatesHold, IsGood, IsSteady, Owner, OwnerHolds, ViewFits, at_mount, owns, remounts, role_of}, Shown.closing}
-use Rattle.gate_world.specs.{Shown.shown, Views.{added_by, held_of, taken_by}, refusals.Waits.{HasCulprit, IsWaitedFor}, Worlds.World, declared.config.Config.Config}
-use Rattle.gate_world.specs.declared.{views.View.View, work.Phase.Phase}
-use Rattle.mount_counts.specs.{Roles.{Role, has_hold, hold_bit, ro_bit, skips}}
-use Rattle.std.proofs.{Common.{Bool, ap, arith, inl, inr, refl, suc, ℕ, ◌+◌, ◌<◌, ◌∙◌, ◌≡◌, ◌≤◌}, lemmas.Bool.Decides.eqb_tells}
-use Rattle.std.specs.Prelude.{Option, ◌-◌, ◌==◌}
+use Rattle.gate_world.specs.{Rules.{GatesHold, IsSteady, OwnerHolds, ViewFits, at_mount, remounts, role_of}, Shown.closing, Views.added_by}
+use Rattle.gate_world.specs.{Views.taken_by, refusals.Waits.{HasCulprit, IsWaitedFor}}
+use Rattle.mount_counts.specs.Roles.{Role, has_hold, hold_bit, ro_bit, skips}
+use Rattle.std.specs.Prelude.{◌-◌}
 
 pub owns_le : (p : Option Phase) → owns p ≤ 1
 owns_le p = grind arith
@@ -69,7 +66,7 @@ module _ (c : Config) (w : World) (good : IsGood c w) (t : ℕ) (lt : t < c.task
         omega (arith, place.2, hold_owns m (w.views place.0).phase, owns_le (w.views place.0).phase),
       )
 
-  -- where `umount` is taken, another task has it, if this one has not; so a phase that waits for who has it has a culprit
+  -- where `umount` is taken, another task has it, if this one has not; so a phase that waits for who has it has a blocker
   pub umount_taken : (phase : Phase) → ((y : ℕ) → owns (w.views y).phase ≡ 1 → IsWaitedFor w phase y) → (w.words.umount ≡ 0 → ⊥) →
       owns (w.views t).phase ≡ 0 → HasCulprit c w t phase
   umount_taken phase waits taken mine =
@@ -152,7 +149,7 @@ module _ (c : Config) (w : World) (good : IsGood c w) (t : ℕ) (lt : t < c.task
     remounting = omega (arith, is, total_updated (λ (u : View). remounts u.phase) c.tasks t w.views v lt, only_remount o);
   }
 
-  -- an event that leaves all words but `umount`, and the task's role at each mount
+  -- a step that leaves all words but `umount`, and the task's role at each mount
   pub umount_law : (n : ℕ) (v : View) → OwnerHolds c.tasks n w.words.remount (λ x. (update w.views t v x).phase) → ViewFits c t v →
       held_of v ≡ held_of (w.views t) → added_by v.events ≡ added_by (w.views t).events → taken_by v.events ≡ taken_by (w.views t).events →
       ((y : ℕ) → role_of y v.phase ≡ role_of y (w.views t).phase) → ((i : ℕ) → closing i v.phase ≡ closing i (w.views t).phase) →
@@ -181,11 +178,11 @@ module _ (c : Config) (w : World) (good : IsGood c w) (t : ℕ) (lt : t < c.task
       (λ l. holds_as (update_at w.words.flags m f) refl refl refl (ap (update (λ x. at_mount m (w.views x)) t) (at m r role)) own)
 
 module _ (c : Config) (w : World) (t : ℕ) (lt : t < c.tasks) (m f : ℕ) (v : View) where
-  -- the world after an event on the flags of a mount
+  -- the state after a step on the flags of a mount
   abbrev pub flags_after : World
   flags_after = record { words = record w.words { flags = update w.words.flags m f }; views = update w.views t v }
 
-  -- the shown model then, where READONLY is so and the task has the same accesses
+  -- the shown state then, where READONLY is so and the task has the same accesses
   pub flags_shown : (b : Bool) → IsSteady (w.views t).phase v.phase → (ro_bit f == 1) ≡ b →
       held_of v ≡ held_of (w.views t) → shown c flags_after ≡ record (shown c w) { mount_ro = update (λ n. ro_bit (w.words.flags n) == 1) m b }
   flags_shown b same h eh =

@@ -1,13 +1,8 @@
--- An operation that stands at a phase of another one, as a part of its own: the law of the other's event is the law of its event.
-use Rattle.access_model.specs.declared.{actions.Action.Action, replies.Next.Next}
-use Rattle.cpu_words.specs.{Hooks.HookAnswer, declared.{events.Touch.Touch, names.WordName.WordName}}
-use Rattle.finite_sums.proofs.Totals.{update_at}
-use Rattle.gate_schedules.proofs.frames.{SameRolesOffTree.{made, made_again, made_keeps_off_tree, rephased_off_tree}, Frames.left_alone}
-use Rattle.gate_world.specs.{SameRoles.{SameRoles, Roles, at_phase, off_tree, rephased, roles_of}, Fits.Fits, Holdings.held_after, Rules.Files}
-use Rattle.gate_world.specs.{Rules.{Holds, IsGood, Moves, Tree}, Shown.shown, Views.{held_of, phase_after}, Worlds.World, declared.config.Config.Config}
-use Rattle.gate_world.specs.declared.{views.View.View, work.Phase.Phase}
-use Rattle.std.proofs.Common.{ap, refl, subst, sym, ℕ, ◌<◌, ◌∙◌, ◌≡◌}
-use Rattle.std.specs.Prelude.{Option}
+-- An operation that stands at a phase of another one, as a part of its own: the law of the other's step is the law of its step.
+use Rattle.gate_schedules.proofs.Prelude.{Action, Config, Fits, Holds, HookAnswer, IsGood, Next, Option, Phase, Touch, Tree, View, WordName, World}
+use Rattle.gate_schedules.proofs.Prelude.{ap, held_after, held_of, phase_after, refl, shown, subst, sym, update_at, ℕ, ◌<◌, ◌∙◌, ◌≡◌}
+use Rattle.gate_schedules.proofs.frames.{Frames.left_alone, SameRolesOffTree.{made, made_again, made_keeps_off_tree, rephased_off_tree}}
+use Rattle.gate_world.specs.{Rules.{Files, Moves}, SameRoles.{SameRoles, Roles, at_phase, off_tree, rephased, roles_of}}
 
 pub alike_of : {p q : Option Phase} {r : Roles} → p ≡ q → r ≡ roles_of q → r ≡ roles_of p
 alike_of e h = h ∙ sym (ap roles_of e)
@@ -23,10 +18,10 @@ module _ (c : Config) (w : World) (t : ℕ) (lt : t < c.tasks) (q : Option Phase
   pub rephased_good : Fits c t (held_of (w.views t)) q → IsGood c w → IsGood c (rephased w t q)
   rephased_good fits good = rephased_off_tree c w t lt q (λ j. off_tree (same j)) fits good (rephased_tree (good Tree)) (rephased_files (good Files))
 
--- an event of a task that stands at one phase, and of the same task at another phase that is alike
+-- a step of a task that stands at one phase, and of the same task at another phase that is alike
 module _ (c : Config) (w : World) (t : ℕ) (lt : t < c.tasks) (p : Option Phase) (n : WordName × Touch) (hook : HookAnswer)
     (a b : Next Phase) (action : Option Action) where
-  -- what the law of the first says of the rule and of the shown model, it says of the second
+  -- what the law of the first says of the invariant and of the shown state, it says of the second
   pub made_keeps : IsGood c w → SameRoles (w.views t).phase p → Fits c t (held_of (w.views t)) p →
       (IsGood c (rephased w t p) → ((rephased w t p).views t).phase ≡ p →
       IsGood c (made (rephased w t p) t n hook a action) ×

@@ -1,19 +1,13 @@
 -- An operation that stands at a phase of another one, and relies on something at the tree meanwhile, as a last close does inside level 3:
--- the law of the other's event is the law of its event, but for the tree and the open files, which the event leaves alone.
-use Rattle.access_model.specs.declared.{actions.Action.Action, replies.Next.Next}
-use Rattle.std.proofs.Common.{arith, Bool, ap, false, refl, subst, sym, true, true≢false, ℕ, ◌<◌, ◌∙◌, ◌≡◌}
-use Rattle.cpu_words.specs.{Hooks.HookAnswer, Touches.left, Words.{put, read}, declared.{events.Touch.Touch, names.WordName.WordName}}
-use Rattle.finite_sums.proofs.Totals.{each_updated, update_at}
-use Rattle.finite_sums.specs.Sums.{update}
+-- the law of the other's step is the law of its step, but for the tree and the open files, which the step leaves alone.
+use Rattle.gate_schedules.proofs.Prelude.{Action, AtLevel, AtMount, Bool, Config, Fits, Fitting, Holds, HookAnswer, IsGood, Next, Option, Owner}
+use Rattle.gate_schedules.proofs.Prelude.{Phase, Stages, SyncAt, SyncStep, Touch, Tree, View, WordName, World, ap, arith, each_updated, false}
+use Rattle.gate_schedules.proofs.Prelude.{held_after, held_of, if◌then◌else◌, left, level_in, phase_after, put, read, refl, shown, subst, sym, true}
+use Rattle.gate_schedules.proofs.Prelude.{true≢false, update, update_at, ℕ, ◌<◌, ◌∙◌, ◌≡◌}
 use Rattle.gate_schedules.proofs.frames.{Accesses.holdings_of_after, ByPhase.closing_as, Frames.{left_alone, same_words, shown_still}}
 use Rattle.gate_schedules.proofs.levels.Steps.{level_kept}
-use Rattle.gate_world.specs.{SameRoles.{SameRolesOffTree, Roles, at_phase, off_tree, rephased, roles_of}, Fits.Fits, Holdings.{held_after}, LevelRuns.level_in}
-use Rattle.gate_world.specs.{Levels.{level_added_by, level_taken_by}, Rules.{AtLevel, AtMount, Files, Fitting, Holding, Holds}}
-use Rattle.gate_world.specs.{Rules.{IsGood, Known, Moves, Owner, Part, SameView, Sections, Stages, SyncAt, Tree, ViewFits}, Shown.shown, Views.added_by}
-use Rattle.gate_world.specs.{Views.{held_of, phase_after, taken_by, view_with}, Worlds.World, declared.{config.Config.Config, views.View.View}}
-use Rattle.gate_world.specs.declared.work.Phase.{Phase}
-use Rattle.freeze_laws.specs.levels.Events.{SyncStep}
-use Rattle.std.specs.Prelude.{Option, if◌then◌else◌}
+use Rattle.gate_world.specs.{Levels.{level_added_by, level_taken_by}, Rules.{Files, Holding, Known, Moves, Part, SameView, Sections, ViewFits}}
+use Rattle.gate_world.specs.{SameRoles.{SameRolesOffTree, Roles, at_phase, off_tree, rephased, roles_of}, Views.{added_by, taken_by, view_with}}
 
 pub roles_off_tree : {p q : Option Phase} {r : Roles} → p ≡ q → r ≡ off_tree (roles_of q) → r ≡ off_tree (roles_of p)
 roles_off_tree e h = h ∙ sym (ap (λ p. off_tree (roles_of p)) e)
@@ -57,25 +51,19 @@ module _ (c : Config) (w : World) (t : ℕ) (lt : t < c.tasks) (v : View) (count
   seen_off_tree Sections h = λ j. (same j).inside
   seen_off_tree part h = absurd (true≢false (sym h))
 
-  -- each part of the rule holds with it, where the four others do
+  -- each conjunct of the invariant holds with it, where the four others do
   pub good_off_tree : ViewFits c t v → IsGood c w → Holds c (record { words = w.words; views = update w.views t v }) Known →
       Holds c (record { words = w.words; views = update w.views t v }) Tree →
       Holds c (record { words = w.words; views = update w.views t v }) Files →
       (part : Part) → Holds c (record { words = w.words; views = update w.views t v }) part
-  good_off_tree fits good known tree files Fitting = λ x lx.
-      each_updated (λ y (u : View). ViewFits c y u) w.views t v x fits (λ ne. good Fitting x lx)
-  good_off_tree fits good known tree files Known = known
-  good_off_tree fits good known tree files Tree = tree
-  good_off_tree fits good known tree files Files = files
-  good_off_tree fits good known tree files part =
-      left_alone c w t lt part w.words v (same_words w.words part) (seen_off_tree part refl) (good part)
+  good_off_tree fits good known tree files part = grind (arith, each_updated, left_alone, same_words, seen_off_tree)
 
-  -- the shown model is the same
+  -- the shown state is the same
   pub view_shown_off_tree : shown c (record { words = w.words; views = update w.views t v }) ≡ shown c w
   view_shown_off_tree =
       shown_still c w t lt w.words v refl refl refl refl refl refl refl (closing_as _ _ (λ j. (same j).stage)) counts.held_same
 
--- the same accesses and events count the same
+-- the same accesses and steps count the same
 pub same_counts : (v : View) (q : Option Phase) → SameCounts v (at_phase v q)
 same_counts v q = assumption
 
@@ -101,22 +89,22 @@ level_off_tree w t q same i =
 pub update_twice : {A : Type 0} (f : ℕ → A) (t : ℕ) (u v : A) → update (update f t u) t v ≡ update f t v
 update_twice f t u v = grind arith
 
--- the world after an event of this word and touch, after which this comes
+-- the state after a step of this word and touch, after which this comes
 abbrev pub made : World → ℕ → WordName × Touch → HookAnswer → Next Phase → Option Action → World
 made w t n hook coming action = record {
   words = put w.words n.0 (left n.1 (read w.words n.0));
   views = update w.views t (view_with (w.views t) n (read w.words n.0) hook (coming, action));
 }
 
--- an event of a task that stands at one phase, and of the same task at another phase that is beside it
+-- a step of a task that stands at one phase, and of the same task at another phase that is beside it
 module _ (c : Config) (w : World) (t : ℕ) (lt : t < c.tasks) (p : Option Phase) (n : WordName × Touch) (hook : HookAnswer)
     (a b : Next Phase) (action : Option Action) where
-  -- the event of the first, done again at the second's phases, is the event of the second
+  -- the step of the first, done again at the second's phases, is the step of the second
   pub made_again : rephased (made (rephased w t p) t n hook a action) t (phase_after b) ≡ made w t n hook b action
   made_again = grind arith
 
-  -- so what the law of the first says of the rule and of the shown model, it says of the second, where the tree and the open files hold with the
-  -- first phase before the event, and with the second's after it
+  -- so what the law of the first says of the invariant and of the shown state, it says of the second, where the tree and the open files hold with the
+  -- first phase before the step, and with the second's after it
   pub made_keeps_off_tree : IsGood c w → SameRolesOffTree (w.views t).phase p → Fits c t (held_of (w.views t)) p →
       Holds c (rephased w t p) Tree → Holds c (rephased w t p) Files →
       (IsGood c (rephased w t p) → ((rephased w t p).views t).phase ≡ p →
@@ -148,7 +136,7 @@ module _ (c : Config) (w : World) (t : ℕ) (lt : t < c.tasks) (p : Option Phase
             ap (shown c) again) l.1),
       )
 
-  -- and where the event of the first is one of this level's, so is that of the second
+  -- and where the step of the first is one of this level's, so is that of the second
   pub made_runs_off_tree : (i : ℕ) → SameRolesOffTree (w.views t).phase p →
       SyncStep c.tasks (level_in (rephased w t p) i) (level_in (made (rephased w t p) t n hook a action) i) →
       SameRolesOffTree (phase_after a) (phase_after b) → SyncStep c.tasks (level_in w i) (level_in (made w t n hook b action) i)

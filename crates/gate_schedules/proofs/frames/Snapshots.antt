@@ -1,15 +1,11 @@
--- The rule and the shown model read no snapshot.
-use Rattle.std.proofs.Common.{arith}
-use Rattle.std.proofs.{Common.{◌≡◌, ℕ, ap, subst, refl, inl, inr, sym, ◌∙◌}, Math.Path.fun_ext, lemmas.Bool.{true≢false, Decides.eqb_tells}}
-use Rattle.std.specs.Prelude.{None, is_some, List}
-use Rattle.finite_sums.specs.Sums.{update}
-use Rattle.cpu_words.specs.{Hooks.HookAnswer, Touches.found_by, Words.Words}
-use Rattle.gate_world.specs.{Moments.CompletesNow, Rules.{Part, Holds, IsGood}, Shown.shown, traces.Snapshots.completes}
-use Rattle.gate_world.specs.{Views.{view_with, view_after, view_after_with_others}, Work.{next_of, after_of}}
-use Rattle.gate_world.specs.Worlds.{World, value_at, found_at, words_after, after_step, after_step_with_others}
-use Rattle.gate_world.specs.declared.{config.Config.Config, views.{Traced.Traced, View.View}, work.Phase.Phase}
+-- The invariant and the shown state read no snapshot.
+use Rattle.gate_schedules.proofs.Prelude.{Config, Holds, HookAnswer, IsGood, List, None, Phase, Traced, View, Words, World, after_of, after_step, ap}
+use Rattle.gate_schedules.proofs.Prelude.{arith, eqb_tells, found_at, found_by, inl, inr, refl, shown, subst, sym, update, words_after, ℕ, ◌∙◌, ◌≡◌}
+use Rattle.std.{proofs.{Math.Path.fun_ext, lemmas.Bool.true≢false}, specs.Prelude.is_some}
+use Rattle.gate_world.specs.{Moments.CompletesNow, Rules.Part, Views.{view_with, view_after, view_after_with_others}, Work.next_of, Worlds.value_at}
+use Rattle.gate_world.specs.{Worlds.after_step_with_others, traces.Snapshots.completes}
 
--- a view, and a world, without their snapshots
+-- a view, and a state, without their snapshots
 abbrev view_without_snapshot : View → View
 view_without_snapshot v = record v { snapshot = None }
 
@@ -23,7 +19,7 @@ bare_views : (f : ℕ → View) (t : ℕ) (u v : View) → view_without_snapshot
     view_without_snapshot (update f t u x) ≡ view_without_snapshot (update f t v x)
 bare_views f t u v e x = elim (eqb_tells x t) [ inl h ↦ rw (h.0, update) e | inr h ↦ rw (h.0, update) refl ]
 
--- views that differ in their snapshot alone serve alike: in each part of the rule, and in the shown model
+-- views that differ in their snapshot alone serve alike: in each conjunct of the invariant, and in the shown state
 module _ (c : Config) (ws : Words) (f : ℕ → View) (t : ℕ) (u v : View) (same : view_without_snapshot u ≡ view_without_snapshot v) where
   abbrev old : World
   old = record { words = ws; views = update f t u }
@@ -44,7 +40,7 @@ module _ (c : Config) (ws : Words) (f : ℕ → View) (t : ℕ) (u v : View) (sa
   pub shown_apart : shown c (record { words = ws; views = update f t u }) ≡ shown c (record { words = ws; views = update f t v })
   shown_apart = ap (shown c) same_bare
 
--- what the other numbers of a task have done is noted in its snapshot alone: the rule and the shown model are as without them
+-- what the other numbers of a task have done is noted in its snapshot alone: the invariant and the shown state are as without them
 pub others_apart : (c : Config) (others : List (ℕ × ℕ)) (w : World) (t : ℕ) (phase : Phase) (hook : HookAnswer) →
     IsGood c (after_step w t phase hook) →
     IsGood c (after_step_with_others others w t phase hook) ×
@@ -56,7 +52,7 @@ others_apart c others w t phase hook good =
     let beside : View = view_after_with_others others (w.views t) phase value hook in
     (λ part. part_apart c ws w.views t alone beside refl part (good part), shown_apart c ws w.views t alone beside refl)
 
--- the view, and the world, after an event where a snapshot that it completes is not noted
+-- the view, and the state, after a step where a snapshot that it completes is not noted
 abbrev plain_view : View → Phase → ℕ → HookAnswer → View
 plain_view v phase value hook = view_with v (next_of phase hook) value hook (after_of phase (found_by (next_of phase hook).1 value) hook)
 
@@ -66,7 +62,7 @@ after_plain_step w t phase hook = record {
   views = update w.views t (plain_view (w.views t) phase (value_at w.words phase hook) hook);
 }
 
--- so the law of an event that completes a snapshot may be proved as if none were noted
+-- so the law of a step that completes a snapshot may be proved as if none were noted
 module _ (c : Config) (w : World) (t : ℕ) (phase : Phase) (hook : HookAnswer) where
   abbrev plain : View
   plain = plain_view (w.views t) phase (value_at w.words phase hook) hook
@@ -77,7 +73,7 @@ module _ (c : Config) (w : World) (t : ℕ) (phase : Phase) (hook : HookAnswer) 
   pub noted_part : (part : Part) → Holds c (after_plain_step w t phase hook) part → Holds c (after_step w t phase hook) part
   noted_part part h = part_apart c (words_after w.words phase hook) w.views t plain noted refl part h
 
--- a phase whose event completes no snapshot, whatever it finds
+-- a phase whose step completes no snapshot, whatever it finds
 pub completes_none : (c : Config) (w : World) (t : ℕ) (hook : HookAnswer) (phase : Phase) →
     ((trace : List Traced) (found : ℕ) → completes phase trace found ≡ None) → CompletesNow c w t hook phase
 completes_none c w t hook phase none loaded e =

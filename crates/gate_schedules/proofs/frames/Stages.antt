@@ -1,21 +1,19 @@
--- The stage of a world, as the laws of the stage have it: what holds of it, what an event of a task leaves of it, and which actions are
+-- The stage of a state, as the laws of the stage have it: what holds of it, what a step of a task leaves of it, and which actions are
 -- allowed.
-use Rattle.access_model.specs.{Actions.IsAllowed, States.{State, is_dirty}, declared.actions.Action.Action}
-use Rattle.cpu_words.specs.Words.{Words}
-use Rattle.finite_sums.proofs.Totals.{total_none, update_map, update_same}
-use Rattle.finite_sums.specs.Sums.{total, update}
+use Rattle.gate_schedules.proofs.Prelude.{Action, Bool, Config, Holdings, Holds, IsGood, Option, Owner, Phase, Some, Stages, View, Words, World, ap}
+use Rattle.gate_schedules.proofs.Prelude.{arith, held_of, owns, refl, shown, stage_role_of, subst, sym, total, update, update_same, ℕ, ◌<◌, ◌==◌, ◌∙◌}
+use Rattle.gate_schedules.proofs.Prelude.{◌≡◌, ◌≤◌}
+use Rattle.access_model.specs.{Actions.IsAllowed, States.{State, is_dirty}}
+use Rattle.finite_sums.proofs.Totals.{total_none, update_map}
 use Rattle.freeze_levels.specs.Holders.{holders_in}
-use Rattle.gate_schedules.proofs.{frames.{ByPhase.{shown_passed}, Owners.owns_le}, trees.worlds.Trees.marks_right}
-use Rattle.gate_world.specs.{Configs.model_limits, Holdings.Holdings, Rules.{Holds, IsGood, Owner, Stages}}
-use Rattle.gate_world.specs.{Rules.{marks_of, owns, stage_role_of, stage_roles}, Shown.shown, Views.{has_open, held_at, held_of, holds_level}, Worlds.World}
-use Rattle.gate_world.specs.declared.{config.Config.Config, views.View.View, work.Phase.Phase}
+use Rattle.gate_schedules.proofs.{frames.{ByPhase.shown_passed, Owners.owns_le}, trees.worlds.Trees.marks_right}
+use Rattle.gate_world.specs.{Configs.model_limits, Rules.{marks_of, stage_roles}, Views.{has_open, held_at, holds_level}}
 use Rattle.node_words.specs.Nodes.{dirty_in, node_shown}
-use Rattle.mount_counts.specs.{Roles.ro_bit}
-use Rattle.freeze_laws.proofs.stages.CitedLaws.{actions_are_allowed, actions_have_their_effect, events_keep}
-use Rattle.freeze_laws.specs.stages.{Events.{Happens, Holds as StageHolds, SameDuties, RepresentsStages, StageEvent, Stages as StageMoment, action_of}, Roles.{Owning, StageRole}}
-use Rattle.freeze_laws.specs.stages.{Roles.owns as stage_owns, Shown.{AsksOthers, ShowsStages, passed_shown, state_after}}
-use Rattle.std.proofs.{Common.{Bool, ap, arith, refl, subst, sym, ℕ, ◌<◌, ◌∙◌, ◌≡◌, ◌≤◌}}
-use Rattle.std.specs.Prelude.{Option, Some, false, ◌==◌}
+use Rattle.mount_counts.specs.Roles.{ro_bit}
+use Rattle.freeze_laws.{proofs.stages.CitedLaws.{actions_are_allowed, actions_have_their_effect, events_keep}, specs.stages.Events.Happens}
+use Rattle.freeze_laws.specs.stages.Events.{Holds as StageHolds, SameDuties, RepresentsStages, StageEvent, Stages as StageMoment, action_of}
+use Rattle.freeze_laws.specs.stages.{Roles.{Owning, StageRole, owns as stage_owns}, Shown.{AsksOthers, ShowsStages, passed_shown, state_after}}
+use Rattle.std.specs.Prelude.{false}
 
 -- owners that rely on one thing or another are alike
 pub owners_alike : (stage sb stage' sb' : Option ℕ) → SameDuties (Owning stage sb) (Owning stage' sb')
@@ -25,7 +23,7 @@ owners_alike stage sb stage' sb' =
 pub alike_same : (r : StageRole) → SameDuties r r
 alike_same r = record { owns_same = refl; freezes_same = refl; remounts_same = refl; closed_same = refl; passed_same = refl }
 
--- the stage of a world
+-- the stage of a state
 abbrev pub stages_in : World → StageMoment
 stages_in w = record {
   stage = w.words.stage;
@@ -58,7 +56,7 @@ module _ (c : Config) (w : World) (good : IsGood c w) where
       omega (arith, none, owns_le (w.views x).phase, stage_owner (w.views x).phase))
 
   module _ (t : ℕ) (lt : t < c.tasks) (ws : Words) (v : View) where
-    -- the stage of the world after an event of this task
+    -- the stage of the state after a step of this task
     pub stage_moves : stages_in (record { words = ws; views = update w.views t v }) ≡ record {
       stage = ws.stage;
       sb = ws.sb;
@@ -76,7 +74,7 @@ module _ (c : Config) (w : World) (good : IsGood c w) where
       at = update_map (λ (u : View). stage_role_of u.phase) w.views t v i;
     }
 
-    -- what is there of the stage where the event is one of these
+    -- what is there of the stage where the step is one of these
     abbrev pub IsStageEvent : StageEvent → Type 0
     IsStageEvent kind = Happens c.tasks c.nodes t (stages_in w) record {
       stage = ws.stage;
@@ -110,7 +108,7 @@ module _ (c : Config) (w : World) (good : IsGood c w) where
           actions_have_their_effect c.tasks c.nodes (stages_in w) _ t kind
           (record { right = stages_right; there = lt; happens = happens }) (shown c w) stages_shown.stages
 
-    -- The shown model after an event of a task that holds what it held, and that leaves the flags of the
+    -- The shown state after a step of a task that holds what it held, and that leaves the flags of the
     -- mounts: it is a state that shows the stage then, who holds a freeze, and the nodes, and is else as it was.
     pub shown_by : ws.flags ≡ w.words.flags → held_of v ≡ held_of (w.views t) → (s : State) →
         ShowsStages c.tasks ws.stage ws.sb ws.remount ws.block (update (stage_roles w) t (stage_role_of v.phase)) s →

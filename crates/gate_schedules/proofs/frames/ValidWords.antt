@@ -1,26 +1,23 @@
--- The next event of each task is on a word that holds what it may: the word of a node of the tree is a node's, and the sync word of a level
+-- The next step of each task is on a word that holds what it may: the word of a node of the tree is a node's, and the sync word of a level
 -- is one.
-use Rattle.std.proofs.Common.{◌≡◌, ℕ, ◌<◌, ◌≤◌, ◌*◌, subst, ap, true, false, arith}
-use Rattle.std.specs.Prelude.{Some, is_some}
-use Rattle.percpu_rwsem.specs.{Readers.down_read_next}
-use Rattle.percpu_rwsem.specs.declared.{readers.{DownRead.DownRead, DownReadStep.DownReadStep}}
-use Rattle.composite_ops.specs.{file_closes.Phases.next as close_next, declared.file_closes.phases.ClosePhase.{ClosePhase, TheVariants.{LoadsFile as CloseLoadsFile, LowersCount}}}
+use Rattle.gate_schedules.proofs.Prelude.{Config, DownRead, Fits, Fitting, Holdings, HookAnswer, IsGood, IsWithin, Phase, PhaseFits, Some, SyncAt}
+use Rattle.gate_schedules.proofs.Prelude.{Tree, TreePhase, WordName, World, ap, arith, each_updated, false, held_of, read, subst, total, tree_bounds}
+use Rattle.gate_schedules.proofs.Prelude.{tree_role_of, true, update, ℕ, ◌<◌, ◌≡◌, ◌≤◌}
+use Rattle.std.{proofs.Common.◌*◌, specs.Prelude.is_some}
+use Rattle.percpu_rwsem.specs.{Readers.down_read_next, declared.readers.DownReadStep.DownReadStep}
+use Rattle.composite_ops.specs.declared.file_closes.phases.ClosePhase.{TheVariants.{LoadsFile as CloseLoadsFile, LowersCount}, ClosePhase}
 use Rattle.composite_ops.specs.declared.file_closes.phases.ClosePhase.TheVariants.{Enters as EntersLevel, FreesNode as ClosesNode}
-use Rattle.freeze_levels.specs.{declared.freezes.FreezeStep.TheVariants.{Closes}}
-use Rattle.node_words.specs.Nodes.{unpacked, opens_in}
-use Rattle.gated_tree.specs.{Calls.{TreePhaseFits}, Phases.{next as tree_next}}
-use Rattle.gated_tree.specs.{Phases.{open_next}, Roles.RoleHolds}
-use Rattle.gated_tree.specs.declared.{opens.OpenFile.OpenFile}
-use Rattle.gated_tree.specs.declared.opens.OpenStep.{OpenStep, TheVariants.{LoadsFile as LoadsFileToOpen, OpensFile}}
-use Rattle.gated_tree.specs.declared.phases.TreePhase.{TheVariants.{OpenFile as OpensOne}, TreePhase}
-use Rattle.gate_world.specs.{Configs.IsWithin, traces.TraceStates.{WordIsValid, ReadIsValid, CloseReadIsValid, OpenReadIsValid, EventsMayBe}}
-use Rattle.gate_world.specs.{Fits.{PhaseFits, CloseFits, HasFile, file_of, Fits}, Holdings.Holdings, Rules.{IsGood, Tree, Files}}
-use Rattle.gate_world.specs.{Rules.{Fitting, SyncAt, SyncHoldsIn}, Trees.{tree_bounds, tree_role_of}, Views.{held_of, has_open}, Work.next_of, Worlds.World}
-use Rattle.gate_world.specs.declared.{config.Config.{Config}, work.Phase.{TheVariants.{Trees, Closes}, Phase}}
-use Rattle.node_words.proofs.Packing.{packed_unpacks}
-use Rattle.cpu_words.specs.{Hooks.HookAnswer, Words.read, declared.names.WordName.{TheVariants.{Node, Sync}, WordName}}
-use Rattle.finite_sums.specs.Sums.{update, total}
-use Rattle.finite_sums.proofs.Totals.{total_at, total_updated, total_bound, each_updated}
+use Rattle.composite_ops.specs.file_closes.Phases.{next as close_next}
+use Rattle.freeze_levels.specs.declared.freezes.FreezeStep.TheVariants.{Closes}
+use Rattle.node_words.{proofs.Packing.packed_unpacks, specs.Nodes.{unpacked, opens_in}}
+use Rattle.gated_tree.specs.{Calls.TreePhaseFits, Phases.{next as tree_next, open_next}, Roles.RoleHolds, declared.opens.OpenFile.OpenFile}
+use Rattle.gated_tree.specs.declared.opens.OpenStep.{TheVariants.{LoadsFile as LoadsFileToOpen, OpensFile}, OpenStep}
+use Rattle.gated_tree.specs.declared.phases.TreePhase.TheVariants.{OpenFile as OpensOne}
+use Rattle.gate_world.specs.{Fits.{CloseFits, HasFile, file_of}, Rules.{Files, SyncHoldsIn}, Views.has_open, Work.next_of}
+use Rattle.gate_world.specs.{declared.work.Phase.TheVariants.{Trees, Closes}, traces.TraceStates.{WordIsValid, ReadIsValid, CloseReadIsValid}}
+use Rattle.gate_world.specs.traces.TraceStates.{OpenReadIsValid, EventsMayBe}
+use Rattle.cpu_words.specs.declared.names.WordName.TheVariants.{Node, Sync}
+use Rattle.finite_sums.proofs.Totals.{total_at, total_updated, total_bound}
 use Rattle.access_model.specs.States.{one_if, most_tasks}
 use Rattle.gate_schedules.proofs.frames.Openers.{most_tasks_is, one_le}
 
@@ -37,12 +34,12 @@ module _ (c : Config) where
   tree_word : (t : ℕ) (x : TreePhase) (hook : HookAnswer) → TreePhaseFits (tree_bounds c) t x → WordExists c (tree_next x hook).0
   tree_word t x hook fits = grind arith
 
-  -- the word of each phase's next event
+  -- the word of each phase's next step
   phase_word : (t : ℕ) (held : Holdings) (phase : Phase) (hook : HookAnswer) → PhaseFits c t held phase →
       WordExists c (next_of phase hook).0
   phase_word t held phase hook fits = grind arith
 
-  -- the words of a good world hold what they may
+  -- the words of a good state hold what they may
   held_well : (w : World) → IsGood c w → (word : WordName) → WordExists c word → WordIsValid word (read w.words word)
   held_well w good (Node n) lt = ap is_some (packed_unpacks (w.words.node n) ((good Tree).words n lt).packed)
   held_well w good (Sync i) there = let s : SyncHoldsIn c w i = good (SyncAt i) there.0 there.1 in ap is_some s.packed
@@ -67,7 +64,7 @@ module _ (c : Config) where
         total_bound most_tasks 1 (update g t 1) (λ x lx. each_updated (λ y v. v ≤ 1) g t 1 x (omega arith) (λ ne. one_le (has_open (w.views x) f))) in
         omega (arith, (good Files).counted f lf, more, few, ap one_if own, most_tasks_is)
 
-    -- what the next event of a phase may find
+    -- what the next step of a phase may find
     node_packed : (f : ℕ) → f < c.nodes → is_some (unpacked (w.words.node f)) ≡ true
     node_packed f lf = ap is_some (packed_unpacks (w.words.node f) ((good Tree).words f lf).packed)
 
@@ -100,12 +97,9 @@ module _ (c : Config) where
     finds_well : (phase : Phase) (hook : HookAnswer) → (w.views t).phase ≡ Some phase →
         PhaseFits c t (held_of (w.views t)) phase →
         ReadIsValid phase (next_of phase hook).0 (read w.words (next_of phase hook).0)
-    finds_well (Closes x) hook is fits = close_finds x is fits
-    finds_well (Trees x) hook is fits = tree_finds x hook is fits
-    finds_well phase hook is fits =
-        held_well w good (next_of phase hook).0 (phase_word t (held_of (w.views t)) phase hook fits)
+    finds_well phase hook is fits = grind (arith, close_finds, tree_finds, held_well, phase_word, held_of)
 
-  -- so each event is on such a word
+  -- so each step is on such a word
   pub events_may_be : IsWithin c → (w : World) → IsGood c w → EventsMayBe c w
   events_may_be within w good t lt phase hook is =
       finds_well within w good t lt phase hook is

@@ -1,16 +1,15 @@
--- Where nothing is counted at a mount or a level before an event and after it, the event leaves the counts there, whatever operation it is
+-- Where nothing is counted at a mount or a level before a step and after it, the step leaves the counts there, whatever operation it is
 -- of: it writes one word at most, and the words sum to 0 before it and after it.
-use Rattle.std.proofs.{Common.{◌≡◌, ℕ, ◌∙◌, refl, sym, subst, inl, inr}, lemmas.Bool.Decides.eqb_tells}
-use Rattle.finite_sums.{proofs.Totals.{update_at, update_off}, specs.Sums.update}
-use Rattle.cpu_words.specs.{Names.IsWord, Words.put, declared.names.WordName.WordName}
-use Rattle.cpu_words.{proofs.gate_counts.ZeroCountWrites.write_is_quiet, specs.gate_counts.{Gates.CountsHold, Levels.level_as_gate}}
+use Rattle.gate_schedules.proofs.Prelude.{AtLevel, AtMount, Config, IsGood, View, WordName, World, eqb_tells, inl, inr, put, refl, subst, sym, update}
+use Rattle.gate_schedules.proofs.Prelude.{update_at, ℕ, ◌∙◌, ◌≡◌}
+use Rattle.finite_sums.proofs.Totals.{update_off}
+use Rattle.cpu_words.{proofs.gate_counts.ZeroCountWrites.write_is_quiet, specs.{Names.IsWord, gate_counts.{Gates.CountsHold, Levels.level_as_gate}}}
 use Rattle.mount_counts.specs.Roles.{mount_as_gate}
-use Rattle.gate_world.specs.{refusals.Causes.{all_counted, all_inside}, Levels.at_level, Rules.{IsGood, AtMount, AtLevel, at_mount}, Worlds.World}
-use Rattle.gate_world.specs.declared.{config.Config.Config, views.View.View}
+use Rattle.gate_world.specs.{Levels.at_level, Rules.at_mount, refusals.Causes.{all_counted, all_inside}}
 use Rattle.gate_schedules.proofs.frames.OperationLaws.{IsQuiet, extents_touched}
 
 module _ (c : Config) (w : World) (good : IsGood c w) (views : ℕ → View) (n : ℕ) where
-  -- the world in which this word is written
+  -- the state in which this word is written
   abbrev Then : WordName → World
   Then word = record { words = put w.words word n; views = views }
 

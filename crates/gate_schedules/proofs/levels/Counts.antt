@@ -1,15 +1,11 @@
--- The counts of a freeze level after each kind of event of a reader there.
-use Rattle.std.proofs.Common.{◌≡◌, ℕ, ◌+◌, ◌<◌, ◌≤◌, Bool, true, false, refl, sym, ap, ◌∙◌, subst, inl, inr, arith}
-use Rattle.std.proofs.lemmas.Bool.{eq-eqb, Decides.eqb_tells}
-use Rattle.std.specs.Prelude.{◌==◌, if◌then◌else◌, Option}
-use Rattle.finite_sums.{proofs.Totals.{update_map, update_at, update_off}, specs.Sums.update}
-use Rattle.access_model.specs.declared.{actions.Action.Action, replies.Next.Next}
-use Rattle.cpu_words.specs.{Hooks.HookAnswer, Touches.{wrap_add, wrap_sub}, Words.{Words, put}, declared.{events.Touch.Touch, names.WordName.WordName}}
+-- The counts of a freeze level after each kind of step of a reader there.
+use Rattle.gate_schedules.proofs.Prelude.{Action, AtLevel, Bool, Config, Holds, HookAnswer, IsGood, IsWithin, Next, Option, Phase, Touch, View}
+use Rattle.gate_schedules.proofs.Prelude.{WordName, Words, World, ap, arith, eq-eqb, eqb_tells, false, if◌then◌else◌, inl, inr, is_frozen_whole, put}
+use Rattle.gate_schedules.proofs.Prelude.{refl, subst, sym, true, update, update_at, ℕ, ◌+◌, ◌<◌, ◌==◌, ◌∙◌, ◌≡◌, ◌≤◌}
+use Rattle.finite_sums.proofs.Totals.{update_map, update_off}
+use Rattle.cpu_words.{proofs.gate_counts.LevelLaws.{adds_slow, adds_fast, backs_away, gives_back}, specs.Touches.{wrap_add, wrap_sub}}
 use Rattle.cpu_words.specs.gate_counts.Levels.{Out as CountsNot, Seeking, BackingOff, LevelRole, LevelView, LevelHolds}
-use Rattle.cpu_words.proofs.gate_counts.LevelLaws.{adds_slow, adds_fast, backs_away, gives_back}
-use Rattle.gate_world.specs.{Configs.IsWithin, Levels.{is_frozen_whole, at_level, level_role_of, level_added_by, level_taken_by}, Roles.count_role_if}
-use Rattle.gate_world.specs.{Rules.{IsGood, Holds, AtLevel}, Views.{holds_level, view_with}, Worlds.World, declared.{config.Config.Config, views.View.View}}
-use Rattle.gate_world.specs.declared.work.Phase.{Phase}
+use Rattle.gate_world.specs.{Levels.{at_level, level_role_of, level_added_by, level_taken_by}, Roles.count_role_if, Views.{holds_level, view_with}}
 use Rattle.gate_schedules.proofs.{frames.Frames.{left_alone, level_as, level_view_as}, levels.Parts.{SameOffLevels, whole_same}}
 
 pub count_on : (i : ℕ) (r : LevelRole) → count_role_if (i == i) r ≡ r
@@ -21,13 +17,13 @@ bit_room true = omega arith
 bit_room false = omega arith
 
 module _ (c : Config) (w : World) (good : IsGood c w) (t : ℕ) (lt : t < c.tasks) (i : ℕ) where
-  -- one level's counts after an event of this task, which makes this of its words and of the task's view
+  -- one level's counts after a step of this task, which makes this of its words and of the task's view
   abbrev pub LevelHoldsAfter : (ℕ → ℕ) → LevelView → Type 0
   LevelHoldsAfter count v =
       LevelHolds c.tasks c.processors (w.words.block i) (is_frozen_whole w.words) count (update (λ x. at_level i (w.views x)) t v)
 
   module _ (ws : Words) (v : View) (words : SameOffLevels w.words ws) where
-    -- an event that counts at one level at most
+    -- a step that counts at one level at most
     pub level_follows : (count : ℕ → ℕ) (view : LevelView) → ws.level i ≡ count → at_level i v ≡ view →
         (1 ≤ i → i ≤ 3 → LevelHoldsAfter count view) →
         ((j : ℕ) → (j ≡ i → ⊥) → (ws.level j ≡ w.words.level j) × (at_level j v ≡ at_level j (w.views t))) →
@@ -75,7 +71,7 @@ module _ (c : Config) (lim : IsWithin c) (w : World) (good : IsGood c w) (t : �
   pub down_beside : SameOffLevels w.words words_down
   down_beside = refl
 
-  -- what the level's counts are before the event
+  -- what the level's counts are before the step
   abbrev was : LevelView
   was = at_level i (w.views t)
 

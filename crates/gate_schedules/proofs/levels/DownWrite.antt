@@ -1,34 +1,29 @@
--- What each event of a down-write leaves of the levels: it enters the rcu_sync of its level, sets `block`, and sums the counts until nobody
+-- What each step of a down-write leaves of the levels: it enters the rcu_sync of its level, sets `block`, and sums the counts until nobody
 -- is counted.
-use Rattle.std.proofs.Common.{◌≡◌, ℕ, suc, ◌+◌, ◌<◌, ◌≤◌, refl, sym, ap, ◌∙◌, subst, inl, inr, arith, true≢false}
-use Rattle.std.proofs.lemmas.{Grind.{common_steps}, Bool.{eq-eqb, Decides.{eqb_tells}}, Option.{none-some}}
-use Rattle.std.specs.Prelude.{Option, Some, Bool, true, false, ◌==◌, if◌then◌else◌}
-use Rattle.finite_sums.{proofs.Totals.{update_at, update_map, update_same}, specs.Sums.{update, total}}
-use Rattle.access_model.specs.declared.{actions.Action.Action, replies.{Next.Next}}
-use Rattle.cpu_words.specs.{Sums.sum_taking, Touches.{found_by, left, wrap_add}, Words.{Words, read, put}}
-use Rattle.cpu_words.specs.declared.{events.Touch.Touch, names.WordName.WordName, sums.{Sum.Sum, Taken.Taken}}
-use Rattle.cpu_words.specs.gate_counts.Levels.{LevelRole, LevelView, LevelHolds, Out as CountsNot, Summing, Passed as CountsPassed}
-use Rattle.cpu_words.proofs.gate_counts.LevelLaws.{swaps, sums_on, passes, sums_anew, none_passed}
+use Rattle.gate_schedules.proofs.Prelude.{Action, AtLevel, Config, Holds, IsGood, IsWithin, Next, Option, Phase, Some, Stages, SyncStep, Touch, View}
+use Rattle.gate_schedules.proofs.Prelude.{WordName, Words, World, ap, arith, common_steps, eq-eqb, eqb_tells, found_by, if◌then◌else◌, inl, inr}
+use Rattle.gate_schedules.proofs.Prelude.{is_frozen_whole, left, level_in, put, read, refl, stage_role_of, subst, suc, sym, sync_role_of, total}
+use Rattle.gate_schedules.proofs.Prelude.{true≢false, update, update_at, update_same, ℕ, ◌+◌, ◌<◌, ◌==◌, ◌∙◌, ◌≡◌, ◌≤◌}
+use Rattle.std.{proofs.lemmas.Option.none-some, specs.Prelude.{Bool, true, false}}
+use Rattle.finite_sums.proofs.Totals.{update_map}
+use Rattle.cpu_words.{proofs.gate_counts.LevelLaws.{swaps, sums_on, passes, sums_anew, none_passed}, specs.{Sums.sum_taking, Touches.wrap_add}}
+use Rattle.cpu_words.specs.{declared.sums.{Sum.Sum, Taken.Taken}, gate_counts.Levels.{LevelRole, LevelView, LevelHolds, Out as CountsNot, Summing}}
+use Rattle.cpu_words.specs.gate_counts.Levels.{Passed as CountsPassed}
 use Rattle.percpu_rwsem.specs.{Graces.looked, SyncWords.{unpack, is_passed, is_queued, on_enter, on_callback}, Transitions.transition_after}
-use Rattle.percpu_rwsem.specs.Writers.{down_write_next, down_write_after, at_down_write, enter_step, callback_step, sections_awaited}
-use Rattle.percpu_rwsem.specs.{Writers.{passed_awaited, sum_begun, down_write_summed}, declared.grace.GraceNext.{GraceNext}}
-use Rattle.percpu_rwsem.specs.declared.{sync_word.{GpState.GpState, SyncWord.SyncWord}, transitions.{Transition.Transition, TransitionNext.TransitionNext}}
+use Rattle.percpu_rwsem.specs.Writers.{down_write_next, down_write_after, at_down_write, enter_step, callback_step, sections_awaited, passed_awaited}
+use Rattle.percpu_rwsem.specs.{Writers.{sum_begun, down_write_summed}, declared.{grace.GraceNext.GraceNext, sync_word.GpState.GpState}}
+use Rattle.percpu_rwsem.specs.declared.{sync_word.SyncWord.SyncWord, transitions.{Transition.Transition, TransitionNext.TransitionNext}}
 use Rattle.percpu_rwsem.specs.declared.writers.{DownWrite.DownWrite, DownWriteStep.DownWriteStep}
-use Rattle.freeze_laws.proofs.levels.{EventLaws.swap_keeps, Operations.down_writes_are_there}
-use Rattle.freeze_laws.{proofs.stages.{Facts.total_alone, Positions.{other_position, not_full}}, specs.stages.Roles.has_position}
-use Rattle.freeze_laws.specs.levels.Events.{SyncLevelHolds, SyncStep}
-use Rattle.freeze_laws.specs.levels.Operations.{down_write_role, value_at, left_by, by_next, HoldsOfNext}
-use Rattle.freeze_laws.specs.levels.Roles.{Out as IsApart, Closed, entered}
-use Rattle.gate_world.specs.{Configs.IsWithin, Fits.DownWriteFits, LevelRuns.level_in, Levels.{sync_role_of, at_level, is_frozen_whole, level_role_of}}
-use Rattle.gate_world.specs.Roles.{LevelPosition, position_count, position_sync, down_count_role}
-use Rattle.gate_world.specs.{Rules.{AtLevel, Holds, IsGood, Stages, stage_role_of, stage_roles}}
-use Rattle.gate_world.specs.{Views.holds_level, Worlds.World, declared.{config.Config.Config, views.View.View, work.Phase.{Phase}}}
-use Rattle.gate_schedules.proofs.frames.Frames.{SameLevelCounts}
-use Rattle.gate_schedules.proofs.levels.PositionRoles.{count_at, sync_at, SayBeside, counts_left, counts_become, levels_move}
-use Rattle.gate_schedules.proofs.levels.LevelPositions.{HasPosition, closing_position, position_after_closing, LevelsHold, left_world}
-use Rattle.gate_schedules.proofs.levels.Worlds.{level_right, found_level, IsEventAt, event_word}
+use Rattle.freeze_laws.proofs.{levels.{EventLaws.swap_keeps, Operations.down_writes_are_there}, stages.{Facts.total_alone, Positions.other_position}}
+use Rattle.freeze_laws.{proofs.stages.Positions.not_full, specs.levels.{Events.SyncLevelHolds, Operations.{down_write_role, value_at, left_by}}}
+use Rattle.freeze_laws.specs.{levels.{Operations.{by_next, HoldsOfNext}, Roles.{Out as IsApart, Closed, entered}}, stages.Roles.has_position}
+use Rattle.gate_world.specs.{Fits.DownWriteFits, Levels.{at_level, level_role_of}, Roles.{LevelPosition, position_count, position_sync}}
+use Rattle.gate_world.specs.{Roles.down_count_role, Rules.stage_roles, Views.holds_level}
+use Rattle.gate_schedules.proofs.{frames.Frames.SameLevelCounts, levels.LevelPositions.{HasPosition, closing_position, position_after_closing}}
+use Rattle.gate_schedules.proofs.levels.{LevelPositions.{LevelsHold, left_world}, PositionRoles.{count_at, sync_at, SayBeside, counts_left}}
+use Rattle.gate_schedules.proofs.levels.{PositionRoles.{counts_become, levels_move}, Worlds.{level_right, found_level, IsEventAt, event_word}}
 
--- each event of a down-write is one of its level, and changes no section word
+-- each step of a down-write is one of its level, and changes no section word
 pub down_write_event : (d : DownWrite) (s : DownWriteStep) → IsEventAt d.level (down_write_next d s).0 (down_write_next d s).1
 down_write_event d s = grind arith
 
@@ -37,14 +32,14 @@ pub down_write_counts : (w : Words) (d : DownWrite) (s : DownWriteStep) →
     (put w (down_write_next d s).0 (left (down_write_next d s).1 (read w (down_write_next d s).0))).level ≡ w.level
 down_write_counts w d s = grind arith
 
--- what comes after an event is at this level
+-- what comes after a step is at this level
 abbrev AtTheLevel : ℕ → Next DownWrite → Type 0
 AtTheLevel level n = HoldsOfNext (λ (x : DownWrite). x.level ≡ level) n
 
 pub down_write_level : (d : DownWrite) (s : DownWriteStep) (found : ℕ) → AtTheLevel d.level (down_write_after d s found).0
 down_write_level d s found = grind arith
 
--- what comes after its event says what it said of the other levels
+-- what comes after its step says what it said of the other levels
 closing_beside : (level : ℕ) (s : LevelPosition) → s.level ≡ level → (n : Next DownWrite) → AtTheLevel level n →
     SayBeside level (Some s) (position_after_closing level n)
 closing_beside level s e n h = grind (arith, common_steps)
@@ -106,7 +101,7 @@ taken_counts : (d : DownWrite) (taken : Taken) →
     position_count d.level (position_after_closing d.level (down_write_summed d taken).0) ≡ taken_role taken
 taken_counts d taken = grind arith
 
--- so the event that passes a level leaves it passed
+-- so the step that passes a level leaves it passed
 taken_passes : (d : DownWrite) (j : ℕ) (taken : Taken) → (down_write_summed d taken).1 ≡ Some (Action.Pass j) → taken_role taken ≡ CountsPassed
 taken_passes d j taken e = grind arith
 
@@ -139,7 +134,7 @@ module _ (c : Config) (lim : IsWithin c) (w : World) (good : IsGood c w) (t : �
   word_taken i k sum one three here more (Taken.Total n) is = total_taken i k sum one three here (omega (arith, more, is.1)) n is.0
 
   module _ (d : DownWrite) where
-    -- the words after its event at this step
+    -- the words after its step at this program point
     abbrev pub words_closing : DownWriteStep → Words
     words_closing s = put w.words (down_write_next d s).0 (left (down_write_next d s).1 (read w.words (down_write_next d s).0))
 
@@ -185,7 +180,7 @@ module _ (c : Config) (lim : IsWithin c) (w : World) (good : IsGood c w) (t : �
         update_map (λ (x : LevelView). x.held) views t passed ∙ update_same (λ x. (views x).held) t in
         ap (total c.tasks) (sym held) ∙ none_passed after t lt (ap (λ (x : LevelView). x.role) (update_at views t passed))
 
-    -- an event that passes a level finds that nobody holds it
+    -- a step that passes a level finds that nobody holds it
     passes_nobody : (s : DownWriteStep) → DownWriteFits c (at_down_write d s) →
         HasPosition (w.views t).phase (Some (closing_position (at_down_write d s))) → (j : ℕ) →
         (down_write_after d s (found_closing s)).1 ≡ Some (Action.Pass j) →
@@ -193,7 +188,7 @@ module _ (c : Config) (lim : IsWithin c) (w : World) (good : IsGood c w) (t : �
     passes_nobody (DownWriteStep.Sums sum) fits was j e = summed_nobody sum fits was j e
     passes_nobody other fits was j e = absurd (none-some (Action.Pass j) e)
 
-    -- its event is one of the rcu_sync of its level; it enters where nobody has entered
+    -- its step is one of the rcu_sync of its level; it enters where nobody has entered
     pub closing_there : (s : DownWriteStep) → DownWriteFits c (at_down_write d s) →
         HasPosition (w.views t).phase (Some (closing_position (at_down_write d s))) →
         (sync_role_of d.level (w.views t).phase ≡ IsApart →
@@ -226,7 +221,7 @@ module _ (c : Config) (lim : IsWithin c) (w : World) (good : IsGood c w) (t : �
         closing_beside d.level (closing_position (at_down_write d s)) refl (next_closing s) (down_write_level d s (found_closing s))
 
     module _ (v : View) (counts : SameLevelCounts (w.views t) v) where
-      -- an event before its swap leaves the counts of its level
+      -- a step before its swap leaves the counts of its level
       waits_here : (s : DownWriteStep) → (words_closing s).block d.level ≡ w.words.block d.level →
           is_frozen_whole (words_closing s) ≡ is_frozen_whole w.words → down_count_role s ≡ CountsNot →
           position_count d.level (position_after_closing d.level (next_closing s)) ≡ CountsNot →
@@ -237,7 +232,7 @@ module _ (c : Config) (lim : IsWithin c) (w : World) (good : IsGood c w) (t : �
           counts (words_closing s) d.level eb (ap (λ f. f d.level) (down_write_counts w.words d s)) ef
           (λ low high. after ∙ sym (counts_as d s ∙ before))
 
-      -- the counts of its level after its event
+      -- the counts of its level after its step
       closing_here : (s : DownWriteStep) → DownWriteFits c (at_down_write d s) →
           HasPosition (w.views t).phase (Some (closing_position (at_down_write d s))) →
           HasPosition v.phase (position_after_closing d.level (next_closing s)) → Holds c (left_world w t (words_closing s) v) (AtLevel d.level)
@@ -278,7 +273,7 @@ module _ (c : Config) (lim : IsWithin c) (w : World) (good : IsGood c w) (t : �
           (λ low high. taken_counts d (sum_taking sum (w.words.level d.level sum.words) d.processors))
           (λ low high. summed_here sum fits was)
 
-      -- each event of a down-write leaves the levels as the rule has them
+      -- each step of a down-write leaves the levels as the invariant has them
       pub down_write_levels_at : (s : DownWriteStep) → DownWriteFits c (at_down_write d s) →
           HasPosition (w.views t).phase (Some (closing_position (at_down_write d s))) →
           HasPosition v.phase (position_after_closing d.level (next_closing s)) →

@@ -1,19 +1,16 @@
--- What the rule says of a level's sync word where a writer or a callback makes a transition of it: the transition is defined.
-use Rattle.std.proofs.Common.{◌≡◌, ℕ, zero, suc, ◌<◌, ◌≤◌, Bool, true, false, refl, sym, ap, ◌∙◌, inl, inr, arith, true≢false}
-use Rattle.std.proofs.lemmas.Bool.{lt-ltb, Decides.eqb_tells}
-use Rattle.std.specs.Prelude.{nat_lt, Option, Some, None}
-use Rattle.finite_sums.{proofs.Totals.{total_at, total_none}, specs.Sums.total}
-use Rattle.cpu_words.specs.Touches.{left, found_by}
+-- What the invariant says of a level's sync word where a writer or a callback makes a transition of it: the transition is defined.
+use Rattle.gate_schedules.proofs.Prelude.{Bool, None, Option, Some, ap, arith, eqb_tells, found_by, inl, inr, left, nat_lt, refl, suc, total, true}
+use Rattle.gate_schedules.proofs.Prelude.{zero, ℕ, ◌<◌, ◌∙◌, ◌≡◌, ◌≤◌}
+use Rattle.std.proofs.lemmas.Bool.{lt-ltb}
+use Rattle.finite_sums.proofs.Totals.{total_at, total_none}
 use Rattle.percpu_rwsem.specs.{Readers.step_in, SyncWords.{bit, unpack, is_lawful, is_passed, is_awaited, on_enter, on_exit, on_callback}}
-use Rattle.percpu_rwsem.specs.Transitions.{transition_next, transition_after}
-use Rattle.percpu_rwsem.specs.declared.{readers.DownReadStep.DownReadStep, sync_word.{GpState.GpState, SyncWord.SyncWord}}
-use Rattle.percpu_rwsem.specs.declared.transitions.{Transition.Transition, TransitionNext.TransitionNext}
-use Rattle.freeze_laws.specs.levels.Roles.{SyncRole, entering, entered, claimed, closed, enter_bit, SyncHolds}
-use Rattle.freeze_laws.proofs.stages.Facts.{other_zero}
-use Rattle.gate_schedules.proofs.operations.deadlocks.FreezeProgress.{not_none}
-use Rattle.gate_schedules.specs.operations.Ranks.{exchange_rank}
+use Rattle.percpu_rwsem.specs.{Transitions.{transition_next, transition_after}, declared.readers.DownReadStep.DownReadStep}
+use Rattle.percpu_rwsem.specs.declared.{sync_word.{GpState.GpState, SyncWord.SyncWord}, transitions.Transition.Transition}
+use Rattle.percpu_rwsem.specs.declared.transitions.TransitionNext.{TransitionNext}
+use Rattle.freeze_laws.{proofs.stages.Facts.other_zero, specs.levels.Roles.{SyncRole, entering, entered, claimed, closed, enter_bit, SyncHolds}}
+use Rattle.gate_schedules.{proofs.operations.deadlocks.FreezeProgress.not_none, specs.operations.Ranks.exchange_rank}
 
--- what comes after an event of a transition has a lower rank, or it is made, or it is not defined, which is this
+-- what comes after a step of a transition has a lower rank, or it is made, or it is not defined, which is this
 abbrev pub ExchangeFalls : ℕ → ℕ → Type 0 → TransitionNext → Type 0
 ExchangeFalls sync n undefined (TransitionNext.More next) = exchange_rank sync next < n
 ExchangeFalls sync n undefined TransitionNext.Undefined = undefined
@@ -24,7 +21,7 @@ pub defined_falls : (sync n : ℕ) (undefined : Type 0) → (undefined → ⊥) 
 defined_falls sync n undefined never next h = grind arith
 
 module _ (makes : SyncWord → Option SyncWord) (sync after level : ℕ) (word : SyncWord) (packed : unpack sync ≡ Some word) where
-  -- each event of a transition: a word that was changed since it was loaded is loaded again, once
+  -- each step of a transition: a word that was changed since it was loaded is loaded again, once
   pub exchange_falls : (x : Transition) → after ≡ left (transition_next level x).1 sync →
       ExchangeFalls after (exchange_rank sync x) (makes word ≡ None)
       (transition_after makes x (found_by (transition_next level x).1 sync))
@@ -45,10 +42,7 @@ awaited_enter : (s : GpState) (taken : Bool) → 1 ≤ enter_bit s → is_awaite
 awaited_enter s taken h = grind arith
 
 awaited_taken : (s : GpState) (taken : Bool) (count : ℕ) → is_lawful s taken count ≡ true → 1 ≤ bit taken → is_awaited s taken ≡ true
-awaited_taken s false count h some = absurd (omega (arith, some))
-awaited_taken GpState.Exit true count h some = refl
-awaited_taken GpState.Replay true count h some = refl
-awaited_taken other true count h some = absurd (true≢false (sym h))
+awaited_taken s taken count h some = grind arith
 
 module _ (tasks : ℕ) (word : SyncWord) (block full : ℕ) (section : ℕ → ℕ) (at : ℕ → SyncRole)
     (h : SyncHolds tasks word block full section at) (t : ℕ) (lt : t < tasks) where

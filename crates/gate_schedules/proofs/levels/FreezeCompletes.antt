@@ -1,15 +1,11 @@
 -- The store of stage 4 that leaves all levels closed and no task's own, and the store of stage 0 that takes them over.
-use Rattle.std.proofs.Common.{arith}
-use Rattle.std.proofs.lemmas.Grind.{common_steps}
-use Rattle.std.{proofs.Common.{◌≡◌, ℕ, ◌<◌, refl, sym, ap, ◌∙◌, subst}, specs.Prelude.{Some, None}}
-use Rattle.finite_sums.{specs.Sums.update}
-use Rattle.cpu_words.specs.Words.{Words}
+use Rattle.gate_schedules.proofs.Prelude.{AtLevel, Config, IsGood, IsWithin, None, Some, SyncStep, View, Words, World, ap, arith, common_steps}
+use Rattle.gate_schedules.proofs.Prelude.{inside, is_frozen_whole, level_in, refl, subst, sym, sync_role_of, update, ℕ, ◌<◌, ◌∙◌, ◌≡◌}
 use Rattle.cpu_words.{proofs.gate_counts.LevelLaws.{is_left_frozen, thaws}, specs.gate_counts.Levels.{Out as CountsNot, Passed as CountsPassed}}
-use Rattle.freeze_laws.specs.levels.{Events.{Freezes, Thaws, SyncStep}, Roles.{SyncRole, Out as IsApart, Closed}}
-use Rattle.gate_world.specs.{Configs.IsWithin, LevelRuns.level_in, Levels.{inside, is_frozen_whole, sync_role_of}, Roles.closed_to, Rules.{IsGood, AtLevel}}
-use Rattle.gate_world.specs.{Worlds.World, declared.{config.Config.Config, views.View.View}}
-use Rattle.gate_schedules.proofs.{frames.Frames.SameLevelCounts, levels.PositionRoles.{count_closed, sync_closed, counts_become, sections_left}}
-use Rattle.gate_schedules.proofs.levels.{LevelPositions.{HasPosition, LevelsHold, LevelsRun, left_world}, Worlds.{level_steps}}
+use Rattle.freeze_laws.specs.levels.{Events.{Freezes, Thaws}, Roles.{SyncRole, Out as IsApart, Closed}}
+use Rattle.gate_world.specs.Roles.{closed_to}
+use Rattle.gate_schedules.proofs.{frames.Frames.SameLevelCounts, levels.LevelPositions.{HasPosition, LevelsHold, LevelsRun, left_world}}
+use Rattle.gate_schedules.proofs.levels.{PositionRoles.{count_closed, sync_closed, counts_become, sections_left}, Worlds.level_steps}
 
 -- the words of the levels are as they were, but for whether the file system is frozen as a whole
 pub record SameWordsOfLevels (old new : Words) : Type 0 where
@@ -20,7 +16,7 @@ pub record SameWordsOfLevels (old new : Words) : Type 0 where
 
 module _ (c : Config) (lim : IsWithin c) (w : World) (good : IsGood c w) (t : ℕ) (lt : t < c.tasks) (ws : Words) (v : View)
     (words : SameWordsOfLevels w.words ws) where
-  -- one level after such an event, by which its task takes this role there
+  -- one level after such a step, by which its task takes this role there
   whole_after : (i full : ℕ) (r : SyncRole) → is_frozen_whole ws ≡ full → inside v.phase ≡ inside (w.views t).phase →
       sync_role_of i v.phase ≡ r →
       record (level_in w i) { full = full; at = update (level_in w i).at t r } ≡ level_in (left_world w t ws v) i

@@ -1,17 +1,12 @@
 -- What the store leaves of the levels by which a freeze gives one up, whose counts it sums.
-use Rattle.std.{proofs.Common.{◌≡◌, ℕ, ◌<◌, ◌≤◌, refl, sym, ◌∙◌, subst, arith}, specs.Prelude.{Some}}
-use Rattle.finite_sums.{proofs.Totals.{update_at}, specs.Sums.update}
-use Rattle.cpu_words.specs.{Touches.{found_by, left}, Words.{Words, read, put}, declared.{events.Touch.Touch, names.WordName.WordName}}
+use Rattle.gate_schedules.proofs.Prelude.{AtLevel, Config, Holds, IsGood, IsWithin, Some, SyncStep, Touch, View, WordName, Words, World, arith}
+use Rattle.gate_schedules.proofs.Prelude.{is_frozen_whole, level_in, put, refl, subst, sym, update_at, ℕ, ◌<◌, ◌∙◌, ◌≤◌}
 use Rattle.cpu_words.{proofs.gate_counts.LevelLaws.gives_up, specs.gate_counts.Levels.{Out as CountsNot, Summing}}
-use Rattle.percpu_rwsem.specs.Writers.{up_write_next, up_write_after}
-use Rattle.percpu_rwsem.specs.declared.{transitions.Transition.Transition, writers.{UpWrite.UpWrite, UpWriteStep.UpWriteStep}}
-use Rattle.freeze_laws.proofs.levels.Operations.{up_writes_are_there}
-use Rattle.freeze_laws.specs.levels.{Events.SyncStep, Operations.{up_write_role, left_by, by_next}, Roles.{Out as IsApart, Closed, Entered}}
-use Rattle.gate_world.specs.{Configs.IsWithin, LevelRuns.level_in, Levels.is_frozen_whole, Roles.{LevelPosition, position_sync}}
-use Rattle.gate_world.specs.{Rules.{IsGood, Holds, AtLevel}, Worlds.World, declared.{config.Config.Config, views.View.View}}
-use Rattle.gate_schedules.proofs.{frames.Frames.{SameLevelCounts}, levels.PositionRoles.{count_at, sync_at, SayBeside, counts_become, levels_move}}
-use Rattle.gate_schedules.proofs.levels.LevelPositions.{HasPosition, LevelsHold, left_world}
-use Rattle.gate_schedules.proofs.levels.{UpWrite.up_write_event, Worlds.{found_level, event_word}}
+use Rattle.percpu_rwsem.specs.declared.writers.UpWriteStep.{UpWriteStep}
+use Rattle.freeze_laws.{proofs.levels.Operations.up_writes_are_there, specs.levels.{Operations.left_by, Roles.{Closed, Entered}}}
+use Rattle.gate_world.specs.Roles.{LevelPosition, position_sync}
+use Rattle.gate_schedules.proofs.{frames.Frames.SameLevelCounts, levels.LevelPositions.{HasPosition, LevelsHold, left_world}}
+use Rattle.gate_schedules.proofs.levels.{PositionRoles.{count_at, sync_at, SayBeside, counts_become, levels_move}, UpWrite.up_write_event}
 
 -- who sums the words of this level, before its first load
 abbrev pub summing_at : ℕ → LevelPosition
@@ -24,7 +19,7 @@ leaving_at level = record { level = level; count = CountsNot; sync = Entered }
 pub leaving_beside : (level : ℕ) → SayBeside level (Some (summing_at level)) (Some (leaving_at level))
 leaving_beside level = grind arith
 
--- its event is one of the rcu_sync of its level
+-- its step is one of the rcu_sync of its level
 pub unblocked_there : (c : Config) (w : World) (t : ℕ) → t < c.tasks → (level : ℕ) → HasPosition (w.views t).phase (Some (summing_at level)) →
     1 ≤ level → level ≤ 3 → SyncStep c.tasks (level_in w level)
     (left_by (level_in w level) t (WordName.Block level, Touch.Store 0) (w.words.block level) (position_sync level (Some (leaving_at level))))
@@ -50,7 +45,7 @@ module _ (c : Config) (lim : IsWithin c) (w : World) (good : IsGood c w) (t : �
       (λ low high. gives_up (good (AtLevel level) low high) t lt lim.tasks lim.processors 0 0
       (was.counts level low high ∙ count_at level (summing_at level) refl))
 
-  -- so all levels are as the rule has them
+  -- so all levels are as the invariant has them
   pub unblocked_levels : LevelsHold c (left_world w t unblocked v)
   unblocked_levels =
       levels_move c w good t lt v (Some (summing_at level)) (Some (leaving_at level)) was now counts level (WordName.Block level) (Touch.Store 0)

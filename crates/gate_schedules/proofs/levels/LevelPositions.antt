@@ -1,13 +1,11 @@
--- How a task stands with the levels, and what the rule says of all of them.
-use Rattle.std.{proofs.Common.{◌≡◌, ℕ, ◌≤◌}, specs.Prelude.{Option, Some, None, ◌==◌, ◌-◌, if◌then◌else◌}}
-use Rattle.finite_sums.specs.Sums.{update}
-use Rattle.access_model.specs.declared.replies.Next.{Next}
-use Rattle.cpu_words.specs.Words.{Words}
+-- How a task stands with the levels, and what the invariant says of all of them.
+use Rattle.gate_schedules.proofs.Prelude.{AtLevel, Config, Holds, Next, None, Option, Phase, Some, SyncAt, SyncStep, View, Words, World}
+use Rattle.gate_schedules.proofs.Prelude.{if◌then◌else◌, inside, level_in, sync_role_of, update, ℕ, ◌==◌, ◌≡◌, ◌≤◌}
+use Rattle.std.specs.Prelude.{◌-◌}
 use Rattle.percpu_rwsem.specs.declared.writers.{DownWrite.DownWrite, UpWrite.UpWrite}
-use Rattle.freeze_laws.specs.levels.{Events.SyncStep, Operations.{down_write_role, up_write_role}}
-use Rattle.gate_world.specs.{LevelRuns.level_in, Levels.{level_role_of, sync_role_of, inside}, Roles.{LevelPosition, closed_to, position_count, position_sync}}
-use Rattle.gate_world.specs.{Roles.{down_count_role, up_count_role}, Rules.{Holds, AtLevel, SyncAt, Sections}, Worlds.World, declared.config.Config.Config}
-use Rattle.gate_world.specs.declared.{views.View.View, work.Phase.Phase}
+use Rattle.freeze_laws.specs.levels.Operations.{down_write_role, up_write_role}
+use Rattle.gate_world.specs.{Levels.level_role_of, Roles.{LevelPosition, closed_to, position_count, position_sync, down_count_role, up_count_role}}
+use Rattle.gate_world.specs.Rules.{Sections}
 
 -- a phase stands so with the levels, and is inside no section
 pub record HasPosition (p : Option Phase) (s : Option LevelPosition) : Type 0 where
@@ -27,26 +25,26 @@ opening_position u = record { level = u.level; count = up_count_role u.step; syn
 abbrev pub still_closed : ℕ → Option LevelPosition
 still_closed level = if level == 0 then None else Some (closed_to level)
 
--- what comes after an event of a down-write stands so: with the level closed and passed at its end
+-- what comes after a step of a down-write stands so: with the level closed and passed at its end
 abbrev pub position_after_closing : ℕ → Next DownWrite → Option LevelPosition
 position_after_closing level (Next.Go d) = Some (closing_position d)
 position_after_closing level (Next.Wait d) = Some (closing_position d)
 position_after_closing level (Next.Done answer) = Some (closed_to level)
 
--- and after an event of an up-write: with the level open at its end, and those below it still closed
+-- and after a step of an up-write: with the level open at its end, and those below it still closed
 abbrev pub position_after_opening : ℕ → Next UpWrite → Option LevelPosition
 position_after_opening level (Next.Go u) = Some (opening_position u)
 position_after_opening level (Next.Wait u) = Some (opening_position u)
 position_after_opening level (Next.Done answer) = still_closed (level - 1)
 
--- what the rule says of the levels
+-- what the invariant says of the levels
 abbrev pub LevelsHold : Config → World → Type 0
 LevelsHold c w = ((i : ℕ) → Holds c w (AtLevel i)) × ((i : ℕ) → Holds c w (SyncAt i)) × Holds c w Sections
 
--- the world after an event of a task that leaves these words and this view
+-- the state after a step of a task that leaves these words and this view
 abbrev pub left_world : World → ℕ → Words → View → World
 left_world w t ws v = record { words = ws; views = update w.views t v }
 
--- from the one world to the other each level makes a step of its own
+-- from the one state to the other each level makes a step of its own
 abbrev pub LevelsRun : Config → World → World → Type 0
 LevelsRun c w next = (i : ℕ) → 1 ≤ i → i ≤ 3 → SyncStep c.tasks (level_in w i) (level_in next i)

@@ -1,17 +1,15 @@
--- What an event at a freeze level leaves alone, where it leaves the word `block` of each.
+-- What a step at a freeze level leaves alone, where it leaves the word `block` of each.
+use Rattle.gate_schedules.proofs.Prelude.{AtLevel, AtMount, Config, DownRead, Fitting, Holds, IsGood, Next, Option, Owner, Phase, Some, Stages}
+use Rattle.gate_schedules.proofs.Prelude.{SyncAt, Tree, View, Words, World, ap, arith, each_updated, inside, is_frozen_whole, map_next, owns}
+use Rattle.gate_schedules.proofs.Prelude.{phase_after, refl, shown, sym, sync_role_of, update, update_same, ℕ, ◌<◌, ◌==◌, ◌∙◌, ◌≡◌}
 use Rattle.gate_schedules.proofs.frames.{ByPhase.closing_as, Frames.{shown_as, left_alone, view_as, unwritten}, Known.known_same}
-use Rattle.std.{proofs.Common.{◌≡◌, ℕ, ◌<◌, sym, ap, ◌∙◌, arith, refl}, specs.Prelude.{◌==◌, ◌||◌, Option, Some}}
-use Rattle.finite_sums.{proofs.Totals.{update_same, each_updated}, specs.Sums.update}
-use Rattle.access_model.specs.{Replies.map_next, declared.replies.Next.Next}
-use Rattle.cpu_words.specs.Words.{Words}
+use Rattle.std.specs.Prelude.{◌||◌}
 use Rattle.node_words.specs.Nodes.{node_shown}
 use Rattle.mount_counts.specs.Roles.{ro_bit}
-use Rattle.percpu_rwsem.specs.declared.readers.{DownRead.DownRead, UpRead.UpRead}
+use Rattle.percpu_rwsem.specs.declared.readers.UpRead.{UpRead}
 use Rattle.freeze_levels.specs.Holders.{holders_in}
-use Rattle.gate_world.specs.{SameRoles.{Roles, no_roles, roles_of}, Levels.{at_level, inside, is_frozen_whole, sync_role_of}, Owners.KnowsWords, Rules.owns}
-use Rattle.gate_world.specs.Rules.{IsGood, Holds, ViewFits, Owner, Known, AtMount, AtLevel, SyncAt, Sections, Stages, Holding, Fitting, Tree, Files}
-use Rattle.gate_world.specs.{Shown.{closing, shown}, Views.{held_at, added_by, phase_after, taken_by, holds_level, has_open}, Worlds.World}
-use Rattle.gate_world.specs.declared.{config.Config.Config, views.View.View, work.Phase.Phase}
+use Rattle.gate_world.specs.{Levels.at_level, Owners.KnowsWords, Rules.{ViewFits, Known, Sections, Holding, Files}, SameRoles.{Roles, no_roles}}
+use Rattle.gate_world.specs.{SameRoles.roles_of, Shown.closing, Views.{held_at, added_by, taken_by, holds_level, has_open}}
 
 -- the words that are no level's own, and `block`
 abbrev pub beside_levels : Words → Words
@@ -48,7 +46,7 @@ end_at_levels u = refl
 
 module _ (c : Config) (w : World) (good : IsGood c w) (t : ℕ) (lt : t < c.tasks) (ws : Words) (v : View) (words : SameOffLevels w.words ws)
     (was : IsAtLevels (w.views t).phase) (now : IsAtLevels v.phase) where
-  -- the world after the event
+  -- the state after the step
   abbrev pub then_world : World
   then_world = record { words = ws; views = update w.views t v }
 
@@ -105,7 +103,7 @@ module _ (c : Config) (w : World) (good : IsGood c w) (t : ℕ) (lt : t < c.task
   pub closing_same : (i : ℕ) → closing i v.phase ≡ closing i (w.views t).phase
   closing_same = closing_as (w.views t).phase v.phase (λ j. (same j).stage)
 
-  -- the shown model, where the task's accesses at levels alone may be others
+  -- the shown state, where the task's accesses at levels alone may be others
   pub level_shown : SameAtMounts (w.views t) v → shown c then_world ≡
       record (shown c w) {
         mounts = update (λ x. held_at (w.views x)) t (held_at (w.views t));

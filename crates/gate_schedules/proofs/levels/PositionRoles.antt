@@ -1,18 +1,15 @@
--- What who stands at a level has there, below it and above it; which stands say the same; and what an event of such a task leaves.
-use Rattle.std.proofs.Common.{◌≡◌, ℕ, suc, ◌<◌, ◌≤◌, refl, sym, ap, ◌∙◌, inl, inr, arith, subst}
-use Rattle.std.proofs.lemmas.Bool.{eq-eqb, Decides.eqb_tells}
-use Rattle.std.specs.Prelude.{Option, Some, None}
-use Rattle.finite_sums.{proofs.Totals.{update_map, update_same}, specs.Sums.update}
-use Rattle.cpu_words.specs.{Touches.left, Words.{Words, put, read}, declared.{events.Touch.Touch, names.WordName.WordName}}
+-- What who stands at a level has there, below it and above it; which stands say the same; and what a step of such a task leaves.
+use Rattle.gate_schedules.proofs.Prelude.{AtLevel, Config, Holds, IsGood, None, Option, Phase, Some, SyncAt, SyncStep, Touch, View, WordName, Words}
+use Rattle.gate_schedules.proofs.Prelude.{World, ap, arith, eq-eqb, eqb_tells, inl, inr, inside, is_frozen_whole, left, level_in, put, read, refl}
+use Rattle.gate_schedules.proofs.Prelude.{subst, suc, sym, update, update_same, ℕ, ◌<◌, ◌∙◌, ◌≡◌, ◌≤◌}
+use Rattle.finite_sums.proofs.Totals.{update_map}
 use Rattle.cpu_words.specs.gate_counts.Levels.{LevelRole, LevelHolds, Out as CountsNot, Passed as CountsPassed}
 use Rattle.freeze_levels.specs.Levels.{closing}
-use Rattle.freeze_laws.specs.levels.{Events.{SyncLevel, SyncStep}, Operations.{put_at, left_by}, Roles.{Closed, Out as IsApart}}
-use Rattle.gate_world.specs.{LevelRuns.level_in, Levels.{at_level, level_role_of, inside, is_frozen_whole}}
-use Rattle.gate_world.specs.Roles.{LevelPosition, position_count, position_sync, closed_to}
-use Rattle.gate_world.specs.{Rules.{IsGood, Holds, AtLevel, SyncAt, Sections}, Worlds.World, declared.{config.Config.Config, views.View.View, work.Phase.Phase}}
-use Rattle.gate_schedules.proofs.frames.Frames.{left_alone, level_as, SameLevelWords, SameLevelCounts}
-use Rattle.gate_schedules.proofs.levels.LevelPositions.{LevelsHold, left_world, closing_position, HasPosition}
-use Rattle.gate_schedules.proofs.levels.Worlds.{IsEventAt, sync_there, sync_elsewhere, sections_stay}
+use Rattle.freeze_laws.specs.levels.{Events.SyncLevel, Operations.{put_at, left_by}, Roles.{Closed, Out as IsApart}}
+use Rattle.gate_world.specs.{Levels.{at_level, level_role_of}, Roles.{LevelPosition, position_count, position_sync, closed_to}, Rules.Sections}
+use Rattle.gate_schedules.proofs.{frames.Frames.{left_alone, level_as, SameLevelWords, SameLevelCounts}, levels.LevelPositions.LevelsHold}
+use Rattle.gate_schedules.proofs.levels.{LevelPositions.{left_world, closing_position, HasPosition}, Worlds.{IsEventAt, sync_there, sync_elsewhere}}
+use Rattle.gate_schedules.proofs.levels.Worlds.{sections_stay}
 
 pub count_at : (i : ℕ) (s : LevelPosition) → i ≡ s.level → position_count i (Some s) ≡ s.count
 count_at i s e = rw (eq-eqb i s.level e) refl
@@ -66,7 +63,7 @@ closing_next p n tasks processors some = stands_so p _ _ (say_back _ _ (closing_
 pub closing_first : (p : Option Phase) (tasks processors : ℕ) → HasPosition p (Some (closing_position (closing 1 tasks processors))) → HasPosition p None
 closing_first p tasks processors = stands_so p _ _ (say_back _ _ (closing_says_none tasks processors))
 
--- an event at a level leaves `block` of the others
+-- a step at a level leaves `block` of the others
 pub touched_block : (w : Words) (i j : ℕ) → (j ≡ i → ⊥) → (name : WordName) (touch : Touch) → IsEventAt i name touch →
     (put w name (left touch (read w name))).block j ≡ w.block j
 touched_block w i j ne name touch e = grind arith
@@ -79,7 +76,7 @@ touched_whole w i name touch e = grind arith
 pub put_inside : (l : SyncLevel) (name : WordName) (n : ℕ) → (put_at l name n).inside ≡ l.inside
 put_inside l name n = grind arith
 
--- An event of a task that stood so with the levels, stands so after it, and holds and has added at them what it had.
+-- A step of a task that stood so with the levels, stands so after it, and holds and has added at them what it had.
 module _ (c : Config) (w : World) (good : IsGood c w) (t : ℕ) (lt : t < c.tasks) (v : View) (s z : Option LevelPosition)
     (was : HasPosition (w.views t).phase s) (now : HasPosition v.phase z) (counts : SameLevelCounts (w.views t) v) where
   seen_counts : (i : ℕ) → 1 ≤ i → i ≤ 3 → (r : LevelRole) → position_count i z ≡ r →
@@ -118,7 +115,7 @@ module _ (c : Config) (w : World) (good : IsGood c w) (t : ℕ) (lt : t < c.task
   pub sections_left : (ws : Words) → ws.section ≡ w.words.section → Holds c (left_world w t ws v) Sections
   sections_left ws es = left_alone c w t lt Sections ws v es (now.outside ∙ sym was.outside) (good Sections)
 
-  -- an event of one level's words that leaves its counts, and what the task says of the other levels
+  -- a step of one level's words that leaves its counts, and what the task says of the other levels
   module _ (i : ℕ) (name : WordName) (touch : Touch) (is : IsEventAt i name touch)
       (counted : (put w.words name (left touch (read w.words name))).level ≡ w.words.level) (beside : SayBeside i s z) where
     -- the words after it
@@ -138,7 +135,7 @@ module _ (c : Config) (w : World) (good : IsGood c w) (t : ℕ) (lt : t < c.task
         (λ q. record (left_by (level_in w i) t (name, touch) (read w.words name) (sym (now.syncs i one three) q)) { inside = out q })
         (step one three))
 
-    -- so the levels hold, where its counts do and it is an event of its rcu_sync
+    -- so the levels hold, where its counts do and it is a step of its rcu_sync
     pub levels_move : Holds c (left_world w t touched v) (AtLevel i) → (1 ≤ i → i ≤ 3 → SyncStep c.tasks (level_in w i)
         (left_by (level_in w i) t (name, touch) (read w.words name) (position_sync i z))) → LevelsHold c (left_world w t touched v)
     levels_move here step = (
@@ -155,7 +152,7 @@ module _ (c : Config) (w : World) (good : IsGood c w) (t : ℕ) (lt : t < c.task
       sections_stay c w good t lt i name touch is v (now.outside ∙ sym was.outside),
     )
 
--- an event that leaves what the levels read of the words, and how its task stands with them, leaves the levels
+-- a step that leaves what the levels read of the words, and how its task stands with them, leaves the levels
 pub levels_stay : (c : Config) (w : World) → IsGood c w → (t : ℕ) → t < c.tasks → (ws : Words) (v : View) (s : Option LevelPosition) →
     SameLevelWords w.words ws → SameLevelCounts (w.views t) v → HasPosition (w.views t).phase s → HasPosition v.phase s →
     LevelsHold c (left_world w t ws v)

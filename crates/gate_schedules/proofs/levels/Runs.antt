@@ -1,22 +1,18 @@
--- What each event of a freeze or a thaw is of each level: one of the level's own kinds of event, or one that leaves it.
-use Rattle.std.proofs.lemmas.Grind.{common_steps}
-use Rattle.std.proofs.{Common.{ℕ, ◌<◌, ◌≤◌, ◌≡◌, sym, ap, ◌∙◌, inl, subst, arith, inr, ◌+◌}, lemmas.Bool.Decides.eqb_tells}
-use Rattle.std.specs.Prelude.{Option, Some}
-use Rattle.finite_sums.{specs.Sums.{total}}
-use Rattle.cpu_words.specs.{Touches.{left, found_by}, Words.{Words, put, read}, declared.{events.Touch.Touch, names.WordName.WordName}}
-use Rattle.percpu_rwsem.specs.Writers.{down_write_after, up_write_after, down_write_next, up_write_next}
-use Rattle.percpu_rwsem.specs.declared.writers.{DownWrite.DownWrite, UpWrite.UpWrite}
-use Rattle.freeze_laws.specs.levels.{Events.SyncStep, Operations.{left_by}, Roles.{Out as IsApart, entered}}
-use Rattle.gate_world.specs.{Configs.IsWithin, Fits.{DownWriteFits, UpWriteFits}, LevelRuns.level_in, Levels.{sync_role_of, is_frozen_whole}}
-use Rattle.gate_world.specs.{Roles.{LevelPosition, position_sync}, Rules.IsGood, Worlds.World, declared.{config.Config.Config, views.View.View}}
+-- What each step of a freeze or a thaw is of each level: one of the level's own kinds of step, or one that leaves it.
+use Rattle.gate_schedules.proofs.Prelude.{Config, IsGood, IsWithin, Option, Some, SyncStep, Touch, View, WordName, Words, World, ap, arith}
+use Rattle.gate_schedules.proofs.Prelude.{common_steps, eqb_tells, found_by, inl, inr, is_frozen_whole, left, level_in, put, read, subst, sym}
+use Rattle.gate_schedules.proofs.Prelude.{sync_role_of, total, ℕ, ◌+◌, ◌<◌, ◌∙◌, ◌≡◌, ◌≤◌}
+use Rattle.percpu_rwsem.specs.{Writers.{down_write_after, up_write_after, down_write_next, up_write_next}, declared.writers.DownWrite.DownWrite}
+use Rattle.percpu_rwsem.specs.declared.writers.{UpWrite.UpWrite, UpWriteStep.UpWriteStep}
+use Rattle.freeze_laws.specs.levels.{Operations.left_by, Roles.{Out as IsApart, entered}}
+use Rattle.gate_world.specs.{Fits.{DownWriteFits, UpWriteFits}, Roles.{LevelPosition, position_sync}}
 use Rattle.gate_schedules.proofs.{frames.Frames.SameLevelWords, levels.DownWrite.{next_closing, down_write_event, closing_others, closing_there}}
-use Rattle.gate_schedules.proofs.levels.PositionRoles.{SayBeside}
-use Rattle.gate_schedules.proofs.levels.LevelPositions.{HasPosition, LevelsRun, closing_position, opening_position, left_world, position_after_closing, position_after_opening}
-use Rattle.gate_schedules.proofs.levels.{Steps.{level_stays, level_kept}, UpWrite.{next_opening, up_write_event, opening_others, opening_there}}
-use Rattle.gate_schedules.proofs.levels.{GivenUp.{leaving_at, leaving_beside, summing_at, unblocked_there}, Worlds.IsEventAt}
-use Rattle.percpu_rwsem.specs.declared.writers.UpWriteStep.{UpWriteStep}
+use Rattle.gate_schedules.proofs.levels.{GivenUp.{leaving_at, leaving_beside, summing_at, unblocked_there}, LevelPositions.{HasPosition, LevelsRun}}
+use Rattle.gate_schedules.proofs.levels.LevelPositions.{closing_position, opening_position, left_world, position_after_closing}
+use Rattle.gate_schedules.proofs.levels.{LevelPositions.position_after_opening, PositionRoles.SayBeside, Steps.{level_stays, level_kept}}
+use Rattle.gate_schedules.proofs.levels.{UpWrite.{next_opening, up_write_event, opening_others, opening_there}, Worlds.IsEventAt}
 
--- an event that leaves what the levels read of the words, and how its task stands with them, leaves each level
+-- a step that leaves what the levels read of the words, and how its task stands with them, leaves each level
 pub levels_stay_runs : (c : Config) (w : World) (t : ℕ) → t < c.tasks → (ws : Words) (v : View) (s : Option LevelPosition) →
     SameLevelWords w.words ws → HasPosition (w.views t).phase s → HasPosition v.phase s → LevelsRun c w (left_world w t ws v)
 levels_stay_runs c w t lt ws v s words was now i one three =
@@ -26,11 +22,11 @@ levels_stay_runs c w t lt ws v s words was now i one three =
 
 module _ (c : Config) (w : World) (t : ℕ) (lt : t < c.tasks) (v : View) (s z : Option LevelPosition) (was : HasPosition (w.views t).phase s)
     (now : HasPosition v.phase z) (i : ℕ) (name : WordName) (touch : Touch) (is : IsEventAt i name touch) where
-  -- the words after an event of one level's words
+  -- the words after a step of one level's words
   abbrev words_touched : Words
   words_touched = put w.words name (left touch (read w.words name))
 
-  -- what the level's own event leaves of it is the level then
+  -- what the level's own step leaves of it is the level then
   own_level : 1 ≤ i → i ≤ 3 →
       left_by (level_in w i) t (name, touch) (read w.words name) (position_sync i z) ≡ level_in (left_world w t words_touched v) i
   own_level one three = grind (arith, common_steps)
@@ -40,7 +36,7 @@ module _ (c : Config) (w : World) (t : ℕ) (lt : t < c.tasks) (v : View) (s z :
       level_in (left_world w t words_touched v) j ≡ level_in w j
   other_level j ne same one three = grind (arith, common_steps)
 
-  -- so it is an event of each level, where it is one of its own
+  -- so it is a step of each level, where it is one of its own
   pub levels_move_runs : SayBeside i s z → (1 ≤ i → i ≤ 3 → SyncStep c.tasks (level_in w i)
       (left_by (level_in w i) t (name, touch) (read w.words name) (position_sync i z))) → LevelsRun c w (left_world w t words_touched v)
   levels_move_runs beside step j one three = elim (eqb_tells j i) [

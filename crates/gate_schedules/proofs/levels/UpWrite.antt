@@ -1,19 +1,16 @@
--- What each event of an up-write leaves of the levels: its store opens its level, and its exchange leaves the rcu_sync.
-use Rattle.std.{proofs.Common.{◌≡◌, ℕ, ◌<◌, ◌≤◌, refl, sym, ◌∙◌, subst, arith}, specs.Prelude.{Some}}
-use Rattle.finite_sums.proofs.Totals.{update_at}
-use Rattle.access_model.specs.declared.replies.Next.{Next}
-use Rattle.cpu_words.specs.{Touches.{found_by, left}, Words.{Words, read, put}, declared.{events.Touch.Touch, names.WordName.WordName}}
+-- What each step of an up-write leaves of the levels: its store opens its level, and its exchange leaves the rcu_sync.
+use Rattle.gate_schedules.proofs.Prelude.{AtLevel, Config, Holds, IsGood, IsWithin, Next, Some, SyncStep, Touch, View, WordName, Words, World, arith}
+use Rattle.gate_schedules.proofs.Prelude.{found_by, is_frozen_whole, left, level_in, put, read, refl, subst, sym, update_at, ℕ, ◌<◌, ◌∙◌, ◌≡◌, ◌≤◌}
 use Rattle.cpu_words.{proofs.gate_counts.LevelLaws.reopens, specs.gate_counts.Levels.Out as CountsNot}
 use Rattle.percpu_rwsem.specs.{SyncWords.on_exit, Transitions.transition_after, Writers.{up_write_next, up_write_after, at_up_write, exit_made}}
-use Rattle.percpu_rwsem.specs.declared.{transitions.{Transition.Transition, TransitionNext.TransitionNext}, writers.{UpWrite.UpWrite, UpWriteStep.UpWriteStep}}
-use Rattle.freeze_laws.proofs.levels.Operations.{up_writes_are_there}
-use Rattle.freeze_laws.specs.levels.{Events.SyncStep, Operations.{up_write_role, left_by, by_next, HoldsOfNext}, Roles.Out as IsApart}
-use Rattle.gate_world.specs.{Configs.IsWithin, Fits.UpWriteFits, LevelRuns.level_in, Levels.is_frozen_whole, Roles.{position_count, position_sync}}
-use Rattle.gate_world.specs.{Rules.{IsGood, Holds, AtLevel}, Worlds.World, declared.{config.Config.Config, views.View.View}}
-use Rattle.gate_schedules.proofs.{frames.Frames.{SameLevelCounts}, levels.PositionRoles.{count_at, sync_at, SayBeside, counts_left}}
-use Rattle.gate_schedules.proofs.levels.PositionRoles.{counts_become, levels_move}
-use Rattle.gate_schedules.proofs.levels.LevelPositions.{HasPosition, opening_position, position_after_opening, LevelsHold, left_world}
-use Rattle.gate_schedules.proofs.levels.Worlds.{found_level, IsEventAt, event_word}
+use Rattle.percpu_rwsem.specs.declared.{transitions.{Transition.Transition, TransitionNext.TransitionNext}, writers.UpWrite.UpWrite}
+use Rattle.percpu_rwsem.specs.declared.writers.UpWriteStep.{UpWriteStep}
+use Rattle.freeze_laws.{proofs.levels.Operations.up_writes_are_there, specs.levels.Operations.{up_write_role, left_by, by_next, HoldsOfNext}}
+use Rattle.freeze_laws.specs.levels.Roles.{Out as IsApart}
+use Rattle.gate_world.specs.{Fits.UpWriteFits, Roles.{position_count, position_sync}}
+use Rattle.gate_schedules.proofs.{frames.Frames.SameLevelCounts, levels.LevelPositions.{HasPosition, opening_position, position_after_opening}}
+use Rattle.gate_schedules.proofs.levels.{LevelPositions.{LevelsHold, left_world}, PositionRoles.{count_at, sync_at, SayBeside, counts_left}}
+use Rattle.gate_schedules.proofs.levels.{PositionRoles.{counts_become, levels_move}, Worlds.{found_level, IsEventAt, event_word}}
 
 -- the same up-write at this step
 abbrev pub opening_at : UpWrite → UpWriteStep → UpWrite
@@ -25,7 +22,7 @@ up_write_event u s = grind arith
 up_write_counts : (w : Words) (u : UpWrite) (s : UpWriteStep) (n : ℕ) → (put w (up_write_next u s).0 n).level ≡ w.level
 up_write_counts w u s n = grind arith
 
--- after each of its events
+-- after each of its steps
 pub up_write_level : (u : UpWrite) (s : UpWriteStep) (found : ℕ) →
     HoldsOfNext (λ (x : UpWrite). x.level ≡ u.level) (up_write_after u s found).0
 up_write_level u s found = grind arith
@@ -41,7 +38,7 @@ exit_counts : (u : UpWrite) → 1 ≤ u.level → (n : TransitionNext) →
 exit_counts u one n = grind arith
 
 module _ (c : Config) (lim : IsWithin c) (w : World) (good : IsGood c w) (t : ℕ) (lt : t < c.tasks) (u : UpWrite) where
-  -- the words after its event at this step
+  -- the words after its step at this program point
   abbrev pub words_opening : UpWriteStep → Words
   words_opening s = put w.words (up_write_next u s).0 (left (up_write_next u s).1 (read w.words (up_write_next u s).0))
 
@@ -49,7 +46,7 @@ module _ (c : Config) (lim : IsWithin c) (w : World) (good : IsGood c w) (t : �
   abbrev pub next_opening : UpWriteStep → Next UpWrite
   next_opening s = (up_write_after u s (found_by (up_write_next u s).1 (read w.words (up_write_next u s).0))).0
 
-  -- its event is one of the rcu_sync of its level
+  -- its step is one of the rcu_sync of its level
   pub opening_there : (s : UpWriteStep) → UpWriteFits (opening_at u s) →
       HasPosition (w.views t).phase (Some (opening_position (opening_at u s))) → 1 ≤ u.level → u.level ≤ 3 →
       SyncStep c.tasks (level_in w u.level) (left_by (level_in w u.level) t (up_write_next u s) (read w.words (up_write_next u s).0)
@@ -72,7 +69,7 @@ module _ (c : Config) (lim : IsWithin c) (w : World) (good : IsGood c w) (t : �
   opening_others s fits = grind arith
 
   module _ (v : View) (counts : SameLevelCounts (w.views t) v) where
-    -- the counts of its level after its event: its store opens the level
+    -- the counts of its level after its step: its store opens the level
     opening_here : (s : UpWriteStep) → 1 ≤ u.level → HasPosition (w.views t).phase (Some (opening_position (opening_at u s))) →
         HasPosition v.phase (position_after_opening u.level (next_opening s)) → Holds c (left_world w t (words_opening s) v) (AtLevel u.level)
     opening_here UpWriteStep.ClearsBlock one was now =
@@ -96,7 +93,7 @@ module _ (c : Config) (lim : IsWithin c) (w : World) (good : IsGood c w) (t : �
         (λ low high. exit_counts u one (transition_after on_exit (Transition.Exchanges from to) (w.words.sync u.level)) ∙
         sym (count_at u.level (opening_position (opening_at u (UpWriteStep.Exits (Transition.Exchanges from to)))) refl))
 
-    -- each event of an up-write leaves the levels as the rule has them
+    -- each step of an up-write leaves the levels as the invariant has them
     pub up_write_levels_at : (s : UpWriteStep) → UpWriteFits (opening_at u s) →
         HasPosition (w.views t).phase (Some (opening_position (opening_at u s))) →
         HasPosition v.phase (position_after_opening u.level (next_opening s)) → LevelsHold c (left_world w t (words_opening s) v)

@@ -1,26 +1,17 @@
--- One level of a world, as the laws of a level have it: what holds there, and what an event of a task leaves of it.
-use Rattle.std.proofs.{Common.{◌≡◌, ℕ, zero, suc, ◌-◌, ◌<◌, ◌≤◌, refl, sym, ap, ◌∙◌, subst, arith}, lemmas.Bool.{eq-eqb, ne_eqb}}
-use Rattle.std.proofs.lemmas.Grind.{common_steps}
-use Rattle.std.specs.Prelude.{Option, Bool, true, false, ◌==◌, ◌&&◌, if◌then◌else◌}
-use Rattle.finite_sums.{proofs.Totals.{total_le, update_same}, specs.Sums.{update, total}}
-use Rattle.cpu_words.specs.{Touches.{wrap_add, left}, Words.{Words, put, read}, declared.{events.Touch.Touch, names.WordName.WordName}}
-use Rattle.percpu_rwsem.specs.declared.{readers.DownReadStep.DownReadStep}
-use Rattle.freeze_laws.proofs.levels.CitedLaws.{events_keep, fast_finds_open as level_is_open}
-use Rattle.freeze_laws.specs.levels.Events.{SyncLevelHolds, SyncStep, TurnsSection}
-use Rattle.freeze_laws.specs.levels.Operations.{down_read_role, put_at, value_at, left_by}
-use Rattle.freeze_laws.specs.levels.Roles.{SyncRole, Out as IsApart, Fast, fast, closed}
-use Rattle.gate_world.specs.{LevelRuns.level_in, Levels.{inside, sync_role_of}, Roles.{sync_role_if}, Rules.{Holds, IsGood}}
-use Rattle.gate_world.specs.{Rules.{SameWords, Sections, SyncAt}, Shown.{closing, is_passed, shown}, Worlds.World, declared.config.Config.Config}
-use Rattle.gate_world.specs.declared.{views.View.View, work.Phase.Phase}
-use Rattle.gate_schedules.proofs.{frames.Frames.left_alone}
+-- One level of a state, as the laws of a level have it: what holds there, and what a step of a task leaves of it.
+use Rattle.gate_schedules.proofs.Prelude.{Config, Holds, IsGood, Option, Phase, SyncAt, SyncStep, Touch, View, WordName, Words, World, ap, arith}
+use Rattle.gate_schedules.proofs.Prelude.{common_steps, eq-eqb, if◌then◌else◌, inside, left, level_in, put, read, refl, shown, subst, sym}
+use Rattle.gate_schedules.proofs.Prelude.{sync_role_of, total, update, update_same, ℕ, ◌<◌, ◌==◌, ◌∙◌, ◌≡◌, ◌≤◌}
+use Rattle.std.{proofs.{Common.◌-◌, lemmas.Bool.ne_eqb}, specs.Prelude.{Bool, true, false, ◌&&◌}}
+use Rattle.finite_sums.proofs.Totals.{total_le}
+use Rattle.cpu_words.specs.Touches.{wrap_add}
+use Rattle.freeze_laws.{proofs.levels.CitedLaws.{events_keep, fast_finds_open as level_is_open}, specs.levels.Events.{SyncLevelHolds, TurnsSection}}
+use Rattle.freeze_laws.specs.levels.{Operations.{put_at, value_at, left_by}, Roles.{SyncRole, Out as IsApart, Fast, fast, closed}}
+use Rattle.gate_world.specs.{Roles.sync_role_if, Rules.{SameWords, Sections}, Shown.{closing, is_passed}}
+use Rattle.gate_schedules.proofs.frames.Frames.{left_alone}
 
 pub fast_in_section : (i : ℕ) (p : Option Phase) → fast (sync_role_of i p) ≤ inside p
 fast_in_section i p = grind arith
-
-pub read_opens : (b : Bool) (s : DownReadStep) → closed (sync_role_if b (down_read_role s)) ≡ 0
-read_opens true DownReadStep.EntersSection = refl
-read_opens true other = refl
-read_opens false s = refl
 
 pub closed_below : (i j : ℕ) (p : Option Phase) → 1 ≤ i → i ≤ j → closed (sync_role_of j p) ≤ closed (sync_role_of i p)
 closed_below i j p one le = grind (arith, common_steps)
@@ -39,7 +30,7 @@ IsOfLevel i (WordName.LevelCount j p) = j ≡ i
 IsOfLevel i (WordName.Section u) = Unit {0}
 IsOfLevel i name = ⊥
 
--- An event at this level that changes no section word: of its sync word, its `block` or its counts, or a load of a section word.
+-- A step at this level that changes no section word: of its sync word, its `block` or its counts, or a load of a section word.
 abbrev pub IsEventAt : ℕ → WordName → Touch → Type 0
 IsEventAt i (WordName.Sync j) touch = j ≡ i
 IsEventAt i (WordName.Block j) touch = j ≡ i
@@ -54,12 +45,12 @@ put_level : (w : World) (i : ℕ) (name : WordName) → IsOfLevel i name → (n 
     put_at (level_in w i) name n ≡ level_in (record { words = put w.words name n; views = w.views }) i
 put_level w i name e n = grind arith
 
--- the level finds in its word what the world has there
+-- the level finds in its word what the state has there
 pub found_level : (w : World) (i : ℕ) (name : WordName) → IsOfLevel i name →
     value_at (level_in w i) (read w.words name) name ≡ read w.words name
 found_level w i name e = grind arith
 
--- such an event leaves the sections
+-- such a step leaves the sections
 pub section_kept : (w : Words) (i : ℕ) (name : WordName) (touch : Touch) → IsEventAt i name touch →
     (put w name (left touch (read w name))).section ≡ w.section
 section_kept w i name touch e = grind arith
@@ -102,16 +93,7 @@ module _ (c : Config) (w : World) (good : IsGood c w) where
   counts_once i = passed_once (w.words.block i == 1 && total c.tasks (λ x. closing i (w.views x).phase) == 0)
 
   pub not_passed : (i : ℕ) → 1 ≤ i → i ≤ 3 → w.words.block i ≡ 0 → (shown c w).passed < i
-  not_passed zero one three e = absurd (omega arith)
-  not_passed (suc zero) one three e =
-      let above : (j : ℕ) → 1 ≤ j → j ≤ 3 → is_passed c w j ≡ 0 = λ j le most. clear_above 1 j one le most e in
-      omega (arith, above 1 one three, above 2 (omega arith) (omega arith), above 3 (omega arith) (omega arith))
-  not_passed (suc (suc zero)) one three e =
-      let above : (j : ℕ) → 2 ≤ j → j ≤ 3 → is_passed c w j ≡ 0 = λ j le most. clear_above 2 j one le most e in
-      omega (arith, counts_once 1, above 2 (omega arith) three, above 3 (omega arith) (omega arith))
-  not_passed (suc (suc (suc zero))) one three e =
-      omega (arith, counts_once 1, counts_once 2, clear_above 3 3 one (omega arith) three e)
-  not_passed (suc (suc (suc (suc n)))) one three e = absurd (omega arith)
+  not_passed i one three e = grind (arith, clear_above, counts_once)
 
   -- a task on the fast path of a level finds it open
   pub fast_finds_open : (i : ℕ) → 1 ≤ i → i ≤ 3 → (t : ℕ) → t < c.tasks → sync_role_of i (w.views t).phase ≡ Fast →
@@ -119,7 +101,7 @@ module _ (c : Config) (w : World) (good : IsGood c w) where
   fast_finds_open i one three t lt here = (level_is_open c.tasks (level_in w i) (level_right i one three) t lt here).1
 
   module _ (t : ℕ) (lt : t < c.tasks) where
-    -- the level of the world after an event of this task
+    -- the level of the state after a step of this task
     pub level_moves : (ws : Words) (v : View) (i : ℕ) → level_in (record { words = ws; views = update w.views t v }) i ≡
         record (level_in (record { words = ws; views = w.views }) i) {
           inside = update (level_in w i).inside t (inside v.phase);
@@ -127,7 +109,7 @@ module _ (c : Config) (w : World) (good : IsGood c w) where
         }
     level_moves ws v i = grind arith
 
-    -- an event of a level leaves what holds there
+    -- a step of a level leaves what holds there
     pub level_steps : (ws : Words) (v : View) (i : ℕ) → 1 ≤ i → i ≤ 3 →
         SyncStep c.tasks (level_in w i) (level_in (record { words = ws; views = update w.views t v }) i) →
         SyncLevelHolds c.tasks (level_in (record { words = ws; views = update w.views t v }) i)
@@ -140,7 +122,7 @@ module _ (c : Config) (w : World) (good : IsGood c w) where
     module _ (v : View) (slow : (i : ℕ) → fast (sync_role_of i (w.views t).phase) ≡ 0)
         (still : (i : ℕ) → sync_role_of i v.phase ≡ sync_role_of i (w.views t).phase)
         (turns : inside v.phase ≡ 1 - inside (w.views t).phase) where
-      -- such an addition is an event of each level
+      -- such an addition is a step of each level
       turns_level : (i : ℕ) → SyncStep c.tasks (level_in w i) (level_in (record { words = turned_words; views = update w.views t v }) i)
       turns_level i = record {
         task = t;
@@ -163,7 +145,7 @@ module _ (c : Config) (w : World) (good : IsGood c w) where
       pub sections_turned : Holds c (record { words = turned_words; views = update w.views t v }) Sections
       sections_turned = (level_steps turned_words v 1 (omega arith) (omega arith) (turns_level 1)).sections.odd
 
-    -- what an event of a level leaves, where it is one of this task on a word of the level
+    -- what a step of a level leaves, where it is one of this task on a word of the level
     pub level_there : (i : ℕ) (name : WordName) (touch : Touch) → IsOfLevel i name → (v : View) → 1 ≤ i → i ≤ 3 →
         SyncStep c.tasks (level_in w i)
         (record (left_by (level_in w i) t (name, touch) (read w.words name) (sync_role_of i v.phase)) {
@@ -180,11 +162,11 @@ module _ (c : Config) (w : World) (good : IsGood c w) where
         }) ∙ sym (level_moves (put w.words name n) v i)) s)
 
     module _ (i : ℕ) (name : WordName) (touch : Touch) (is : IsEventAt i name touch) (v : View) where
-      -- the world after an event at this level
+      -- the state after a step at this level
       abbrev pub touched : World
       touched = record { words = put w.words name (left touch (read w.words name)); views = update w.views t v }
 
-      -- where it is an event of the level, it leaves what holds there
+      -- where it is a step of the level, it leaves what holds there
       pub sync_there :
           (1 ≤ i → i ≤ 3 → SyncStep c.tasks (level_in w i)
           (record (left_by (level_in w i) t (name, touch) (read w.words name) (sync_role_of i v.phase)) {

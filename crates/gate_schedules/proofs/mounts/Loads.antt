@@ -1,26 +1,21 @@
--- Loads of a task at a mount: they leave the words and the shown model.
-use Rattle.access_model.specs.declared.replies.Next.{Next}
-use Rattle.std.proofs.Common.{arith, ap, refl, subst, sym, ℕ, ◌<◌, ◌∙◌, ◌≡◌}
-use Rattle.cpu_words.specs.{Hooks.HookAnswer, Words.{put, read}, declared.{events.Touch.Touch, names.WordName.WordName}}
-use Rattle.finite_sums.proofs.Totals.{update_same}
-use Rattle.finite_sums.specs.Sums.{update}
+-- Loads of a task at a mount: they leave the words and the shown state.
+use Rattle.gate_schedules.proofs.Prelude.{AtMount, Config, Fits, Fitting, HookAnswer, IsGood, MountPhase, Next, None, Option, Phase, Some, Touch}
+use Rattle.gate_schedules.proofs.Prelude.{View, WordName, World, ap, arith, held_of, owns, phase_after, put, read, refl, shown, subst, sym, update}
+use Rattle.gate_schedules.proofs.Prelude.{update_same, ℕ, ◌<◌, ◌∙◌, ◌≡◌}
 use Rattle.gate_schedules.proofs.frames.Frames.{MountHoldsAfter, added_load, gates_after, holds_as, owner_same, shown_still, taken_load, view_as}
 use Rattle.gate_schedules.proofs.frames.Words.{load_same}
-use Rattle.gate_world.specs.{Fits.{Fits, MountFits}, Roles.mount_owns, Rules.{AtMount, Fitting, GatesHold, IsGood, IsSteady, at_mount, owns, remounts}}
-use Rattle.gate_world.specs.{Rules.role_of, Shown.{closing, shown}, Views.{added_by, held_of, phase_after, taken_by, view_with}, Worlds.World}
-use Rattle.gate_world.specs.declared.{config.Config.Config, views.View.View, work.Phase.Phase}
-use Rattle.mount_counts.specs.declared.phases.MountPhase.{MountPhase}
-use Rattle.std.specs.Prelude.{None, Option, Some}
+use Rattle.gate_world.specs.{Fits.MountFits, Roles.mount_owns, Rules.{GatesHold, IsSteady, at_mount, remounts, role_of}, Shown.closing}
+use Rattle.gate_world.specs.Views.{added_by, taken_by, view_with}
 
 pub steady : {p q r : Option Phase} → p ≡ r → IsSteady r q → IsSteady p q
 steady e s = grind arith
 
--- events of a layer that closes no level and sets no `remount`
+-- steps of a layer that closes no level and sets no `remount`
 pub as_owner : {p q : Option Phase} (phase : MountPhase) → p ≡ Some (Phase.Mounts phase) → owns q ≡ mount_owns phase → remounts q ≡ 0 →
     ((i : ℕ) → closing i q ≡ 0) → IsSteady p q
 as_owner phase e o r c = steady e (record { owns_same = o; remounts_same = r; closing_same = c })
 
--- the world after a load, after which this comes
+-- the state after a load, after which this comes
 abbrev pub after_load : World → ℕ → WordName → HookAnswer → Next Phase → World
 after_load w t name hook coming = record {
   words = put w.words name (read w.words name);

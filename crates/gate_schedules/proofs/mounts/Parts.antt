@@ -1,16 +1,13 @@
--- What the events of want, drop and change touch: the rest of the rule stays.
-use Rattle.std.proofs.{Common.{Bool, arith, inl, inr, refl, sym, true, true≢false, ◌≡◌, ◌<◌, ◌⊎◌, subst, ℕ}, lemmas.Bool.{cases_Bool}}
-use Rattle.std.specs.Prelude.{Some, false}
-use Rattle.access_model.specs.{Replies.map_next, declared.{replies.Next.Next}}
-use Rattle.cpu_words.specs.{Hooks.HookAnswer, Touches.{left}, Words.{Words, put, read}}
-use Rattle.cpu_words.specs.declared.{events.Touch.Touch, names.WordName.WordName}
-use Rattle.mount_counts.specs.{Phases.{next}, declared.phases.MountPhase.{MountPhase}}
-use Rattle.gate_world.specs.{traces.Found.is_load, Levels.{at_level, level_added_after, level_taken_after}}
-use Rattle.gate_world.specs.{SameRoles.{Roles, no_roles, roles_of}, Rules.{Holds, IsGood, Known, Part, SameView}}
-use Rattle.gate_world.specs.Rules.{SameWords, Stages, Holding, StepKeeps, at_gates, GateStepKeeps, Tree, AtLevel, SyncAt, Sections, Files}
-use Rattle.gate_world.specs.{Trees.tree_role_of, Views.{phase_after, view_after, has_open}, Worlds.{World, after_step, value_at}}
-use Rattle.gate_world.specs.{Worlds.words_after, declared.{config.Config.Config, views.View.View, work.Phase.Phase}}
-use Rattle.gate_schedules.proofs.frames.{Frames.{left_alone}, Known.{IsOwnersWork, known_after}}
+-- What the steps of want, drop and change touch: the rest of the invariant stays.
+use Rattle.gate_schedules.proofs.Prelude.{AtLevel, Bool, Config, Holds, HookAnswer, IsGood, MountPhase, Next, Phase, Some, Stages, StepKeeps, SyncAt}
+use Rattle.gate_schedules.proofs.Prelude.{Touch, Tree, View, WordName, Words, World, after_step, arith, cases_Bool, inl, inr, left, map_next}
+use Rattle.gate_schedules.proofs.Prelude.{phase_after, put, read, refl, subst, sym, tree_role_of, true, true≢false, words_after, ℕ, ◌<◌, ◌≡◌}
+use Rattle.std.{proofs.Common.◌⊎◌, specs.Prelude.false}
+use Rattle.mount_counts.specs.Phases.{next}
+use Rattle.gate_world.specs.{Levels.{at_level, level_added_after, level_taken_after}, Rules.{Known, Part, SameView, SameWords, Holding, at_gates}}
+use Rattle.gate_world.specs.{Rules.{GateStepKeeps, Sections, Files}, SameRoles.{Roles, no_roles, roles_of}, Views.{view_after, has_open}}
+use Rattle.gate_world.specs.{Worlds.value_at, traces.Found.is_load}
+use Rattle.gate_schedules.proofs.frames.{Frames.left_alone, Known.{IsOwnersWork, known_after}}
 
 -- the words that want, drop and change write
 abbrev pub is_gate_word : WordName → Bool
@@ -19,14 +16,14 @@ is_gate_word (WordName.MountFlags m) = true
 is_gate_word (WordName.MountCount m p) = true
 is_gate_word word = false
 
--- the event of this touch on this word is a load, or it is a word of these
+-- the step of this touch on this word is a load, or it is a word of these
 abbrev pub IsGateTouch : WordName × Touch → Type 0
 IsGateTouch x = (is_load x.1 ≡ true) ⊎ (is_gate_word x.0 ≡ true)
 
 mounts_touch : (x : MountPhase) (hook : HookAnswer) → IsGateTouch (next x hook)
 mounts_touch x hook = grind arith
 
--- the part of what an owner knows, which each event's own trace moves
+-- the part of what an owner knows, which each step's own trace moves
 abbrev pub is_known_part : Part → Bool
 is_known_part Known = true
 is_known_part part = false
@@ -51,7 +48,7 @@ unread part h k old new same = grind arith
 abbrev pub off_mounts : Roles → Roles
 off_mounts r = record r { mount = no_roles.mount; owns = 0 }
 
--- so what the parts that an event of one doesn't touch read of its task's view is the same
+-- so what the parts that a step of one doesn't touch read of its task's view is the same
 record IsUnseen (old new : View) : Type 0 where
   roles_same : off_mounts (roles_of new.phase) ≡ off_mounts (roles_of old.phase)
   tree_same : tree_role_of new.trace new.phase ≡ tree_role_of old.trace old.phase
@@ -85,12 +82,12 @@ mounts_roles next = grind arith
 mounts_work : (w : World) (x : MountPhase) (hook : HookAnswer) → IsOwnersWork w (Phase.Mounts x) hook
 mounts_work w x hook = grind arith
 
--- so their events are unseen at the levels
+-- so their steps are unseen at the levels
 mounts_unseen : (v : View) (x : MountPhase) (value : ℕ) (hook : HookAnswer) → v.phase ≡ Some (Phase.Mounts x) →
     IsUnseen v (view_after v (Phase.Mounts x) value hook)
 mounts_unseen v x value hook e = grind arith
 
--- what an event of want, drop or change leaves of the other parts
+-- what a step of want, drop or change leaves of the other parts
 others_hold : (c : Config) (w : World) (t : ℕ) → t < c.tasks → IsGood c w → (hook : HookAnswer) (x : MountPhase) →
     (w.views t).phase ≡ Some (Phase.Mounts x) →
     (part : Part) → at_gates part ≡ false → (b : Bool) → is_known_part part ≡ b → Holds c (after_step w t (Phase.Mounts x) hook) part
@@ -104,7 +101,7 @@ others_hold c w t lt good hook x e part h false k =
     (unseen part h k (w.views t) (view_after (w.views t) (Phase.Mounts x) (value_at w.words (Phase.Mounts x) hook) hook)
     (mounts_unseen (w.views t) x (value_at w.words (Phase.Mounts x) hook) hook e)) (good part)
 
--- so an event of want, drop or change keeps the rule where it keeps the parts that it may touch
+-- so a step of want, drop or change keeps the invariant where it keeps the parts that it may touch
 pub whole_step : (c : Config) (w : World) (t : ℕ) → t < c.tasks → IsGood c w → (hook : HookAnswer) (x : MountPhase) →
     (w.views t).phase ≡ Some (Phase.Mounts x) →
     GateStepKeeps c w t hook (Phase.Mounts x) → StepKeeps c w t hook (Phase.Mounts x)

@@ -1,8 +1,7 @@
 -- A want whose mount is not held, a drop, and a change that finds `umount` free run out.
-use Rattle.std.proofs.{Common.{ℕ, arith}}
-use Rattle.mount_counts.specs.declared.phases.{Change.Change, MountPhase.MountPhase, Want.Want}
-use Rattle.gate_world.specs.{declared.{config.Config.Config, work.Phase.Phase}}
-use Rattle.gate_schedules.specs.operations.{Unblocked.{PhaseEnds}}
+use Rattle.gate_schedules.proofs.Prelude.{Config, MountPhase, Phase, arith, ℕ}
+use Rattle.mount_counts.specs.declared.phases.{Change.Change, Want.Want}
+use Rattle.gate_schedules.specs.operations.Unblocked.{PhaseEnds}
 
 pub want_ends : (c : Config) (x : Want) → PhaseEnds c (Phase.Mounts (MountPhase.Want x))
 want_ends c x = grind arith

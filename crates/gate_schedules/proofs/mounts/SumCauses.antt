@@ -1,15 +1,14 @@
--- The cause of a sum of a mount's counts, from each world of a schedule to the next, whichever operation reads it.
-use Rattle.std.proofs.{Common.{◌≡◌, ℕ, suc, ◌+◌, ◌<◌, true, false, refl, sym, ap, ◌∙◌, inl, inr, arith, add-one}, lemmas.Bool.{cases_Bool, Decides.eqb_tells}}
-use Rattle.std.specs.Prelude.{Some, None, List, [], ◌∷◌}
-use Rattle.cpu_words.specs.{Sums.{lead, ahead}, Touches.wrap_add, declared.sums.Sum.Sum}
-use Rattle.cpu_words.proofs.gate_counts.Numbers.{ahead_step, ahead_past}
+-- The cause of a sum of a mount's counts, from each state of an execution to the next, whichever operation reads it.
+use Rattle.gate_schedules.proofs.Prelude.{Config, IsGood, List, None, Some, World, [], ap, arith, cases_Bool, eqb_tells, false, inl, inr, refl, suc}
+use Rattle.gate_schedules.proofs.Prelude.{sym, true, ℕ, ◌+◌, ◌<◌, ◌∙◌, ◌∷◌, ◌≡◌}
+use Rattle.std.proofs.Common.{add-one}
+use Rattle.cpu_words.{proofs.gate_counts.Numbers.{ahead_step, ahead_past}, specs.{Sums.{lead, ahead}, Touches.wrap_add, declared.sums.Sum.Sum}}
 use Rattle.mount_counts.specs.declared.phases.ChangeStep.{ChangeStep}
-use Rattle.gate_world.specs.{refusals.Causes.{all_counted, was_counted, words_read, moments_of_sum}, refusals.KeptCauses.ChangeCause, Rules.IsGood, Worlds.World}
-use Rattle.gate_world.specs.declared.config.Config.{Config}
+use Rattle.gate_world.specs.refusals.{Causes.{all_counted, was_counted, words_read, moments_of_sum}, KeptCauses.ChangeCause}
 use Rattle.gate_schedules.proofs.traces.Moments.{fresh_lead, none_counted, sum_skips, sum_begins, sum_goes}
 
 module _ (c : Config) (t m : ℕ) where
-  -- in this world and the earlier ones
+  -- in this state and the earlier ones
   module _ (w : World) (earlier : List World) where
     -- where no word is to be loaded, what was counted while the last sum was read stays so
     pub counted_stays : words_read (w.views t).phase ≡ None → was_counted c m (moments_of_sum t earlier) ≡ true →
@@ -31,7 +30,7 @@ module _ (c : Config) (t m : ℕ) where
     none_so_far k e ne none =
         none_counted c m w (moments_of_sum t earlier) (sym (ap (was_counted c m) (sum_goes t w earlier k e ne)) ∙ none)
 
-  -- in this world, the next one and the earlier ones, with a sum whose cause is known
+  -- in this state, the next one and the earlier ones, with a sum whose cause is known
   module _ (w next : World) (earlier : List World) (sum : Sum) (h : ChangeCause c t w earlier m (ChangeStep.Sums sum)) where
     -- the cause of a sum stays while others step
     pub sum_stays : IsGood c next → m < c.mounts → words_read (next.views t).phase ≡ Some sum.words →

@@ -1,28 +1,26 @@
--- A freeze or a thaw is between its two stores just where its newest event is the first of them: what its role says, its trace says too.
-use Rattle.access_model.specs.{Holders.with_holder, Replies.map_next, declared.{errors.GateError.GateError, replies.Next.Next}}
-use Rattle.cpu_words.specs.{Hooks.HookAnswer, Touches.{event_of, left}, Words.{Words, put, read}, declared.{events.Touch.Touch, names.WordName.WordName}}
-use Rattle.finite_sums.proofs.Totals.{each_updated, total_updated}
-use Rattle.freeze_levels.specs.{Freezes.{freeze_after, freeze_next}, Holders.word_of, Thaws.{thaw_next}, declared.freezes.Freeze.Freeze}
-use Rattle.freeze_levels.specs.declared.{freezes.FreezeStep.{FreezeStep, TheVariants.Closes}, thaws.{Thaw.Thaw, ThawStep.ThawStep}}
-use Rattle.freeze_levels.specs.holder_laws.Roles.{HoldersHold, between, is_four, is_held}
+-- A freeze or a thaw is between its two stores just where its newest step is the first of them: what its role says, its trace says too.
+use Rattle.gate_schedules.proofs.Prelude.{Bool, Config, Err, Fits, Fitting, FreezeStep, GateError, HookAnswer, IsGood, List, Next, None, Ok, Op}
+use Rattle.gate_schedules.proofs.Prelude.{Option, Phase, Some, Touch, Traced, View, WordName, Words, World, after_of, after_step, ap, arith}
+use Rattle.gate_schedules.proofs.Prelude.{each_updated, false, found_at, held_of, inl, inr, left, map_next, phase_after, put, read, refl, subst, sym}
+use Rattle.gate_schedules.proofs.Prelude.{true, words_after, ℕ, ◌<◌, ◌==◌, ◌∙◌, ◌∷◌, ◌≡◌}
+use Rattle.access_model.specs.Holders.{with_holder}
+use Rattle.cpu_words.specs.Touches.{event_of}
+use Rattle.finite_sums.proofs.Totals.{total_updated}
+use Rattle.freeze_levels.{proofs.holder_laws.{HolderLaws.held_exactly, Words.held_word}, specs.{Freezes.{freeze_after, freeze_next}, Holders.word_of}}
+use Rattle.freeze_levels.specs.{Thaws.thaw_next, declared.{freezes.{Freeze.Freeze, FreezeStep.TheVariants.Closes}, thaws.Thaw.Thaw}}
+use Rattle.freeze_levels.specs.{declared.thaws.ThawStep.ThawStep, holder_laws.Roles.{HoldersHold, between, is_four, is_held}}
 use Rattle.gate_schedules.proofs.frames.Holders.{holders_at}
-use Rattle.gate_world.specs.{Fits.Fits, traces.Found.stores_stage, Headline.{HoldersAreTold, is_between, stores_nobody}, Rules.Fitting}
-use Rattle.gate_world.specs.{Rules.{Holding, IsGood, Known, holder_role_of}, Views.{held_of, phase_after, view_after, with_hook}}
-use Rattle.gate_world.specs.{Work.{after_of, next_of}, Worlds.{World, after_step, begin_of, begin_refusal, found_at, happens, opening}}
-use Rattle.gate_world.specs.declared.entries.Entry.{Entry, TheVariants.{Begins, Steps}}
-use Rattle.gate_world.specs.{Worlds.{step_of, value_at, words_after}, declared.{config.Config.Config, operations.Op.Op, views.{Traced.Traced, View.View}}}
-use Rattle.gate_world.specs.declared.work.Phase.{Phase, TheVariants.Closes}
-use Rattle.freeze_levels.proofs.holder_laws.{HolderLaws.held_exactly, Words.held_word}
-use Rattle.percpu_rwsem.specs.{Writers.{down_write_next, up_write_next}}
-use Rattle.percpu_rwsem.specs.declared.writers.{DownWrite.DownWrite, DownWriteStep.DownWriteStep, UpWrite.UpWrite, UpWriteStep.UpWriteStep}
-use Rattle.std.proofs.{Common.{Bool, ap, arith, false, if◌then◌else◌, inl, inr, refl, subst, sym, true, ℕ, ◌-◌, ◌<◌, ◌∙◌, ◌≡◌}, lemmas.Bool.{cases_Bool, cases_lt, le-ltb}}
-use Rattle.std.proofs.lemmas.Bool.{lt-ltb}
-use Rattle.std.specs.Prelude.{Err, List, None, Ok, Option, Some, [], ◌==◌, ◌∷◌}
+use Rattle.gate_world.specs.{Headline.{HoldersAreTold, is_between, stores_nobody}, Rules.{Holding, Known, holder_role_of}, Views.view_after}
+use Rattle.gate_world.specs.{Views.with_hook, Work.next_of, Worlds.{begin_of, begin_refusal, happens, opening, step_of, value_at}}
+use Rattle.gate_world.specs.{declared.{entries.Entry.{TheVariants.{Begins, Steps}, Entry}, work.Phase.TheVariants.Closes}, traces.Found.stores_stage}
+use Rattle.percpu_rwsem.specs.{Writers.{down_write_next, up_write_next}, declared.writers.{DownWrite.DownWrite, DownWriteStep.DownWriteStep}}
+use Rattle.percpu_rwsem.specs.declared.writers.{UpWrite.UpWrite, UpWriteStep.UpWriteStep}
+use Rattle.std.proofs.{Common.if◌then◌else◌, lemmas.Bool.{cases_lt, le-ltb, lt-ltb}}
 
 abbrev bit : Bool → ℕ
 bit b = if b then 1 else 0
 
--- of a phase after this trace, the role and the newest event say the same
+-- of a phase after this trace, the role and the newest step say the same
 abbrev RoleMatchesTrace : Option Phase → List Traced → Type 0
 RoleMatchesTrace p trace = between (holder_role_of p) ≡ bit (is_between p trace)
 
@@ -35,7 +33,7 @@ quiet : {A : Type 0} (to : A → Phase) → ((x : A) (trace : List Traced) → R
     RoleMatchesTrace (phase_after (map_next to next)) trace
 quiet to each next trace = grind arith
 
--- an event leaves the stage and the holders as they are, and is the first of no two stores
+-- a step leaves the stage and the holders as they are, and is the first of no two stores
 abbrev Spares : Words → WordName × Touch → Type 0
 Spares w n =
     ((put w n.0 (left n.1 (read w n.0))).stage ≡ w.stage) × ((put w n.0 (left n.1 (read w n.0))).holders ≡ w.holders) ×
@@ -47,7 +45,7 @@ down_write_spares w d s = grind arith
 up_write_spares : (w : Words) (u : UpWrite) (s : UpWriteStep) → Spares w (up_write_next u s)
 up_write_spares w u s = grind arith
 
--- a freeze, or a thaw, that is not between two stores after an event that is the first of none
+-- a freeze, or a thaw, that is not between two stores after a step that is the first of none
 freeze_unstored : (next : Next Freeze) (e : Traced) (trace : List Traced) → stores_stage 4 e.event.word e.event.touch ≡ false →
     between (holder_role_of (phase_after (map_next Phase.Freezes next))) ≡ 0 → RoleMatchesTrace (phase_after (map_next Phase.Freezes next)) (e ∷ trace)
 freeze_unstored next e trace none zero_is = grind arith
@@ -56,12 +54,12 @@ not_nobody : (word : ℕ) → is_held word ≡ 1 → (word == 0) ≡ false
 not_nobody word some = grind arith
 
 module _ (c : Config) (w : World) (good : IsGood c w) (t : ℕ) (lt : t < c.tasks) where
-  -- of the view after the next event of a phase, the role and the newest event say the same
+  -- of the view after the next step of a phase, the role and the newest step say the same
   abbrev IsToldAfter : Phase → HookAnswer → Type 0
   IsToldAfter phase hook = RoleMatchesTrace (view_after (w.views t) phase (value_at w.words phase hook) hook).phase
       (view_after (w.views t) phase (value_at w.words phase hook) hook).trace
 
-  -- an event that spares the stage and the holders leaves its task between two stores or not
+  -- a step that spares the stage and the holders leaves its task between two stores or not
   stays : (phase : Phase) (hook : HookAnswer) → (w.views t).phase ≡ Some phase → IsGood c (after_step w t phase hook) →
       Spares w.words (next_of phase hook) →
       between (holder_role_of (phase_after (after_of phase (found_at w.words phase hook) hook).0)) ≡ between (holder_role_of (Some phase))
@@ -75,7 +73,7 @@ module _ (c : Config) (w : World) (good : IsGood c w) (t : ℕ) (lt : t < c.task
       ap (λ p. between (holder_role_of p)) e in
       omega (arith, before_holds.held, (after Holding).held, changes, held_same, four_same, was)
 
-  -- an event of a freeze that is not between two stores, and doesn't come to be
+  -- a step of a freeze that is not between two stores, and doesn't come to be
   freeze_spares : (x : Freeze) (hook : HookAnswer) → (w.views t).phase ≡ Some (Phase.Freezes x) → IsGood c (after_step w t (Phase.Freezes x) hook) →
       Spares w.words (freeze_next x x.step hook) → between (holder_role_of (Some (Phase.Freezes x))) ≡ 0 → IsToldAfter (Phase.Freezes x) hook
   freeze_spares x hook e after spares apart =
@@ -87,34 +85,10 @@ module _ (c : Config) (w : World) (good : IsGood c w) (t : ℕ) (lt : t < c.task
       Spares w.words (thaw_next x x.step hook) → between (holder_role_of (Some (Phase.Thaws x))) ≡ 0 → IsToldAfter (Phase.Thaws x) hook
   thaw_spares x hook e after spares apart = grind arith
 
-  -- each event of a freeze
+  -- each step of a freeze
   freeze_told : (x : Freeze) (s : FreezeStep) (hook : HookAnswer) → (w.views t).phase ≡ Some (Phase.Freezes (record x { step = s })) →
       IsGood c (after_step w t (Phase.Freezes (record x { step = s })) hook) → IsToldAfter (Phase.Freezes (record x { step = s })) hook
-  freeze_told x FreezeStep.Locks hook e after = freeze_spares (record x { step = FreezeStep.Locks }) hook e after (refl, refl, refl, refl) refl
-  freeze_told x FreezeStep.LoadsStage hook e after = freeze_spares (record x { step = FreezeStep.LoadsStage }) hook e after (refl, refl, refl, refl) refl
-  freeze_told x FreezeStep.LoadsHolders hook e after = freeze_spares (record x { step = FreezeStep.LoadsHolders }) hook e after (refl, refl, refl, refl) refl
-  freeze_told x FreezeStep.LoadsSuperblock hook e after =
-      freeze_spares (record x { step = FreezeStep.LoadsSuperblock }) hook e after (refl, refl, refl, refl) refl
-  freeze_told x (Closes d) hook e after =
-      freeze_spares (record x { step = Closes d }) hook e after (down_write_spares w.words d d.step) refl
-  freeze_told x (FreezeStep.Waits d) (Ok answer) e after =
-      freeze_spares (record x { step = FreezeStep.Waits d }) (Ok answer) e after (down_write_spares w.words d d.step) refl
-  freeze_told x (FreezeStep.Waits d) (Err code) e after = refl
-  freeze_told x (FreezeStep.Undoes level transition code) hook e after =
-      freeze_spares (record x { step = FreezeStep.Undoes level transition code }) hook e after
-      (up_write_spares w.words (record { level = level; step = UpWriteStep.Exits transition }) (UpWriteStep.Exits transition)) refl
-  freeze_told x (FreezeStep.LocksToUndo code) hook e after =
-      freeze_spares (record x { step = FreezeStep.LocksToUndo code }) hook e after (refl, refl, refl, refl) refl
-  freeze_told x (FreezeStep.GivesUp level code) hook e after = elim (cases_Bool (level - 1 == 0)) [ inl h ↦ rw h refl | inr h ↦ rw h refl ]
-  freeze_told x FreezeStep.LocksAgain hook e after = freeze_spares (record x { step = FreezeStep.LocksAgain }) hook e after (refl, refl, refl, refl) refl
-  freeze_told x (FreezeStep.Cleans marks) hook e after = freeze_spares (record x { step = FreezeStep.Cleans marks }) hook e after (refl, refl, refl, refl) refl
-  freeze_told x FreezeStep.SetsFs (Ok answer) e after = refl
-  freeze_told x FreezeStep.SetsFs (Err code) e after = refl
-  freeze_told x FreezeStep.SetsComplete (Ok answer) e after = refl
-  freeze_told x FreezeStep.SetsComplete (Err code) e after = refl
-  freeze_told x (FreezeStep.Reopens u code) hook e after =
-      freeze_spares (record x { step = FreezeStep.Reopens u code }) hook e after (up_write_spares w.words u u.step) refl
-  freeze_told x other hook e after = refl
+  freeze_told x s hook e after = grind (arith, freeze_spares, down_write_spares, up_write_spares)
 
   -- and of a thaw: who leaves others stores that these hold a freeze
   thaw_told : (x : Thaw) (s : ThawStep) (hook : HookAnswer) → (w.views t).phase ≡ Some (Phase.Thaws (record x { step = s })) →

@@ -1,24 +1,23 @@
--- Each entry, and so each schedule, keeps what is said of the causes of refusals.
-use Rattle.std.proofs.{Common.{◌≡◌, ℕ, ◌<◌, refl, sym, ap, subst, inl, inr, arith}, lemmas.Bool.{ltb-true, cases_Bool, Decides.eqb_tells}}
-use Rattle.std.specs.Prelude.{nat_lt, Option, Some, None, List, [], ◌∷◌}
-use Rattle.finite_sums.proofs.Totals.{update_at, update_off}
-use Rattle.access_model.specs.declared.errors.GateError.{GateError}
-use Rattle.cpu_words.specs.{Hooks.HookAnswer, Names.IsWord, Touches.left}
-use Rattle.gate_world.specs.{Beginnings.{first_phase, view_refusal}, refusals.Causes.{trail, since_begun}, Fits.Fits, refusals.KeptCauses.{CauseOf, Causes}}
-use Rattle.gate_world.specs.{Rules.{IsGood, Fitting}, Views.{begun_view, view_after, held_of}, Work.next_of}
-use Rattle.gate_world.specs.Worlds.{World, after_begin, begin_of, after_step, step_of, value_at, happens, run}
-use Rattle.gate_world.specs.declared.entries.Entry.{Entry, TheVariants.{Begins, Steps}}
-use Rattle.gate_world.specs.declared.{config.Config.Config, operations.Op.Op, views.View.View, work.Phase.Phase}
+-- Each transition, and so each execution, keeps what is said of the causes of refusals.
+use Rattle.gate_schedules.proofs.Prelude.{Config, Fits, Fitting, GateError, HookAnswer, IsGood, List, None, Op, Option, Phase, Some, View, World, []}
+use Rattle.gate_schedules.proofs.Prelude.{after_step, ap, arith, eqb_tells, held_of, inl, inr, left, nat_lt, refl, subst, sym, update_at, ℕ, ◌<◌, ◌∷◌}
+use Rattle.gate_schedules.proofs.Prelude.{◌≡◌}
+use Rattle.std.proofs.lemmas.Bool.{ltb-true}
+use Rattle.finite_sums.proofs.Totals.{update_off}
+use Rattle.cpu_words.specs.Names.{IsWord}
+use Rattle.gate_world.specs.{Beginnings.first_phase, Views.{begun_view, view_after}, Work.next_of, Worlds.{after_begin, begin_of, step_of, value_at}}
+use Rattle.gate_world.specs.{Worlds.{happens, run}, declared.entries.Entry.Entry, refusals.{Causes.{trail, since_begun}, KeptCauses.CauseOf}}
+use Rattle.gate_world.specs.refusals.KeptCauses.{Causes}
 use Rattle.gate_schedules.proofs.frames.{OperationLaws.{IsQuiet, extents_touched}, ZeroCountsUnchanged.write_quiet}
 use Rattle.gate_schedules.proofs.operations.AllOperations.{phase_keeps, op_keeps}
 
--- a task that is at an operation had begun it, so its worlds go on
+-- a task that is at an operation had begun it, so its states go on
 pub begun_on : (t : ℕ) (w : World) (earlier : List World) (phase : Phase) → (w.views t).phase ≡ Some phase →
     since_begun t (w ∷ earlier) ≡ w ∷ since_begun t earlier
 begun_on t w earlier phase e = rw e refl
 
 module _ (c : Config) (w : World) (earlier : List World) (good : IsGood c w) (holds : Causes c w earlier) where
-  -- a task that another entry leaves alone
+  -- a task that another transition leaves alone
   module _ (next : World) (after : IsGood c next) (t : ℕ) (lt : t < c.tasks) (quiet : IsQuiet c w next) where
     kept : (p : Option Phase) → Fits c t (held_of (w.views t)) p → (next.views t).phase ≡ p →
         (w.views t).phase ≡ p → CauseOf c t w (since_begun t earlier) p → CauseOf c t next (since_begun t (w ∷ earlier)) p
@@ -80,18 +79,9 @@ module _ (c : Config) (w : World) (earlier : List World) (good : IsGood c w) (ho
       ]
 
   pub happens_causes : (e : Entry) → IsGood c (happens c w e) → Causes c (happens c w e) (w ∷ earlier)
-  happens_causes (Begins t op) after =
-      elim (cases_Bool (nat_lt t c.tasks)) [
-        | inl h ↦ rw h (begin_causes t op (view_refusal c (w.views t) op) (rw h at after))
-        | inr h ↦ rw h same_causes
-      ]
-  happens_causes (Steps t hook) after =
-      elim (cases_Bool (nat_lt t c.tasks)) [
-        | inl h ↦ rw h (step_causes t (ltb-true t c.tasks h) hook (w.views t).phase refl (rw h at after))
-        | inr h ↦ rw h same_causes
-      ]
+  happens_causes e after = grind (arith, nat_lt, begin_causes, same_causes, step_causes, ltb-true)
 
--- along a schedule whose entries keep the rule
+-- along an execution whose transitions keep the invariant
 module _ (c : Config) (keeps : (w : World) → IsGood c w → (e : Entry) → IsGood c (happens c w e)) where
   pub record TrailHolds (w : World) (earlier : List World) (es : List Entry) : Type 0 where
     pub rest : List World

@@ -1,23 +1,23 @@
--- What holds of every schedule from the opening on.
-use Rattle.std.{proofs.Common.{◌≡◌, ℕ, refl, sym, subst, ◌∙◌, ap, ◌<◌, inl, inr, arith}, specs.Prelude.{Option, Some, None, Err, List, [], ◌∷◌, ◌++◌, false, true}}
-use Rattle.access_model.proofs.{Closed.closed, Frozen.{frozen_shut, frozen_still}}
-use Rattle.access_model.specs.{Histories.{Done, end_of, IsLegal}, Holders.held_by, Laws.{FrozenIsShut, IsFrozenStill, NobodyHoldsClosed}, States.State}
-use Rattle.access_model.specs.declared.{actions.{Action.Action}, errors.GateError.GateError, replies.Next.Next}
-use Rattle.cpu_words.specs.Hooks.{HookAnswer}
-use Rattle.gate_world.specs.{refusals.Causes.{since_begun, HasCause, RefusalsHaveCauses, trail_of}, Configs.{IsWithin, model_limits}}
-use Rattle.gate_world.specs.traces.TraceStates.{state_of_trace, IsTraced, FollowsOrder, AllTraced}
-use Rattle.gate_world.specs.Headline.{world_after, actions_so_far, MovesTheModel, IsOneRun, NobodyIsInside, SumsHold, IdleSumsHold, NothingIsLeft}
-use Rattle.gate_world.specs.Headline.{FreezeIsUnderWay, HoldersAreTold, FrozenTreeIsWhole, FrozenTreeStays, SnapshotsStand, ViewTells, OperationsAreKept}
-use Rattle.gate_world.specs.{Holdings.holdings_of, refusals.KeptCauses.CauseOf, Rules.IsGood, Shown.shown, traces.Traces.{Tells, actions_of}, Views.HoldsAsBefore}
-use Rattle.gate_world.specs.{refusals.Waits.{HasReason, EachWaitHasCulprit, HasCulpritAmong}, Work.after_of, Worlds.{World, opening, happens, run, history, found_at}}
-use Rattle.gate_world.specs.declared.entries.Entry.{Entry}
-use Rattle.gate_world.specs.declared.{config.Config.Config, operations.Op.Op, views.{Traced.Traced, View.View}, work.Phase.Phase}
-use Rattle.gate_schedules.specs.{Frozen.{FrozenIsClosed}, Leads.{SumsLead}}
+-- What holds of every execution from the opening on.
+use Rattle.gate_schedules.proofs.Prelude.{Action, Config, Err, GateError, HookAnswer, IsGood, IsWithin, List, Next, None, Op, Option, Phase, Some}
+use Rattle.gate_schedules.proofs.Prelude.{Traced, View, World, [], after_of, ap, arith, found_at, inl, inr, refl, shown, subst, sym, ℕ, ◌<◌, ◌∙◌, ◌∷◌}
+use Rattle.gate_schedules.proofs.Prelude.{◌≡◌}
+use Rattle.std.specs.Prelude.{◌++◌, false, true}
+use Rattle.access_model.{proofs.{Closed.closed, Frozen.{frozen_shut, frozen_still}}, specs.{Histories.{Done, end_of, IsLegal}, Holders.held_by}}
+use Rattle.access_model.specs.{Laws.{FrozenIsShut, IsFrozenStill, NobodyHoldsClosed}, States.State}
+use Rattle.gate_world.specs.{Configs.model_limits, Headline.{world_after, actions_so_far, MovesTheModel, IsOneRun, NobodyIsInside, SumsHold}}
+use Rattle.gate_world.specs.Headline.{IdleSumsHold, NothingIsLeft, FreezeIsUnderWay, HoldersAreTold, FrozenTreeIsWhole, FrozenTreeStays}
+use Rattle.gate_world.specs.{Headline.{SnapshotsStand, ViewTells, OperationsAreKept}, Holdings.holdings_of, Views.HoldsAsBefore, Worlds.opening}
+use Rattle.gate_world.specs.{Worlds.{happens, run, history}, declared.entries.Entry.Entry, refusals.Causes.{since_begun, HasCause}}
+use Rattle.gate_world.specs.refusals.{Causes.{RefusalsHaveCauses, trail_of}, KeptCauses.CauseOf, Waits.{HasReason, EachWaitHasCulprit}}
+use Rattle.gate_world.specs.{refusals.Waits.HasCulpritAmong, traces.{TraceStates.{state_of_trace, IsTraced, FollowsOrder, AllTraced}, Traces.Tells}}
+use Rattle.gate_world.specs.traces.Traces.{actions_of}
 use Rattle.gate_schedules.proofs.{frames.ValidWords.events_may_be, operations.AllOperations.{phase_keeps, op_keeps}, schedules.Beginnings.may_begin}
-use Rattle.gate_schedules.proofs.schedules.{BetweenStores.{AllTold, entry_told, opening_told, holders_told}, Entries.{TrailHolds, trail_holds, begun_on}}
-use Rattle.gate_schedules.proofs.schedules.{Leads.sums_lead, Lists.run_lists, Rests.{at_rest, a_freeze_is_under_way}, Runs.history_on}
-use Rattle.gate_schedules.proofs.schedules.{Schedule.{opening_good, opening_shown, happens_keeps, run_keeps, gate_sums, idle_sums}, Snapshots.run_moments}
-use Rattle.gate_schedules.proofs.{schedules.SnapshotStability.snapshots_stand, traces.Traced.{opening_traced, entry_keeps}, trees.worlds.Frozen.frozen_whole}
+use Rattle.gate_schedules.proofs.schedules.{BetweenStores.{AllTold, entry_told, opening_told, holders_told}, Entries.{TrailHolds, trail_holds}}
+use Rattle.gate_schedules.proofs.schedules.{Entries.begun_on, Leads.sums_lead, Lists.run_lists, Rests.{at_rest, a_freeze_is_under_way}}
+use Rattle.gate_schedules.proofs.schedules.{Runs.history_on, Schedule.{opening_good, opening_shown, happens_keeps, run_keeps, gate_sums, idle_sums}}
+use Rattle.gate_schedules.proofs.{schedules.{SnapshotStability.snapshots_stand, Snapshots.run_moments}, traces.Traced.{opening_traced, entry_keeps}}
+use Rattle.gate_schedules.{proofs.trees.worlds.Frozen.frozen_whole, specs.{Frozen.FrozenIsClosed, Leads.SumsLead}}
 
 module _ (c : Config) (lim : IsWithin c) where
   pub whole_rule : (es : List Entry) → IsGood c (world_after c es)
@@ -80,7 +80,7 @@ module _ (c : Config) (lim : IsWithin c) where
   pub whole_trees : (es : List Entry) → FrozenTreeIsWhole c (world_after c es)
   whole_trees es = frozen_whole c lim (world_after c es) (whole_rule es)
 
-  -- what was done until a world, and what was done since, is one legal history, so what is frozen there stays so
+  -- what was done until a state, and what was done since, is one allowed trace, so what is frozen there stays so
   pub whole_stays : (es more : List Entry) → FrozenTreeStays c es more
   whole_stays es more h held never =
       let w : World = world_after c es in
@@ -98,7 +98,7 @@ module _ (c : Config) (lim : IsWithin c) where
   pub whole_snapshots : (es : List Entry) → SnapshotsStand c (world_after c es)
   whole_snapshots es = snapshots_stand c (world_after c es) (whole_rule es)
 
-  -- what comes after the next event of a task has its reason, among the worlds since the task began its operation
+  -- what comes after the next step of a task has its reason, among the states since the task began its operation
   reason_told : (es : List Entry) (t : ℕ) (phase : Phase) (hook : HookAnswer) → t < c.tasks → ((world_after c es).views t).phase ≡ Some phase →
       (since : List World) × (since_begun t (trail_of c es) ≡ world_after c es ∷ since) ×
       HasReason c (world_after c es) since t phase (after_of phase (found_at (world_after c es).words phase hook) hook).0
@@ -140,16 +140,16 @@ module _ (c : Config) (lim : IsWithin c) where
   op_tells t v None h = tt
   op_tells t v (Some op) h =
       let k : Tells c op v.trace (state_of_trace c t op v.trace).comes (state_of_trace c t op v.trace).added =
-      (op_keeps c op).tells lim t v.trace h.trace in
+      ((op_keeps c op).traces lim).tells t v.trace h.trace in
       record {
         tells = k;
         refused = λ refusal e. holds_as_before t v op refusal h
             (h.actions ∙ ap (λ l. l ++ v.before) (refused_adds op v.trace (state_of_trace c t op v.trace).comes
             (state_of_trace c t op v.trace).added refusal k e));
-        short = (op_keeps c op).short lim t v.trace h.trace;
+        short = ((op_keeps c op).traces lim).short t v.trace h.trace;
       }
 
-  -- each view follows its operation, as each event is on a word that holds what it may
+  -- each view follows its operation, as each step is on a word that holds what it may
   run_traced : (es : List Entry) (w : World) → IsGood c w → AllTraced c w → AllTraced c (run c w es)
   run_traced [] w good h = h
   run_traced (e ∷ es) w good h =

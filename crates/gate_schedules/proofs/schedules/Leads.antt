@@ -1,15 +1,13 @@
--- What a sum in progress says, by the rule. While a freeze sums a level's words, nobody is on the level's fast path, so what is held there is all that is
+-- What a sum in progress says, by the invariant. While a freeze sums a level's words, nobody is on the level's fast path, so what is held there is all that is
 -- admitted.
-use Rattle.std.proofs.Common.{◌≡◌, ℕ, ◌+◌, ◌<◌, ◌≤◌, ap, ◌∙◌, subst, arith}
-use Rattle.finite_sums.{proofs.Totals.{total_add, total_at, total_none, total_same}, specs.Sums.total}
-use Rattle.cpu_words.specs.gate_counts.{Gates.{bars, admitted, unread, BarringHolds}, Levels.{LevelRole, Summing as SumsLevel, barring_of, level_as_gate}}
+use Rattle.gate_schedules.proofs.Prelude.{AtLevel, AtMount, Config, IsGood, World, ap, arith, subst, sync_role_of, total, ℕ, ◌+◌, ◌<◌, ◌∙◌, ◌≡◌, ◌≤◌}
+use Rattle.finite_sums.proofs.Totals.{total_add, total_at, total_none, total_same}
+use Rattle.cpu_words.specs.gate_counts.{Gates.{bars, admitted, BarringHolds}, Levels.{LevelRole, Summing as SumsLevel, barring_of, level_as_gate}}
 use Rattle.freeze_laws.specs.levels.Roles.{SyncRole, Fast, fast}
 use Rattle.mount_counts.specs.Roles.{Role, Summing, admitted as admitted_there, barring_of as barring_there, mount_as_gate}
-use Rattle.gate_world.specs.{Headline.{admitted_at, LevelsLead}, Levels.{at_level, level_role_of, sync_role_of}, Worlds.World}
-use Rattle.gate_world.specs.Rules.{IsGood, AtLevel, AtMount, LevelHoldsIn, MountHoldsIn, at_mount, role_of}
-use Rattle.gate_world.specs.declared.config.Config.{Config}
-use Rattle.gate_schedules.specs.Leads.{MountsLead, SumsLead, to_come_at_level, to_come_at_mount}
-use Rattle.gate_schedules.proofs.levels.Worlds.{fast_finds_open}
+use Rattle.gate_world.specs.{Headline.{admitted_at, LevelsLead}, Levels.{at_level, level_role_of}, Rules.{LevelHoldsIn, MountHoldsIn, at_mount}}
+use Rattle.gate_world.specs.Rules.{role_of}
+use Rattle.gate_schedules.{proofs.levels.Worlds.fast_finds_open, specs.Leads.{MountsLead, SumsLead, to_come_at_level, to_come_at_mount}}
 
 not_fast : (r : SyncRole) → (r ≡ Fast → ⊥) → fast r ≡ 0
 not_fast r h = grind arith

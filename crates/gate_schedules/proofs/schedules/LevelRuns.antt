@@ -1,18 +1,15 @@
--- Each freeze level of a schedule is a run of it, so its grace periods are kept.
-use Rattle.std.proofs.{Common.{◌≡◌, ℕ, zero, suc, ◌<◌, ◌≤◌, refl, sym, ap, ◌∙◌, inl, inr, arith}, lemmas.Bool.{cases_Bool, ltb-true}}
-use Rattle.std.specs.Prelude.{Option, Some, None, List, [], ◌∷◌, length, take, nat_lt, is_some}
-use Rattle.access_model.specs.declared.errors.GateError.{GateError}
-use Rattle.cpu_words.specs.Hooks.{HookAnswer}
-use Rattle.freeze_laws.proofs.levels.{GraceLaws.graces_are_whole, IdleLaws.only_callbacks_idle, SlowLaws.stays_slow, CitedLaws.idle_is_earned}
-use Rattle.freeze_laws.specs.levels.Events.{SyncLevelHolds, SyncStep, SyncRun}
-use Rattle.gate_world.specs.{Beginnings.{first_phase, view_refusal}, Configs.IsWithin}
-use Rattle.gate_world.specs.{LevelRuns.{level_in, level_after, IsLevelRun, GracesAreKept, LevelsAreRuns}, Levels.{inside, sync_role_of}, Rules.IsGood}
-use Rattle.gate_world.specs.{Views.{begun_view, held_of}, Worlds.{World, begin_of, step_of, happens, run, opening}}
-use Rattle.gate_world.specs.declared.entries.Entry.{Entry, TheVariants.{Begins, Steps}}
-use Rattle.gate_world.specs.declared.{config.Config.Config, operations.Op.Op, work.Phase.Phase}
-use Rattle.gate_schedules.proofs.{levels.{Steps.{level_stays, level_kept}, Worlds.level_right}, schedules.Beginnings.may_begin}
-use Rattle.gate_schedules.proofs.schedules.{Schedule.{idle_is, happens_keeps}, HeadlineProof.whole_rule}
-use Rattle.gate_schedules.proofs.operations.AllOperations.{phase_keeps, op_keeps}
+-- Each freeze level of an execution is a run of it, so its grace periods are kept.
+use Rattle.gate_schedules.proofs.Prelude.{Config, GateError, HookAnswer, IsGood, IsWithin, List, None, Op, Option, Phase, Some, SyncStep, World, []}
+use Rattle.gate_schedules.proofs.Prelude.{ap, arith, cases_Bool, held_of, inl, inr, inside, level_in, nat_lt, refl, suc, sym, sync_role_of, zero, ℕ}
+use Rattle.gate_schedules.proofs.Prelude.{◌<◌, ◌∙◌, ◌∷◌, ◌≡◌, ◌≤◌}
+use Rattle.std.{proofs.lemmas.Bool.ltb-true, specs.Prelude.{length, take, is_some}}
+use Rattle.freeze_laws.proofs.levels.{CitedLaws.idle_is_earned, GraceLaws.graces_are_whole, IdleLaws.only_callbacks_idle, SlowLaws.stays_slow}
+use Rattle.freeze_laws.specs.levels.Events.{SyncLevelHolds, SyncRun}
+use Rattle.gate_world.specs.{Beginnings.{first_phase, view_refusal}, LevelRuns.{level_after, IsLevelRun, GracesAreKept, LevelsAreRuns}}
+use Rattle.gate_world.specs.{Views.begun_view, Worlds.{begin_of, step_of, happens, run, opening}, declared.entries.Entry.{TheVariants.Begins, Entry}}
+use Rattle.gate_world.specs.declared.entries.Entry.TheVariants.{Steps}
+use Rattle.gate_schedules.proofs.{levels.{Steps.{level_stays, level_kept}, Worlds.level_right}, operations.AllOperations.{phase_keeps, op_keeps}}
+use Rattle.gate_schedules.proofs.schedules.{Beginnings.may_begin, HeadlineProof.whole_rule, Schedule.{idle_is, happens_keeps}}
 
 module _ (c : Config) (lim : IsWithin c) (i : ℕ) (one : 1 ≤ i) (three : i ≤ 3) where
   still : (w next : World) → level_in next i ≡ level_in w i → SyncStep c.tasks (level_in w i) (level_in next i)
@@ -30,13 +27,13 @@ module _ (c : Config) (lim : IsWithin c) (i : ℕ) (one : 1 ≤ i) (three : i �
       ((λ j. ((op_keeps c op).starts_aside t j).inside) ∙ sym (ap inside idle))
       ((λ j. ((op_keeps c op).starts_aside t j).sync i) ∙ sym (ap (sync_role_of i) idle)))
 
-  -- an event is a step of its task
+  -- a step of its task is one of the level
   steps : (w : World) → IsGood c w → (t : ℕ) → t < c.tasks → (hook : HookAnswer) (p : Option Phase) → (w.views t).phase ≡ p →
       SyncStep c.tasks (level_in w i) (level_in (step_of w t hook p) i)
   steps w good t lt hook None e = still w w refl
   steps w good t lt hook (Some phase) e = (phase_keeps c phase).runs lim w good t lt hook e i one three
 
-  -- so each entry is
+  -- so each transition is
   entry_steps : (w : World) → IsGood c w → (e : Entry) → SyncStep c.tasks (level_in w i) (level_in (happens c w e) i)
   entry_steps w good (Begins t op) =
       elim (cases_Bool (nat_lt t c.tasks)) [
@@ -49,7 +46,7 @@ module _ (c : Config) (lim : IsWithin c) (i : ℕ) (one : 1 ≤ i) (three : i �
         | inr h ↦ rw h (still w w refl)
       ]
 
-  -- and so is what comes between the first entries of a schedule, so many, and one more
+  -- and so is what comes between the first transitions of an execution, so many, and one more
   moment_steps : (es : List Entry) (w : World) → IsGood c w → (k : ℕ) → k < length es →
       SyncStep c.tasks (level_in (run c w (take k es)) i) (level_in (run c w (take (suc k) es)) i)
   moment_steps [] w good k lt = absurd (omega (arith, lt))

@@ -1,18 +1,14 @@
 -- Each task's own list is its part of the history.
-use Rattle.std.proofs.{Common.{ℕ, inl, inr, arith}, lemmas.Bool.{cases_Bool}}
-use Rattle.std.specs.Prelude.{nat_lt, Option, Some, List, [], ◌∷◌}
-use Rattle.access_model.specs.{Histories.{Done, IsMerge}, declared.{actions.Action.Action, errors.GateError.GateError}}
-use Rattle.cpu_words.specs.Hooks.{HookAnswer}
-use Rattle.gate_world.specs.{Beginnings.{view_refusal}}
-use Rattle.gate_world.specs.Worlds.{World, begin_of, after_step_with_others, step_of, happens, phase_action, action_of, task_of, with_action}
-use Rattle.gate_world.specs.{declared.entries.Entry.{Entry, TheVariants.{Begins, Steps}}, Worlds.{run, history}}
-use Rattle.gate_world.specs.declared.{config.Config.Config, operations.Op.Op, work.Phase.Phase}
+use Rattle.gate_schedules.proofs.Prelude.{Action, Config, GateError, HookAnswer, List, Op, Option, Phase, Some, World, [], arith, nat_lt, ℕ, ◌∷◌}
+use Rattle.access_model.specs.Histories.{Done, IsMerge}
+use Rattle.gate_world.specs.Worlds.{begin_of, after_step_with_others, step_of, happens, phase_action, action_of, task_of, with_action, run, history}
+use Rattle.gate_world.specs.declared.entries.Entry.{Entry}
 
--- the lists of a world
+-- the lists of a state
 abbrev pub lists : World → ℕ → List Action
 lists w t = (w.views t).actions
 
--- after an event, also one of a task that has other numbers
+-- after a step, also one of a task that has other numbers
 pub beside_lists : (others : List (ℕ × ℕ)) (w : World) (earlier : List Done) (t : ℕ) (hook : HookAnswer) (phase : Phase) →
     IsMerge (lists w) earlier →
     IsMerge (lists (after_step_with_others others w t phase hook)) (with_action t (phase_action w hook (Some phase)) earlier)
@@ -28,16 +24,7 @@ begin_lists c w earlier t op r m x = grind arith
 
 pub happens_lists : (c : Config) (w : World) (earlier : List Done) (e : Entry) → IsMerge (lists w) earlier →
     IsMerge (lists (happens c w e)) (with_action (task_of e) (action_of c w e) earlier)
-happens_lists c w earlier (Begins t op) m =
-    elim (cases_Bool (nat_lt t c.tasks)) [
-      | inl h ↦ rw h (begin_lists c w earlier t op (view_refusal c (w.views t) op) m)
-      | inr h ↦ rw h m
-    ]
-happens_lists c w earlier (Steps t hook) m =
-    elim (cases_Bool (nat_lt t c.tasks)) [
-      | inl h ↦ rw h (step_lists w earlier t hook (w.views t).phase m)
-      | inr h ↦ rw h m
-    ]
+happens_lists c w earlier e m = grind (arith, nat_lt, begin_lists, step_lists)
 
 pub run_lists : (c : Config) (es : List Entry) (w : World) (earlier : List Done) → IsMerge (lists w) earlier →
     IsMerge (lists (run c w es)) (history c w earlier es)

@@ -1,14 +1,13 @@
--- A phase that fits: the word of its next event is there and has a place, the action of the event can be done, and the phase that comes
+-- A phase that fits: the word of its next step is there and has a place, the action of the step can be done, and the phase that comes
 -- fits.
-use Rattle.std.{proofs.Common.{ℕ, ◌<◌, arith}, specs.Prelude.{Option, Some, None}}
-use Rattle.cpu_words.{proofs.Places.place_small, specs.{Hooks.HookAnswer, Names.{IsWord, place, words_in_all}}}
-use Rattle.gate_world.specs.{Configs.{IsWithin, extents_kept, extents_among}, Fits.{PhaseFits, Fits, ActionFits}}
-use Rattle.gate_world.specs.{Holdings.{Holdings, Agree, held_after}, Views.phase_after, Work.{next_of, after_of}}
-use Rattle.gate_world.specs.declared.{config.Config.Config, work.Phase.Phase}
-use Rattle.gate_schedules.proofs.{frames.{OperationLaws.{word_kept}, Places.{few_among}}, operations.AllOperations.{phase_keeps}}
+use Rattle.gate_schedules.proofs.Prelude.{Config, Fits, Holdings, HookAnswer, IsWithin, None, Option, Phase, PhaseFits, Some, after_of, arith}
+use Rattle.gate_schedules.proofs.Prelude.{held_after, phase_after, ℕ, ◌<◌}
+use Rattle.cpu_words.{proofs.Places.place_small, specs.Names.{IsWord, place, words_in_all}}
+use Rattle.gate_world.specs.{Configs.{extents_kept, extents_among}, Fits.ActionFits, Holdings.Agree, Work.next_of}
+use Rattle.gate_schedules.proofs.{frames.{OperationLaws.word_kept, Places.few_among}, operations.AllOperations.phase_keeps}
 
 module _ (c : Config) (within : IsWithin c) (t : ℕ) (held : Holdings) where
-  -- the word of its next event is there
+  -- the word of its next step is there
   pub word_there : t < c.tasks → (phase : Phase) (hook : HookAnswer) → PhaseFits c t held phase →
       IsWord (extents_kept c) (next_of phase hook).0
   word_there lt phase hook f = word_kept c within c.tasks _ ((phase_keeps c phase).word c.tasks (omega arith) t lt held hook f)
@@ -20,7 +19,7 @@ module _ (c : Config) (within : IsWithin c) (t : ℕ) (held : Holdings) where
       place_small (extents_among 64 c) (few_among c within) (next_of phase hook).0
       (word_kept c within 64 _ ((phase_keeps c phase).word 64 within.tasks t lt held hook f))
 
-  -- the action of the event can be done
+  -- the action of the step can be done
   pub action_fits : (phase : Phase) (found : ℕ) (hook : HookAnswer) → PhaseFits c t held phase →
       ActionFits held (after_of phase found hook).1
   action_fits phase found hook f = (phase_keeps c phase).acts within t held found hook f

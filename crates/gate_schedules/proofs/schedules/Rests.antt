@@ -1,20 +1,18 @@
 -- Nothing is left behind: with no operation under way nobody has a lock, a remount or a hold.
-use Rattle.std.proofs.Common.{◌≡◌, ◌⊎◌, ◌+◌, ◌/◌, inl, inr, ℕ, zero, suc, ◌<◌, ◌≤◌, refl, ap, ◌∙◌, arith, Bool, false, true, subst, sym, ◌%◌}
-use Rattle.std.proofs.lemmas.Bool.Decides.{eqb_tells}
-use Rattle.std.specs.Prelude.{None}
-use Rattle.finite_sums.{proofs.Totals.total_none, specs.Sums.total}
+use Rattle.gate_schedules.proofs.Prelude.{AtMount, Bool, Config, IsGood, None, Owner, Stages, SyncAt, Tree, World, ap, arith, eqb_tells, false, inl}
+use Rattle.gate_schedules.proofs.Prelude.{inr, inside, is_frozen_whole, owns, refl, shown, stage_role_of, subst, suc, sym, sync_role_of, total}
+use Rattle.gate_schedules.proofs.Prelude.{tree_role_of, true, zero, ℕ, ◌+◌, ◌<◌, ◌∙◌, ◌≡◌, ◌≤◌}
+use Rattle.std.proofs.Common.{◌⊎◌, ◌/◌, ◌%◌}
+use Rattle.finite_sums.proofs.Totals.{total_none}
 use Rattle.access_model.specs.States.{is_removed, one_if}
 use Rattle.gated_tree.specs.Roles.{removal}
-use Rattle.mount_counts.specs.Roles.{has_hold, hold_bit}
-use Rattle.mount_counts.proofs.laws.Bits.{hold_unset}
+use Rattle.mount_counts.{proofs.laws.Bits.hold_unset, specs.Roles.{has_hold, hold_bit}}
 use Rattle.percpu_rwsem.specs.SyncWords.{bit, unpack}
-use Rattle.freeze_laws.specs.levels.Roles.{closed, claimed}
-use Rattle.freeze_laws.{proofs.stages.{Facts.{way_is, other_zero}, CitedLaws.freeze_is_under_way}, specs.stages.Roles.{freezes, under_way, Place, Freezing}}
+use Rattle.freeze_laws.{proofs.stages.{CitedLaws.freeze_is_under_way, Facts.{way_is, other_zero}}, specs.levels.Roles.{closed, claimed}}
+use Rattle.freeze_laws.specs.stages.Roles.{freezes, under_way, Place, Freezing}
 use Rattle.freeze_levels.{proofs.holder_laws.HolderLaws.held_exactly, specs.holder_laws.Roles.between}
-use Rattle.gate_world.specs.Headline.{IsAtRest, IsUntaken, HeldWhereFrozen, FreezeIsUnderWay}
-use Rattle.gate_world.specs.Levels.{is_frozen_whole, sync_role_of, inside}
-use Rattle.gate_world.specs.Rules.{AtMount, Holding, IsGood, Owner, Sections, Stages, SyncAt, SyncHoldsIn, Tree, holder_role_of, owns, remounts, role_of}
-use Rattle.gate_world.specs.{Rules.{stage_role_of, stage_roles}, Shown.shown, Trees.tree_role_of, Worlds.World, declared.config.Config.Config}
+use Rattle.gate_world.specs.{Headline.{IsAtRest, IsUntaken, HeldWhereFrozen, FreezeIsUnderWay}, Rules.{Holding, Sections, SyncHoldsIn}}
+use Rattle.gate_world.specs.Rules.{holder_role_of, remounts, role_of, stage_roles}
 use Rattle.gate_schedules.proofs.frames.{ByPhase.{apart_stage, freezing_is, stage_of}, Holders.holders_at, Stages.{stages_in, stages_right}}
 use Rattle.gate_schedules.proofs.trees.worlds.Frozen.{idle_sound}
 

@@ -1,9 +1,8 @@
--- Schedules, entry by entry.
-use Rattle.std.proofs.Common.{◌≡◌, ℕ, List, [], ◌∷◌, ◌++◌, append_assoc, refl, sym, ap, ◌∙◌, arith}
-use Rattle.std.specs.Prelude.{Option}
-use Rattle.access_model.specs.{Histories.Done, declared.actions.Action.Action}
-use Rattle.gate_world.specs.{Worlds.{World, happens, run, history, with_action, action_of, task_of}, declared.config.Config.Config}
-use Rattle.gate_world.specs.declared.entries.Entry.{Entry}
+-- Executions, transition by transition.
+use Rattle.gate_schedules.proofs.Prelude.{Action, Config, Option, World, ap, arith, refl, sym, ℕ, ◌∙◌, ◌≡◌}
+use Rattle.std.proofs.Common.{List, [], ◌∷◌, ◌++◌, append_assoc}
+use Rattle.access_model.specs.Histories.{Done}
+use Rattle.gate_world.specs.{Worlds.{happens, run, history, with_action, action_of, task_of}, declared.entries.Entry.Entry}
 
 pub run_more : (c : Config) (w : World) (es : List Entry) (e : Entry) → run c w (es ++ e ∷ []) ≡ happens c (run c w es) e
 run_more c w [] e = refl
@@ -13,7 +12,7 @@ run_more c w (x ∷ es) e = run_more c (happens c w x) es e
 with_earlier : (t : ℕ) (a : Option Action) (earlier : List Done) → with_action t a earlier ≡ with_action t a [] ++ earlier
 with_earlier t a earlier = grind arith
 
--- the actions of a schedule go before all earlier ones
+-- the actions of an execution go before all earlier ones
 pub history_on : (c : Config) (w : World) (earlier : List Done) (es : List Entry) → history c w earlier es ≡ history c w [] es ++ earlier
 history_on c w earlier [] = refl
 history_on c w earlier (e ∷ es) =

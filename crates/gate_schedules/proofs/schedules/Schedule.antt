@@ -1,29 +1,25 @@
--- Every schedule keeps the rule, and its actions are one run of the access model.
-use Rattle.access_model.specs.{Histories.{Done, IsLegal, end_of}, States.{State, most_tasks, one_if, openers}}
-use Rattle.access_model.specs.{States.opening_state, declared.{actions.Action.Action, errors.GateError.GateError}}
-use Rattle.cpu_words.specs.Hooks.{HookAnswer}
-use Rattle.cpu_words.specs.gate_counts.{Gates.{below, counted as counted_of}, Levels.{level_as_gate, processor_of as level_processor}}
-use Rattle.finite_sums.proofs.Totals.{each_updated, total_bound, total_none, total_same}
-use Rattle.finite_sums.specs.Sums.{total, update}
-use Rattle.gate_schedules.proofs.operations.AllOperations.{op_keeps, phase_keeps}
-use Rattle.gate_schedules.proofs.frames.{SameRolesOffTree.{SameCounts, good_off_tree, roles_off_tree, view_shown_off_tree}, Frames.{left_alone, opens_left, same_words}}
-use Rattle.gate_schedules.proofs.{schedules.Beginnings.{MayBegin, first_fits, may_begin}, trees.worlds.Trees.tree_within}
-use Rattle.gate_schedules.proofs.trees.Each.{opening_holds}
-use Rattle.cpu_words.proofs.gate_counts.{Events.words_sum, Flags.gate_begins, Numbers.below_le}
-use Rattle.gate_world.specs.{SameRoles.{SameRolesOffTree, off_tree}, Beginnings.{first_phase, view_refusal}, Configs.{IsWithin, model_limits}, Fits.{HasFile, file_of}}
-use Rattle.gate_world.specs.{Headline.{IdleSumsHold, SumsHold}, Levels.{at_level, level_role_of}, Owners.KnowsWords, Rules.{AtLevel, AtMount, Files, Fitting}}
-use Rattle.gate_world.specs.Rules.{Holding, Holds, IsGood, Known, LevelHoldsIn, MountHoldsIn, Moves, Owner, Part, Sections, Stages, SyncAt, Tree}
-use Rattle.gate_world.specs.{Rules.{at_mount, owns, role_of}, Shown.shown, Trees.{tree_bounds, tree_role_of}, Views.{begun_view, has_open, held_of}}
-use Rattle.gate_world.specs.Worlds.{World, action_of, after_begin, begin_of, happens, history, opening, phase_action, run, step_of}
-use Rattle.gate_world.specs.declared.entries.Entry.{Entry, TheVariants.{Begins, Steps}}
-use Rattle.gate_world.specs.{Worlds.{task_of, with_action}, declared.{config.Config.Config, operations.Op.Op, views.View.View, work.Phase.Phase}}
+-- Every execution keeps the invariant, and its actions are one run of the access model.
+use Rattle.gate_schedules.proofs.Prelude.{Action, AtLevel, AtMount, Config, Fitting, GateError, Holds, HookAnswer, IsGood, IsWithin, List, None, Op}
+use Rattle.gate_schedules.proofs.Prelude.{Option, Owner, Phase, Some, Stages, SyncAt, Tree, View, World, [], ap, arith, cases_Bool, each_updated}
+use Rattle.gate_schedules.proofs.Prelude.{eqb_tells, false, held_of, inl, inr, nat_lt, owns, refl, shown, sym, total, tree_bounds, tree_role_of}
+use Rattle.gate_schedules.proofs.Prelude.{true≢false, update, ℕ, ◌<◌, ◌∙◌, ◌∷◌, ◌≡◌, ◌≤◌}
+use Rattle.access_model.specs.{Histories.{Done, IsLegal, end_of}, States.{State, most_tasks, one_if, openers, opening_state}}
+use Rattle.cpu_words.{proofs.gate_counts.{Events.words_sum, Flags.gate_begins, Numbers.below_le}, specs.gate_counts.Gates.below}
+use Rattle.cpu_words.specs.gate_counts.{Gates.counted as counted_of, Levels.{level_as_gate, processor_of as level_processor}}
+use Rattle.finite_sums.proofs.Totals.{total_bound, total_none, total_same}
+use Rattle.gate_schedules.proofs.frames.{Frames.{left_alone, opens_left, same_words}, SameRolesOffTree.{SameCounts, good_off_tree, roles_off_tree}}
+use Rattle.gate_schedules.proofs.{frames.SameRolesOffTree.view_shown_off_tree, operations.AllOperations.{op_keeps, phase_keeps}}
+use Rattle.gate_schedules.proofs.{schedules.Beginnings.{MayBegin, first_fits, may_begin}, trees.{Each.opening_holds, worlds.Trees.tree_within}}
+use Rattle.gate_world.specs.{Beginnings.{first_phase, view_refusal}, Configs.model_limits, Fits.{HasFile, file_of}, Headline.{IdleSumsHold, SumsHold}}
+use Rattle.gate_world.specs.{Levels.{at_level, level_role_of}, Owners.KnowsWords, Rules.{Files, Holding, Known, LevelHoldsIn, MountHoldsIn, Moves}}
+use Rattle.gate_world.specs.{Rules.{Part, Sections, at_mount, role_of}, SameRoles.{SameRolesOffTree, off_tree}, Views.{begun_view, has_open}}
+use Rattle.gate_world.specs.Worlds.{action_of, after_begin, begin_of, happens, history, opening, phase_action, run, step_of, task_of, with_action}
+use Rattle.gate_world.specs.declared.entries.Entry.{TheVariants.{Begins, Steps}, Entry}
 use Rattle.node_words.specs.Nodes.{opens_in}
 use Rattle.freeze_levels.proofs.holder_laws.HolderLaws.{opens as holders_open}
-use Rattle.freeze_laws.proofs.{levels.CitedLaws.{opening_is_right}, stages.CitedLaws.{opening_is_right as stages_open}}
+use Rattle.freeze_laws.proofs.{levels.CitedLaws.opening_is_right, stages.CitedLaws.opening_is_right as stages_open}
 use Rattle.mount_counts.specs.Roles.{counted, mount_shut, processor_of, sought}
-use Rattle.std.proofs.{Common.{ap, arith, false, inl, inr, refl, sym, true≢false, ℕ, ◌%◌, ◌*◌, ◌<◌, ◌∙◌, ◌≡◌, ◌≤◌}, Math.Path.fun_ext}
-use Rattle.std.proofs.lemmas.Bool.{cases_Bool, ltb-true, Decides.eqb_tells}
-use Rattle.std.specs.Prelude.{List, None, Option, Some, [], is_some, nat_lt, ◌∷◌}
+use Rattle.std.{proofs.{Common.{◌%◌, ◌*◌}, Math.Path.fun_ext, lemmas.Bool.ltb-true}, specs.Prelude.is_some}
 
 pub idle_is : (p : Option Phase) → is_some p ≡ false → p ≡ None
 idle_is p h = grind arith
@@ -42,7 +38,7 @@ module _ (c : Config) (lim : IsWithin c) (w : World) (good : IsGood c w) (t : �
   begins_aside : (op : Op) → MayBeginAt c (w.views t) op → SameRolesOffTree (w.views t).phase (Some (first_phase c t op))
   begins_aside op h = roles_off_tree (idle_is (w.views t).phase h.idle) (λ j. off_tree ((op_keeps c op).starts_aside t j))
 
-  -- so a beginning leaves each part of the rule but that of its own phase
+  -- so a beginning leaves each conjunct of the invariant but that of its own phase
   pub begun_keeps : (op : Op) → MayBeginAt c (w.views t) op → IsGood c (after_begin c w t op) × (shown c (after_begin c w t op) ≡ shown c w)
   begun_keeps op h =
       let v : View = begun_view (w.views t) op (first_phase c t op) in
@@ -70,7 +66,7 @@ module _ (c : Config) (lim : IsWithin c) where
       (may_begin c (is_some (w.views t).phase) (held_of (w.views t)) op e)
   begin_keeps w good t op lt (Some refused) e = (good, refl)
 
-  -- each entry keeps the rule, and moves the shown model by its action
+  -- each transition keeps the invariant, and moves the shown state by its action
   pub happens_keeps : (w : World) → IsGood c w → (e : Entry) → IsGood c (happens c w e) ×
       Moves c (shown c w) (task_of e) (action_of c w e) (shown c (happens c w e))
   happens_keeps w good (Begins t op) =
@@ -84,7 +80,7 @@ module _ (c : Config) (lim : IsWithin c) where
         | inr h ↦ rw h (good, refl)
       ]
 
-  -- a legal history that ends in a world's shown model, with one more entry
+  -- an allowed trace that ends in what a state shows, with one more transition
   pub legal_more : (old new : State) (t : ℕ) (a : Option Action) (earlier : List Done) → Moves c old t a new →
       IsLegal (model_limits c) earlier → end_of earlier ≡ old →
       IsLegal (model_limits c) (with_action t a earlier) × (end_of (with_action t a earlier) ≡ new)

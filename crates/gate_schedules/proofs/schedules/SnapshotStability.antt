@@ -1,10 +1,8 @@
 -- A snapshot under way stands in a frozen tree, from its load of stage 4 to its release.
-use Rattle.std.{proofs.Common.{◌≡◌, ℕ, subst, arith}, specs.Prelude.{Some}}
+use Rattle.gate_schedules.proofs.Prelude.{Config, IsGood, Some, Stages, Tree, World, arith, stage_role_of, subst, tree_bounds, tree_role_of, ℕ, ◌≡◌}
 use Rattle.gated_tree.specs.{Calls.{words_loaded, reading}, Roles.RoleHolds, declared.snapshots.SnapshotStep.SnapshotStep}
 use Rattle.freeze_laws.specs.stages.Roles.{KnowsStage}
-use Rattle.gate_world.specs.{Headline.SnapshotsStand, Rules.{IsGood, Stages, Tree, stage_role_of}, traces.Snapshots.values_noted}
-use Rattle.gate_world.specs.Roles.{snapshot_stage_role}
-use Rattle.gate_world.specs.{Trees.{tree_bounds, tree_role_of}, Worlds.World, declared.config.Config.Config}
+use Rattle.gate_world.specs.{Headline.SnapshotsStand, Roles.snapshot_stage_role, traces.Snapshots.values_noted}
 
 -- who has loaded words relies on stage 4
 relies : (stage sb nodes words : ℕ) (s : SnapshotStep) → words_loaded nodes s ≡ Some words → KnowsStage stage sb (snapshot_stage_role s) →

@@ -1,20 +1,19 @@
 -- Each last snapshot has its moment in the history, and keeps it.
-use Rattle.std.proofs.{Common.{◌≡◌, ℕ, ◌<◌, refl, sym, subst, ap, ◌∙◌, inl, inr, arith}, lemmas.Bool.{cases_Bool, ltb-true}}
-use Rattle.std.specs.Prelude.{nat_lt, Option, Some, None, List, [], ◌∷◌, length, slice_index}
-use Rattle.finite_sums.proofs.Totals.{each_updated, total_same}
-use Rattle.access_model.specs.{Histories.{Done, end_of, IsLegal, own_part, IsMerge}, States.{State, size_of}}
-use Rattle.access_model.specs.declared.{actions.{Action.Action, NodeInfo.NodeInfo}, errors.GateError.GateError}
+use Rattle.gate_schedules.proofs.Prelude.{Action, Config, GateError, HookAnswer, IsGood, IsWithin, List, None, Op, Option, Phase, Some, View, World}
+use Rattle.gate_schedules.proofs.Prelude.{[], ap, arith, cases_Bool, each_updated, found_at, inl, inr, nat_lt, refl, shown, subst, sym, ℕ, ◌<◌, ◌∙◌}
+use Rattle.gate_schedules.proofs.Prelude.{◌∷◌, ◌≡◌}
+use Rattle.std.{proofs.lemmas.Bool.ltb-true, specs.Prelude.{length, slice_index}}
+use Rattle.finite_sums.proofs.Totals.{total_same}
+use Rattle.access_model.specs.{Histories.{Done, end_of, IsLegal, own_part, IsMerge}, States.{State, size_of}, declared.actions.NodeInfo.NodeInfo}
 use Rattle.freeze_laws.{proofs.moments.Moments.{is_now, stays}, specs.moments.Moments.HaveDone}
-use Rattle.cpu_words.specs.Hooks.{HookAnswer}
 use Rattle.gated_tree.specs.{Trees.{node_at, is_child, HasDirectory, IsSound, LoadedSound, LoadedClean}, declared.trees.TreeWords.TreeWords}
-use Rattle.gate_world.specs.{Beginnings.{view_refusal}, Configs.{IsWithin, model_limits}, Headline.FrozenTreeIsWhole}
-use Rattle.gate_world.specs.{Moments.{HasMoment, AllHaveMoments, IsPresentTree, CompletesNow}, Rules.{IsGood, Moves}, Shown.shown}
-use Rattle.gate_world.specs.{traces.Snapshots.{completes, last_snapshot}, Views.{view_after_with_others}}
-use Rattle.gate_world.specs.Worlds.{World, begin_of, after_step_with_others, step_of, happens, phase_action, action_of, task_of, with_action}
-use Rattle.gate_world.specs.{declared.entries.Entry.{Entry, TheVariants.{Begins, Steps}}, Worlds.{found_at, value_at, run, history}}
-use Rattle.gate_world.specs.declared.{config.Config.Config, operations.Op.Op, views.{Snapshot.Snapshot, View.View}, work.Phase.Phase}
-use Rattle.gate_schedules.proofs.{operations.AllOperations.phase_keeps, schedules.{Lists.{lists, happens_lists}, Schedule.{happens_keeps, legal_more}}}
-use Rattle.gate_schedules.proofs.trees.worlds.Frozen.{frozen_whole}
+use Rattle.gate_world.specs.{Beginnings.view_refusal, Configs.model_limits, Headline.FrozenTreeIsWhole, Moments.{HasMoment, AllHaveMoments}}
+use Rattle.gate_world.specs.{Moments.{IsPresentTree, CompletesNow}, Rules.Moves, Views.view_after_with_others, Worlds.begin_of}
+use Rattle.gate_world.specs.Worlds.{after_step_with_others, step_of, happens, phase_action, action_of, task_of, with_action, value_at, run, history}
+use Rattle.gate_world.specs.{declared.{entries.Entry.{TheVariants.{Begins, Steps}, Entry}, views.Snapshot.Snapshot}, traces.Snapshots.completes}
+use Rattle.gate_world.specs.traces.Snapshots.{last_snapshot}
+use Rattle.gate_schedules.proofs.{operations.AllOperations.phase_keeps, schedules.{Lists.{lists, happens_lists}, Schedule.happens_keeps}}
+use Rattle.gate_schedules.proofs.{schedules.Schedule.legal_more, trees.worlds.Frozen.frozen_whole}
 
 -- the parent of a node is a directory also in a tree that shows the same nodes
 directory_as : (nodes : ℕ) (old new : ℕ → Option NodeInfo) → ((n : ℕ) → n < nodes → old n ≡ new n) → (node : Option NodeInfo) →
@@ -35,14 +34,7 @@ module _ (c : Config) where
   -- a moment in the history is one in the longer history
   moment_stays : (log : List Done) (t : ℕ) (last : Option Snapshot) → HasMoment c log t last → (u : ℕ) (a : Option Action) →
       HasMoment c (with_action u a log) t last
-  moment_stays log t last h u None = h
-  moment_stays log t None h u (Some a) = tt
-  moment_stays log t (Some s) h u (Some a) = record {
-    whole = h.whole;
-    sound = h.sound;
-    clean = h.clean;
-    stands = stays c.nodes (node_at s.loaded) ((t, s.done) ∷ s.others) log h.stands (u, a);
-  }
+  moment_stays log t last h u a = grind (arith, stays)
 
   -- where what was loaded are the present words of a frozen tree, that is sound and clean
   module _ (w : World) (tree : FrozenTreeIsWhole c w) (loaded : TreeWords) (present : IsPresentTree c w.words loaded) where
@@ -78,11 +70,9 @@ module _ (c : Config) where
     last_moment : (t : ℕ) (taken : Option TreeWords) (actions : List Action) (others : List (ℕ × ℕ)) (last : Option Snapshot) →
         own_part t log ≡ actions → HaveDone others log → ((loaded : TreeWords) → taken ≡ Some loaded → IsPresentTree c w.words loaded) →
         HasMoment c log t last → HasMoment c log t (last_snapshot taken actions others last)
-    last_moment t None actions others last own done present h = h
-    last_moment t (Some loaded) actions others last own done present h =
-        present_moment t actions others loaded own done (present loaded refl)
+    last_moment t taken actions others last own done present h = grind (arith, present_moment)
 
-    -- after an event, also one of a task that has other numbers
+    -- after a step, also one of a task that has other numbers
     pub beside_moments : (others : List (ℕ × ℕ)) (t : ℕ) (hook : HookAnswer) (phase : Phase) → IsMerge (lists w) log → HaveDone others log →
         CompletesNow c w t hook phase → AllHaveMoments c log w →
         AllHaveMoments c (with_action t (phase_action w hook (Some phase)) log) (after_step_with_others others w t phase hook)
@@ -122,7 +112,7 @@ module _ (c : Config) (lim : IsWithin c) where
           | inr h ↦ rw h all
         ]
 
-  -- after any schedule
+  -- after any execution
   pub run_moments : (es : List Entry) (w : World) (log : List Done) → IsGood c w → IsLegal (model_limits c) log → end_of log ≡ shown c w →
       IsMerge (lists w) log → AllHaveMoments c log w → AllHaveMoments c (history c w log es) (run c w es)
   run_moments [] w log good legal ends merge all = all

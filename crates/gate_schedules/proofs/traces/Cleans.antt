@@ -1,8 +1,7 @@
 -- The marks that a trace has cleared are nothing that a task holds.
-use Rattle.std.{proofs.Common.{◌≡◌, ℕ, arith}, specs.Prelude.{List, [], ◌∷◌, ◌++◌}}
-use Rattle.access_model.specs.declared.actions.Action.{Action}
-use Rattle.cpu_words.specs.declared.{events.Touch.Touch, names.WordName.WordName}
-use Rattle.gate_world.specs.{traces.Found.{clean_found, cleans}, Holdings.holdings_of, declared.views.Traced.Traced}
+use Rattle.gate_schedules.proofs.Prelude.{Action, List, Touch, Traced, WordName, [], arith, ℕ, ◌∷◌, ◌≡◌}
+use Rattle.std.specs.Prelude.{◌++◌}
+use Rattle.gate_world.specs.{Holdings.holdings_of, traces.Found.{clean_found, cleans}}
 
 -- these actions leave what the task holds as it was
 abbrev pub LeaveAccesses : List Action → List Action → Type 0

@@ -1,17 +1,16 @@
--- Moments of a schedule: the last question, the last look at the stage, the moments of a sum, and what was counted.
-use Rattle.std.proofs.{Common.{◌≡◌, ℕ, ◌<◌, Bool, true, false, refl, arith, ◌%◌}, lemmas.Bool.{ne_eqb}}
-use Rattle.std.specs.Prelude.{Some, List, ◌∷◌, ◌||◌, None, []}
-use Rattle.finite_sums.specs.Sums.{total}
-use Rattle.cpu_words.specs.Sums.{lead, ahead}
-use Rattle.cpu_words.proofs.gate_counts.{Events.words_sum, Numbers.ahead_none}
-use Rattle.gate_world.specs.refusals.Causes.{all_counted, was_counted, asks, last_question, looks_at_stage, last_look, words_read, moments_of_sum}
-use Rattle.gate_world.specs.{Rules.{IsGood, AtMount, MountHoldsIn}, Worlds.World, declared.config.Config.Config}
+-- Moments of an execution: the last question, the last look at the stage, the moments of a sum, and what was counted.
+use Rattle.gate_schedules.proofs.Prelude.{AtMount, Bool, Config, IsGood, List, None, Some, World, [], arith, false, refl, total, true, ℕ, ◌<◌, ◌∷◌}
+use Rattle.gate_schedules.proofs.Prelude.{◌≡◌}
+use Rattle.std.{proofs.{Common.◌%◌, lemmas.Bool.ne_eqb}, specs.Prelude.◌||◌}
+use Rattle.cpu_words.{proofs.gate_counts.{Events.words_sum, Numbers.ahead_none}, specs.Sums.{lead, ahead}}
+use Rattle.gate_world.specs.{Rules.MountHoldsIn, refusals.Causes.{all_counted, was_counted, asks, last_question, looks_at_stage, last_look}}
+use Rattle.gate_world.specs.refusals.Causes.{words_read, moments_of_sum}
 
 pub or_true : (b : Bool) → (b || true) ≡ true
 or_true true = refl
 or_true false = refl
 
--- the last question, the last look at the stage and the moments of a sum, one world on
+-- the last question, the last look at the stage and the moments of a sum, one state on
 module _ (t : ℕ) (w : World) (earlier : List World) where
   pub question_skips : asks (w.views t).phase ≡ false → last_question t (w ∷ earlier) ≡ last_question t earlier
   question_skips h = rw h refl
@@ -42,7 +41,7 @@ fresh_lead c w good m lm none =
     let a : ahead c.processors (w.words.count m) 0 ≡ total c.processors (w.words.count m) = ahead_none c.processors (w.words.count m) in
     omega (arith, s, a, none)
 
--- nothing was counted in any of these worlds
+-- nothing was counted in any of these states
 pub none_counted : (c : Config) (m : ℕ) (w : World) (earlier : List World) → was_counted c m (w ∷ earlier) ≡ false →
     (all_counted c m w ≡ 0) × (was_counted c m earlier ≡ false)
 none_counted c m w earlier h = grind arith

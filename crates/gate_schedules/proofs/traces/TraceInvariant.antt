@@ -1,10 +1,8 @@
--- What a trace says, kept from each event to the next.
-use Rattle.std.{proofs.Common.{ℕ, arith}, specs.Prelude.{List, [], ◌∷◌}}
-use Rattle.access_model.specs.declared.{actions.Action.Action, replies.Next.Next}
-use Rattle.cpu_words.specs.{Hooks.HookAnswer, Touches.{event_of, found_by}, declared.events.Event.Event}
-use Rattle.gate_world.specs.{Beginnings.first_phase, traces.TraceStates.{trace_state_after, state_of_trace, IsEventOf, IsNext, IsTrace, ReadIsValid}}
-use Rattle.gate_world.specs.{traces.Traces.{most_events, IsShort, Tells}, Views.{actions_after, with_hook}, Work.{next_of, after_of}}
-use Rattle.gate_world.specs.declared.{config.Config.Config, operations.Op.Op, views.Traced.Traced, work.Phase.Phase}
+-- What a trace says, kept from each step to the next.
+use Rattle.gate_schedules.proofs.Prelude.{Action, Config, HookAnswer, List, Next, Op, Phase, Traced, [], after_of, arith, found_by, ℕ, ◌∷◌}
+use Rattle.cpu_words.specs.{Touches.event_of, declared.events.Event.Event}
+use Rattle.gate_world.specs.{Beginnings.first_phase, Views.{actions_after, with_hook}, Work.next_of, traces.TraceStates.trace_state_after}
+use Rattle.gate_world.specs.traces.{TraceStates.{state_of_trace, IsEventOf, IsNext, IsTrace, ReadIsValid}, Traces.{most_events, IsShort, Tells}}
 
 -- what a trace says by where its operation stands, where `At` is what it says at a phase
 abbrev pub InvariantAfter : (List Traced → Phase → List Action → Type 0) → Config → Op → List Traced → Next Phase → List Action → Type 0
@@ -12,18 +10,18 @@ InvariantAfter At c op trace (Next.Go phase) added = At trace phase added
 InvariantAfter At c op trace (Next.Wait phase) added = At trace phase added × Tells c op trace (Next.Wait phase) added
 InvariantAfter At c op trace (Next.Done answer) added = Tells c op trace (Next.Done answer) added × IsShort (most_events c op) trace
 
--- the event of a phase, on a word that held this value
+-- the step of a phase, on a word that held this value
 abbrev pub event_at : Phase → ℕ → HookAnswer → Event
 event_at phase value hook = event_of (next_of phase hook).0 (next_of phase hook).1 value
 
--- what the trace says after the event of a phase
+-- what the trace says after the step of a phase
 abbrev pub InvariantAfterStep : (List Traced → Phase → List Action → Type 0) → Config → Op → Phase → ℕ → HookAnswer → List Traced → List Action →
     Type 0
 InvariantAfterStep At c op phase value hook earlier added =
     InvariantAfter At c op (with_hook (event_at phase value hook) hook ∷ earlier) (after_of phase (found_by (next_of phase hook).1 value) hook).0
     (actions_after (after_of phase (found_by (next_of phase hook).1 value) hook).1 added)
 
--- What is kept of an operation: it holds at the beginning, each event keeps it, and it bounds the trace. An event is on a word that held
+-- What is kept of an operation: it holds at the beginning, each step keeps it, and it bounds the trace. A step is on a word that held
 -- what it may.
 pub record IsInductiveGivenReads (At : List Traced → Phase → List Action → Type 0) (c : Config) (t : ℕ) (op : Op) : Type 0 where
   pub first : At [] (first_phase c t op) []
@@ -31,7 +29,7 @@ pub record IsInductiveGivenReads (At : List Traced → Phase → List Action →
       ReadIsValid phase (next_of phase hook).0 value → At earlier phase added → InvariantAfterStep At c op phase value hook earlier added
   pub short : (trace : List Traced) (phase : Phase) (added : List Action) → At trace phase added → IsShort (most_events c op) trace
 
--- the same, where an event keeps it whatever its word held
+-- the same, where a step keeps it whatever its word held
 pub record IsInductive (At : List Traced → Phase → List Action → Type 0) (c : Config) (t : ℕ) (op : Op) : Type 0 where
   pub first : At [] (first_phase c t op) []
   pub more : (phase : Phase) (value : ℕ) (hook : HookAnswer) (earlier : List Traced) (added : List Action) → At earlier phase added →
@@ -39,18 +37,16 @@ pub record IsInductive (At : List Traced → Phase → List Action → Type 0) (
   pub short : (trace : List Traced) (phase : Phase) (added : List Action) → At trace phase added → IsShort (most_events c op) trace
 
 module _ (At : List Traced → Phase → List Action → Type 0) (c : Config) (t : ℕ) (op : Op) (kept : IsInductiveGivenReads At c t op) where
-  -- the event of a phase keeps what the trace says
+  -- the step of a phase keeps what the trace says
   event_keeps : (phase : Phase) (added : List Action) (e : Traced) (earlier : List Traced) → IsEventOf phase e → At earlier phase added →
       InvariantAfter At c op (e ∷ earlier) (after_of phase e.event.found e.hook).0 (actions_after (after_of phase e.event.found e.hook).1 added)
   event_keeps phase added e earlier next here = grind arith
 
-  -- one more event of a trace does
+  -- one more step of a trace does
   next_keeps : (comes : Next Phase) (added : List Action) (e : Traced) (earlier : List Traced) → IsNext comes e →
       InvariantAfter At c op earlier comes added →
       InvariantAfter At c op (e ∷ earlier) (trace_state_after comes added e).comes (trace_state_after comes added e).added
-  next_keeps (Next.Go phase) added e earlier next here = event_keeps phase added e earlier next here
-  next_keeps (Next.Wait phase) added e earlier next here = event_keeps phase added e earlier next here.0
-  next_keeps (Next.Done answer) added e earlier next here = absurd next
+  next_keeps comes added e earlier next here = grind (arith, event_keeps)
 
   says : (trace : List Traced) → IsTrace c t op trace → InvariantAfter At c op trace (state_of_trace c t op trace).comes (state_of_trace c t op trace).added
   says [] h = kept.first
@@ -66,21 +62,26 @@ module _ (At : List Traced → Phase → List Action → Type 0) (c : Config) (t
       IsShort (most_events c op) trace
   says_short trace comes added h = grind arith
 
-  -- so every trace tells what is to be told, and is short
-  pub tells_well : (trace : List Traced) → IsTrace c t op trace →
-      Tells c op trace (state_of_trace c t op trace).comes (state_of_trace c t op trace).added
-  tells_well trace h = says_tells trace (state_of_trace c t op trace).comes (state_of_trace c t op trace).added (says trace h)
-
-  pub is_short_well : (trace : List Traced) → IsTrace c t op trace → IsShort (most_events c op) trace
-  is_short_well trace h = says_short trace (state_of_trace c t op trace).comes (state_of_trace c t op trace).added (says trace h)
-
+-- what is kept whatever a word held is kept where it held what it may
 module _ (At : List Traced → Phase → List Action → Type 0) (c : Config) (t : ℕ) (op : Op) (kept : IsInductive At c t op) where
-  -- what is kept whatever a word held is kept where it held what it may
-  kept_well : IsInductiveGivenReads At c t op
-  kept_well = grind arith
+  kept_given_reads : IsInductiveGivenReads At c t op
+  kept_given_reads = grind arith
 
-  pub tells : (trace : List Traced) → IsTrace c t op trace → Tells c op trace (state_of_trace c t op trace).comes (state_of_trace c t op trace).added
-  tells trace h = tells_well At c t op kept_well trace h
+-- every trace of an operation tells what is to be told, and is short
+pub record TraceLaws (c : Config) (op : Op) : Type 0 where
+  pub tells : (t : ℕ) (trace : List Traced) → IsTrace c t op trace →
+      Tells c op trace (state_of_trace c t op trace).comes (state_of_trace c t op trace).added
+  pub short : (t : ℕ) (trace : List Traced) → IsTrace c t op trace → IsShort (most_events c op) trace
 
-  pub is_short : (trace : List Traced) → IsTrace c t op trace → IsShort (most_events c op) trace
-  is_short trace h = is_short_well At c t op kept_well trace h
+-- so it is where something is kept of it, for each task
+module _ (At : ℕ → List Traced → Phase → List Action → Type 0) (c : Config) (op : Op) where
+  pub traces_given_reads : ((t : ℕ) → IsInductiveGivenReads (At t) c t op) → TraceLaws c op
+  traces_given_reads kept = record {
+    tells = λ t trace h. says_tells (At t) c t op (kept t) trace (state_of_trace c t op trace).comes (state_of_trace c t op trace).added
+        (says (At t) c t op (kept t) trace h);
+    short = λ t trace h. says_short (At t) c t op (kept t) trace (state_of_trace c t op trace).comes (state_of_trace c t op trace).added
+        (says (At t) c t op (kept t) trace h);
+  }
+
+  pub traces_tell : ((t : ℕ) → IsInductive (At t) c t op) → TraceLaws c op
+  traces_tell kept = traces_given_reads (λ t. kept_given_reads (At t) c t op (kept t))

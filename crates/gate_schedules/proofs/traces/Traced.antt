@@ -1,17 +1,12 @@
--- Each view follows its operation, after every schedule.
-use Rattle.std.proofs.{Common.{◌≡◌, ℕ, refl, inl, inr, ◌<◌, arith}, lemmas.Bool.{cases_Bool, cases_lt, lt-ltb, le-ltb}}
-use Rattle.std.specs.Prelude.{Option, Some, None, nat_lt}
-use Rattle.finite_sums.proofs.Totals.{each_updated}
-use Rattle.access_model.specs.declared.{errors.GateError.GateError}
-use Rattle.cpu_words.specs.{Hooks.HookAnswer}
-use Rattle.gate_world.specs.Beginnings.{view_refusal}
-use Rattle.gate_world.specs.traces.TraceStates.{IsTraced, ReadIsValid, AllTraced, EventsMayBe}
-use Rattle.gate_world.specs.{Views.{view_after}, Work.{next_of}}
-use Rattle.gate_world.specs.Worlds.{World, begin_refusal, begin_of, value_at, step_of, happens, opening}
-use Rattle.gate_world.specs.declared.entries.Entry.{Entry, TheVariants.{Begins, Steps}}
-use Rattle.gate_world.specs.declared.{config.Config.Config, operations.Op.Op, views.{View.View}, work.Phase.Phase}
+-- Each view follows its operation, after every execution.
+use Rattle.gate_schedules.proofs.Prelude.{Config, GateError, HookAnswer, None, Op, Option, Phase, Some, View, World, arith, cases_Bool, each_updated}
+use Rattle.gate_schedules.proofs.Prelude.{inl, inr, nat_lt, refl, ℕ, ◌<◌, ◌≡◌}
+use Rattle.std.proofs.lemmas.Bool.{cases_lt, lt-ltb, le-ltb}
+use Rattle.gate_world.specs.{Beginnings.view_refusal, Views.view_after, Work.next_of, Worlds.{begin_refusal, begin_of, value_at, step_of, happens}}
+use Rattle.gate_world.specs.{Worlds.opening, declared.entries.Entry.{TheVariants.{Begins, Steps}, Entry}, traces.TraceStates.{IsTraced, ReadIsValid}}
+use Rattle.gate_world.specs.traces.TraceStates.{AllTraced, EventsMayBe}
 
--- the next event of a view that follows its operation
+-- the next step of a view that follows its operation
 step_follows : (c : Config) (t : ℕ) (v : View) (op : Option Op) (phase : Phase) (value : ℕ) (hook : HookAnswer) → v.phase ≡ Some phase →
     ReadIsValid phase (next_of phase hook).0 value → IsTraced c t v op → IsTraced c t (view_after v phase value hook) op
 step_follows c t v op phase value hook e may h = grind arith
@@ -29,7 +24,7 @@ begin_entry c w t op h =
       | inr f ↦ rw f h
     ]
 
--- a step adds the event that the phase wants, on a word that holds what it may
+-- a transition adds the step that the phase wants, on a word that holds what it may
 step_keeps : (c : Config) (w : World) (t : ℕ) (hook : HookAnswer) (phase : Option Phase) → (w.views t).phase ≡ phase → t < c.tasks →
     EventsMayBe c w → AllTraced c w → AllTraced c (step_of w t hook phase)
 step_keeps c w t hook None e lt may h x = h x

@@ -1,7 +1,6 @@
 -- What the tree allows, with the accesses that the task holds, is what the model allows.
-use Rattle.std.proofs.Common.{◌≡◌, ℕ, arith}
-use Rattle.finite_sums.{specs.Sums.update}
-use Rattle.access_model.specs.{Actions.{MayDo, after_action, opens_after, tree_after}, States.{Limits, State, openers}, declared.actions.Action.Action}
+use Rattle.gate_schedules.proofs.Prelude.{Action, arith, update, ℕ, ◌≡◌}
+use Rattle.access_model.specs.{Actions.{MayDo, after_action, opens_after, tree_after}, States.{Limits, State, openers}}
 use Rattle.gate_schedules.specs.trees.Events.{TreeAllows, HasLeave, bounds_of}
 
 -- an action that the tree allows, of a task with the accesses that it needs, is one that the model allows

@@ -1,17 +1,18 @@
 -- The compare-exchanges of node words that found what was loaded. Each says what the tree keeps and which action it is.
-use Rattle.std.proofs.{Common.{◌≡◌, ℕ, Bool, true, false, ◌+◌, ◌-◌, ◌%◌, ◌<◌, ◌≤◌, refl, sym, ap, ◌∙◌, subst, inl, inr, arith}, lemmas.Bool.{eq-eqb, ne_eqb}}
-use Rattle.std.specs.Prelude.{◌⊎◌, ◌==◌, ◌&&◌, if◌then◌else◌, Some, None, option_map}
-use Rattle.finite_sums.{proofs.Totals.{update_map, update_same, total_at}, specs.Sums.{update, total}}
-use Rattle.access_model.specs.Actions.{grown, moved, marked, unlinked, after_remove}
-use Rattle.access_model.specs.States.{size_of, is_dirty, is_removed, one_if, IsFile, IsLinkedFile, IsDirectory}
-use Rattle.access_model.specs.declared.actions.{Action.Action, Kind.Kind, NodeInfo.NodeInfo}
-use Rattle.node_words.proofs.Words.{word_shows, word_opens, file_is_node, lawful_file, new_is_node, free_is_node}
-use Rattle.node_words.specs.Nodes.{IsLawful, opens_in, word_of, info_of, node_shown, new_node, grown_node, moved_node, marked_node, opened_node, closed_node}
-use Rattle.node_words.specs.{Nodes.{unlinked_node}, declared.nodes.NodeWord.{NodeWord}}
-use Rattle.gated_tree.specs.Roles.{Role, Out, Loaded, Placing, Moving, Charged, Freed, Returning, Removing, Freeing, Dropped, Bounds, TreeState, AreWithin}
-use Rattle.gated_tree.specs.Roles.{charge, child_charge, removal, frees, IsFileNode, IsLastOpen, MayGrow, IsDirectoryAt, HasParent, RoleHolds, TreeHolds}
-use Rattle.gated_tree.specs.{Roles.{NobodyReads, MayDirty, NobodyElseFrees}, Trees.{is_same, has_parent}}
-use Rattle.gate_schedules.{proofs.trees.Laws.{role_says, not_freed, node_changes}, specs.trees.Events.{with_node, tree_shown, opens_shown, TreeDoes, MayClean}}
+use Rattle.gate_schedules.proofs.Prelude.{Action, Bool, None, Some, ap, arith, eq-eqb, false, if◌then◌else◌, inl, inr, refl, subst, sym, total, true}
+use Rattle.gate_schedules.proofs.Prelude.{update, update_same, ℕ, ◌+◌, ◌<◌, ◌==◌, ◌∙◌, ◌≡◌, ◌≤◌}
+use Rattle.std.{proofs.{Common.{◌-◌, ◌%◌}, lemmas.Bool.ne_eqb}, specs.Prelude.{◌⊎◌, ◌&&◌, option_map}}
+use Rattle.finite_sums.proofs.Totals.{update_map, total_at}
+use Rattle.access_model.specs.{Actions.{grown, moved, marked, unlinked, after_remove}, States.{size_of, is_dirty, is_removed, one_if, IsFile}}
+use Rattle.access_model.specs.{States.{IsLinkedFile, IsDirectory}, declared.actions.{Kind.Kind, NodeInfo.NodeInfo}}
+use Rattle.node_words.{proofs.Words.{word_shows, word_opens, file_is_node, lawful_file, new_is_node, free_is_node}, specs.Nodes.{IsLawful, opens_in}}
+use Rattle.node_words.specs.Nodes.{word_of, info_of, node_shown, new_node, grown_node, moved_node, marked_node, opened_node, closed_node}
+use Rattle.node_words.specs.{Nodes.unlinked_node, declared.nodes.NodeWord.NodeWord}
+use Rattle.gated_tree.specs.Roles.{Role, Out, Loaded, Placing, Moving, Charged, Freed, Returning, Removing, Freeing, Dropped, Bounds, TreeState}
+use Rattle.gated_tree.specs.Roles.{AreWithin, charge, child_charge, removal, frees, IsFileNode, IsLastOpen, MayGrow, IsDirectoryAt, HasParent}
+use Rattle.gated_tree.specs.{Roles.{RoleHolds, TreeHolds, NobodyReads, MayDirty, NobodyElseFrees}, Trees.{is_same, has_parent}}
+use Rattle.gate_schedules.{proofs.trees.Laws.{role_says, not_freed, node_changes}, specs.trees.Events.{with_node, tree_shown, opens_shown, TreeDoes}}
+use Rattle.gate_schedules.specs.trees.Events.{MayClean}
 
 -- a file, as the model has it
 abbrev pub file_info : NodeWord → NodeInfo

@@ -1,17 +1,16 @@
 -- A clearing of the dirty marks; the tree is sealed and opened again; a snapshot; what holds where nothing is charged.
-use Rattle.std.proofs.Common.{◌≡◌, ℕ, suc, ◌<◌, ◌≤◌, false, sym, ap, ◌∙◌, subst, inl, inr, arith}
-use Rattle.std.proofs.lemmas.Bool.{ne_eqb, Decides.eqb_tells}
-use Rattle.std.specs.Prelude.{Option, None}
-use Rattle.finite_sums.{proofs.Totals.{update_same, each_updated, total_none}, specs.Sums.update}
-use Rattle.access_model.specs.{States.{is_dirty}, declared.actions.{Action.Action, NodeInfo.NodeInfo}}
-use Rattle.node_words.proofs.{ClearedMarks.{clean_stays, cleared_is, marked_file, file_shown, directory_clean}, Packing.{word_returns}}
-use Rattle.node_words.proofs.Words.{dirty_shown}
-use Rattle.node_words.specs.Nodes.{dirty_in, removed_in, kind_in, kind_of, word_of, node_of, node_shown, marked_node}
+use Rattle.gate_schedules.proofs.Prelude.{Action, None, Option, ap, arith, each_updated, eqb_tells, false, inl, inr, subst, suc, sym, update}
+use Rattle.gate_schedules.proofs.Prelude.{update_same, ℕ, ◌<◌, ◌∙◌, ◌≡◌, ◌≤◌}
+use Rattle.std.proofs.lemmas.Bool.{ne_eqb}
+use Rattle.finite_sums.proofs.Totals.{total_none}
+use Rattle.access_model.specs.{States.is_dirty, declared.actions.NodeInfo.NodeInfo}
+use Rattle.node_words.proofs.{ClearedMarks.{clean_stays, cleared_is, marked_file, file_shown, directory_clean}, Packing.word_returns}
+use Rattle.node_words.{proofs.Words.dirty_shown, specs.Nodes.{dirty_in, removed_in, kind_in, kind_of, word_of, node_of, node_shown, marked_node}}
 use Rattle.node_words.specs.declared.nodes.NodeWord.{NodeWord}
-use Rattle.gated_tree.specs.Roles.{Out, Clearing, Reading, Bounds, TreeState, AreWithin, charge, child_charge, removal, tree_word, seen_as, IsFileNode}
-use Rattle.gated_tree.specs.{Roles.{HasParent, TreeHolds}, Trees.{HasDirectory, IsSound, IsClean}}
-use Rattle.gate_schedules.proofs.trees.{Changes.{file_shows, unmarks}, Laws.{role_says, moves}}
-use Rattle.gate_schedules.specs.trees.Events.{turned, with_node, cleared_word, tree_shown, opens_shown, TreeDoes, MovesBy, MayClean, IsQuiet}
+use Rattle.gated_tree.specs.Roles.{Out, Clearing, Reading, Bounds, TreeState, AreWithin, charge, child_charge, removal, tree_word, seen_as}
+use Rattle.gated_tree.specs.{Roles.{IsFileNode, HasParent, TreeHolds}, Trees.{HasDirectory, IsSound, IsClean}}
+use Rattle.gate_schedules.{proofs.trees.{Changes.{file_shows, unmarks}, Laws.{role_says, moves}}, specs.trees.Events.{turned, with_node}}
+use Rattle.gate_schedules.specs.trees.Events.{cleared_word, tree_shown, opens_shown, TreeDoes, MovesBy, MayClean, IsQuiet}
 
 parent_there : (nodes : ℕ) (node : ℕ → ℕ) (entry : Option NodeInfo) → HasParent nodes node entry →
     HasDirectory nodes (tree_shown node) entry

@@ -1,17 +1,17 @@
--- Loads, and the events at `used` and at the counts of children. None of them changes a node word, so the shown tree stays.
-use Rattle.std.proofs.{Common.{◌≡◌, ℕ, zero, suc, ◌+◌, ◌<◌, ◌≤◌, refl, sym, ap, ◌∙◌, arith}}
-use Rattle.std.specs.Prelude.{Option, Some, Ok, true}
-use Rattle.finite_sums.{proofs.Totals.{each_updated, total_bound, total_at}, specs.Sums.{update, total}}
+-- Loads, and the steps at `used` and at the counts of children. None of them changes a node word, so the shown tree stays.
+use Rattle.gate_schedules.proofs.Prelude.{Ok, Option, Some, ap, arith, each_updated, refl, suc, sym, total, update, zero, ℕ, ◌+◌, ◌<◌, ◌∙◌, ◌≡◌, ◌≤◌}
+use Rattle.std.specs.Prelude.{true}
+use Rattle.finite_sums.proofs.Totals.{total_bound, total_at}
 use Rattle.access_model.specs.{States.{is_removed, one_if}, declared.actions.{Kind.Kind, NodeInfo.NodeInfo}}
 use Rattle.cpu_words.specs.Touches.{wrap_add, wrap_sub}
-use Rattle.node_words.proofs.Words.{file_loaded, any_file_loaded, directory_loaded, word_shows}
-use Rattle.node_words.specs.{Nodes.{node_shown, info_of, file_in, any_file_in, directory_in}, declared.nodes.NodeWord.{NodeWord}}
-use Rattle.gated_tree.specs.Roles.{Role, Out, Loaded, Found, Placing, Targets, Moving, Growing, Charged, Refunding, Freed, Returning, Removing, Freeing}
-use Rattle.gated_tree.specs.Roles.{Dropped, Uncounting, Bare, Bounds, TreeState, AreWithin, charge, child_charge, removal, IsFileNode, MayGrow, IsDirectoryAt}
-use Rattle.gated_tree.specs.Roles.{HasParent, RoleHolds, TreeHolds, NobodyReads, MayRemove, HasNoCharge}
-use Rattle.gated_tree.specs.Trees.{is_same, has_parent, is_child}
-use Rattle.gate_schedules.proofs.frames.Openers.{one_le}
-use Rattle.gate_schedules.{proofs.trees.Laws.{same_here, same_off, role_says, all_change, counts_change, moves}, specs.trees.Events.{turned, with_used, with_kids, with_removed}}
+use Rattle.node_words.{proofs.Words.{file_loaded, any_file_loaded, directory_loaded, word_shows}, specs.Nodes.{node_shown, info_of, file_in}}
+use Rattle.node_words.specs.{Nodes.{any_file_in, directory_in}, declared.nodes.NodeWord.NodeWord}
+use Rattle.gated_tree.specs.Roles.{Role, Out, Loaded, Found, Placing, Targets, Moving, Growing, Charged, Refunding, Freed, Returning, Removing}
+use Rattle.gated_tree.specs.Roles.{Freeing, Dropped, Uncounting, Bare, Bounds, TreeState, AreWithin, charge, child_charge, removal, IsFileNode}
+use Rattle.gated_tree.specs.{Roles.{MayGrow, IsDirectoryAt, HasParent, RoleHolds, TreeHolds, NobodyReads, MayRemove, HasNoCharge}, Trees.is_same}
+use Rattle.gated_tree.specs.Trees.{has_parent, is_child}
+use Rattle.gate_schedules.proofs.{frames.Openers.one_le, trees.Laws.{same_here, same_off, role_says, all_change, counts_change, moves}}
+use Rattle.gate_schedules.specs.trees.Events.{turned, with_used, with_kids, with_removed}
 
 parent_le : (d : ℕ) (entry : Option NodeInfo) → has_parent d entry ≤ 1
 parent_le d entry = grind arith

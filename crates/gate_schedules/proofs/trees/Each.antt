@@ -1,21 +1,21 @@
--- Each event keeps what holds of the tree, and moves the shown tree by its action or not at all.
-use Rattle.std.{proofs.Common.{◌≡◌, ℕ, zero, suc, ◌<◌, ◌≤◌, refl, ap, arith}, specs.Prelude.Option}
-use Rattle.finite_sums.{proofs.Totals.{each_updated, update_off, total_none, total_zero}, specs.Sums.update}
-use Rattle.access_model.specs.{States.{size_of, is_removed, one_if}, declared.actions.Action.Action}
-use Rattle.node_words.proofs.Words.{free_is_node, root_is_node}
-use Rattle.node_words.specs.Nodes.{IsNode, node_shown}
+-- Each step keeps what holds of the tree, and moves the shown tree by its action or not at all.
+use Rattle.gate_schedules.proofs.Prelude.{Action, Option, ap, arith, each_updated, refl, suc, update, zero, ℕ, ◌<◌, ◌≡◌, ◌≤◌}
+use Rattle.finite_sums.proofs.Totals.{update_off, total_none, total_zero}
+use Rattle.access_model.specs.States.{size_of, is_removed, one_if}
+use Rattle.node_words.{proofs.Words.{free_is_node, root_is_node}, specs.Nodes.{IsNode, node_shown}}
 use Rattle.gated_tree.specs.Roles.{Out, Bare, Clearing, Bounds, TreeState, AreWithin, charge, child_charge, removal, seen_as, HasParent, TreeHolds}
 use Rattle.gated_tree.specs.Trees.{is_child}
-use Rattle.gate_schedules.proofs.trees.Changes.{creates, removes, marks_removed, grows, moves_to, dirties, flushes, opens_file, closes_file, frees_file}
-use Rattle.gate_schedules.proofs.trees.Clearings.{seals, opens, goes_bare, stops_bare, clearing_begins, clears, passes, clearing_ends, snapshot_begins, snapshot_loads}
-use Rattle.gate_schedules.proofs.trees.Counts.{looks, finds_directory, finds_file, finds_target, finds_room, leaves, create_fails, move_fails, grow_fails, charges_blocks}
-use Rattle.gate_schedules.proofs.trees.Counts.{refunds_blocks, frees_blocks, drops_blocks, remove_fails, counts_removal, uncounts, finds_last, finds_none, create_adds}
-use Rattle.gate_schedules.proofs.trees.{Counts.{move_adds, subtracts_child}, Laws.{role_says}}
-use Rattle.gate_schedules.specs.trees.Events.{Event, MovesBy, opening_tree, turned, FindsDirectory, FindsFile, FindsTarget, FindsRoom, Looks}
-use Rattle.gate_schedules.specs.trees.Events.{Leaves, CreateFails, MoveFails, RemoveFails, GrowFails, ChargesBlocks, RefundsBlocks, FreesBlocks, DropsBlocks}
-use Rattle.gate_schedules.specs.trees.Events.{CountsRemoval, Uncounts, CreateAdds, MoveAdds, SubtractsChild, Creates, Removes, MarksRemoved, Grows, Moves, Dirties}
-use Rattle.gate_schedules.specs.trees.Events.{Flushes, OpensFile, ClosesFile, FindsLast, FreesFile, FindsNone, GoesBare, StopsBare, BeginsClearing, Clears, Passes, Seals}
-use Rattle.gate_schedules.specs.trees.Events.{Opens, BeginsReading, Reads}
+use Rattle.gate_schedules.proofs.trees.Changes.{creates, removes, marks_removed, grows, moves_to, dirties, flushes, opens_file, closes_file}
+use Rattle.gate_schedules.proofs.trees.{Changes.frees_file, Clearings.{seals, opens, goes_bare, stops_bare, clearing_begins, clears, passes}}
+use Rattle.gate_schedules.proofs.trees.{Clearings.{clearing_ends, snapshot_begins, snapshot_loads}, Counts.{looks, finds_directory, finds_file}}
+use Rattle.gate_schedules.proofs.trees.Counts.{finds_target, finds_room, leaves, create_fails, move_fails, grow_fails, charges_blocks, refunds_blocks}
+use Rattle.gate_schedules.proofs.trees.Counts.{frees_blocks, drops_blocks, remove_fails, counts_removal, uncounts, finds_last, finds_none}
+use Rattle.gate_schedules.{proofs.trees.{Counts.{create_adds, move_adds, subtracts_child}, Laws.role_says}, specs.trees.Events.{Event, MovesBy}}
+use Rattle.gate_schedules.specs.trees.Events.{opening_tree, turned, FindsDirectory, FindsFile, FindsTarget, FindsRoom, Looks, Leaves, CreateFails}
+use Rattle.gate_schedules.specs.trees.Events.{MoveFails, RemoveFails, GrowFails, ChargesBlocks, RefundsBlocks, FreesBlocks, DropsBlocks}
+use Rattle.gate_schedules.specs.trees.Events.{CountsRemoval, Uncounts, CreateAdds, MoveAdds, SubtractsChild, Creates, Removes, MarksRemoved, Grows}
+use Rattle.gate_schedules.specs.trees.Events.{Moves, Dirties, Flushes, OpensFile, ClosesFile, FindsLast, FreesFile, FindsNone, GoesBare, StopsBare}
+use Rattle.gate_schedules.specs.trees.Events.{BeginsClearing, Clears, Passes, Seals, Opens, BeginsReading, Reads}
 
 module _ (c : Bounds) (within : AreWithin c) (s : TreeState) (good : TreeHolds c s) (t : ℕ) (lt : t < c.tasks) where
   pub clearing_seals : (n : ℕ) → c.nodes ≤ n → s.at t ≡ Clearing n → TreeHolds c (record (turned s t Out) { sealed = 1 })

@@ -1,23 +1,22 @@
--- What is known of a call's events is kept from each event to the next, up to its answer.
-use Rattle.std.proofs.Common.{◌≡◌, ℕ, Bool, true, false, ◌+◌, ◌<◌, ◌≤◌, refl, sym, ap, ◌∙◌, subst, inl, inr, arith}
-use Rattle.std.proofs.lemmas.Bool.{cases_Bool, cases_lt, eq-eqb, ne_eqb, lt-ltb, le-ltb, Decides.eqb_tells}
-use Rattle.std.specs.Prelude.{◌==◌, ◌&&◌, Option, Some, None, Result, Ok, Err, List, [], is_some, nat_lt, not}
-use Rattle.access_model.specs.declared.{actions.Action.Action, errors.GateError.GateError, replies.{Next.Next, Reply.Reply}}
-use Rattle.cpu_words.specs.{Touches.{event_of, found_by}, declared.events.Event.Event}
-use Rattle.node_words.proofs.Refused.{file_refused, directory_refused, taken_some, size_loaded}
-use Rattle.node_words.specs.{Nodes.{kind_in, word_of, unpacked, file_in, directory_in, node_after}, Phases.{after_look}}
-use Rattle.node_words.specs.declared.nodes.NodeWord.{NodeWord}
+-- What is known of a call's steps is kept from each step to the next, up to its answer.
+use Rattle.gate_schedules.proofs.Prelude.{Action, Bool, Err, GateError, List, Next, None, Ok, Option, Reply, Result, Some, [], ap, arith, cases_Bool}
+use Rattle.gate_schedules.proofs.Prelude.{eq-eqb, eqb_tells, false, found_by, inl, inr, nat_lt, refl, subst, sym, true, ℕ, ◌+◌, ◌<◌, ◌==◌, ◌∙◌, ◌≡◌}
+use Rattle.gate_schedules.proofs.Prelude.{◌≤◌}
+use Rattle.std.{proofs.lemmas.Bool.{cases_lt, ne_eqb, lt-ltb, le-ltb}, specs.Prelude.{◌&&◌, is_some, not}}
+use Rattle.cpu_words.specs.{Touches.event_of, declared.events.Event.Event}
+use Rattle.node_words.{proofs.Refused.{file_refused, directory_refused, taken_some, size_loaded}, specs.Nodes.{kind_in, word_of, unpacked, file_in}}
+use Rattle.node_words.specs.{Nodes.{directory_in, node_after}, Phases.after_look, declared.nodes.NodeWord.NodeWord}
 use Rattle.gated_tree.specs.Phases.{create_next, create_looked, at_create, remove_next, removes_file, at_remove, grow_next, at_grow, move_next}
-use Rattle.gated_tree.specs.Phases.{at_move, mark_next, mark_done, at_mark, open_next, at_open, opens_from, snapshot_next, snapshot_locked_out, node_step}
-use Rattle.gated_tree.specs.Phases.{kids_step}
-use Rattle.gated_tree.specs.Refusals.{CreateHonest, FileHonest, GrowHonest, MoveHonest, SnapshotHonest, finds_free, finds_gone, finds_taken, finds_file}
-use Rattle.gated_tree.specs.Refusals.{finds_directory, finds_large, finds_full, finds_other, finds_owner, finds_thawed}
-use Rattle.gated_tree.specs.declared.changes.{Create.Create, CreateStep.CreateStep, MoveStep.MoveStep, MoveTo.MoveTo, Remove.Remove, RemoveStep.RemoveStep}
-use Rattle.gated_tree.specs.declared.{growth.{Grow.{Grow}, GrowStep.{GrowStep}}, marks.{Mark.{Mark}, MarkStep.{MarkStep}}}
-use Rattle.gated_tree.specs.declared.{opens.{OpenFile.OpenFile, OpenStep.OpenStep}, snapshots.{Snapshot.Snapshot, SnapshotStep.SnapshotStep}}
-use Rattle.gate_schedules.specs.trees.Ends.{action_if_done, remove_added, move_added, create_adds, IsReply, IsNodeReply, CreateKnows, RemoveKnows, GrowKnows, MoveAnswers}
-use Rattle.gate_schedules.specs.trees.Ends.{MoveKnows, SnapshotAnswers, SnapshotKnows, NextIsJustified, SeesMore, CreateEnds, RemoveEnds, GrowEnds, MoveEnds, MarkEnds, OpenEnds}
-use Rattle.gate_schedules.specs.trees.Ends.{SnapshotEnds}
+use Rattle.gated_tree.specs.Phases.{at_move, mark_next, mark_done, at_mark, open_next, at_open, opens_from, snapshot_next, snapshot_locked_out}
+use Rattle.gated_tree.specs.{Phases.{node_step, kids_step}, Refusals.{CreateHonest, FileHonest, GrowHonest, MoveHonest, SnapshotHonest, finds_free}}
+use Rattle.gated_tree.specs.Refusals.{finds_gone, finds_taken, finds_file, finds_directory, finds_large, finds_full, finds_other, finds_owner}
+use Rattle.gated_tree.specs.{Refusals.finds_thawed, declared.changes.{Create.Create, CreateStep.CreateStep, MoveStep.MoveStep, MoveTo.MoveTo}}
+use Rattle.gated_tree.specs.declared.{changes.{Remove.Remove, RemoveStep.RemoveStep}, growth.{Grow.Grow, GrowStep.GrowStep}, marks.Mark.Mark}
+use Rattle.gated_tree.specs.declared.{marks.MarkStep.MarkStep, opens.{OpenFile.OpenFile, OpenStep.OpenStep}, snapshots.Snapshot.Snapshot}
+use Rattle.gated_tree.specs.declared.snapshots.SnapshotStep.{SnapshotStep}
+use Rattle.gate_schedules.specs.trees.Ends.{action_if_done, remove_added, move_added, create_adds, IsReply, IsNodeReply, CreateKnows, RemoveKnows}
+use Rattle.gate_schedules.specs.trees.Ends.{GrowKnows, MoveAnswers, MoveKnows, SnapshotAnswers, SnapshotKnows, NextIsJustified, SeesMore, CreateEnds}
+use Rattle.gate_schedules.specs.trees.Ends.{RemoveEnds, GrowEnds, MoveEnds, MarkEnds, OpenEnds, SnapshotEnds}
 
 both : (a b : Bool) → a ≡ true → b ≡ true → (a && b) ≡ true
 both a b x y = rw (x, y) refl
@@ -209,7 +208,7 @@ module _ (Seen More : (Event → Bool) → Type 0) where
   ]
   move_ends x (MoveStep.RefundsChild dir answer) value knows sees = move_answers x answer _ knows sees
 
-  -- each event of a page fault or a write-back
+  -- each step of a page fault or a write-back
   pub mark_ends : (x : Mark) (step : MarkStep) (value : ℕ) → SeesMore Seen More (event_of (mark_next x step).0 (mark_next x step).1 value) →
       MarkEnds More x step (found_by (mark_next x step).1 value)
   mark_ends x MarkStep.LoadsFile value sees =

@@ -1,16 +1,12 @@
--- The numbers of a phase stay in range, and each word of its events is there.
-use Rattle.std.proofs.{Common.{◌≡◌, ℕ, ◌<◌, arith}, lemmas.Grind.{common_steps}}
-use Rattle.access_model.specs.{Replies.map_next}
-use Rattle.cpu_words.specs.Hooks.{HookAnswer}
-use Rattle.gated_tree.specs.Calls.{CreateStepFits, RemoveStepFits, MoveStepFits, SnapshotStepFits, TreePhaseFits, NextFits}
-use Rattle.gated_tree.specs.Phases.{after, create_after, remove_after, grow_after}
-use Rattle.gated_tree.specs.{Phases.{move_after, mark_after, open_after, snapshot_after}, Roles.{Bounds, AreWithin}}
-use Rattle.gated_tree.specs.declared.changes.{Create.Create, CreateStep.CreateStep, MoveStep.MoveStep, MoveTo.MoveTo, Remove.Remove, RemoveStep.RemoveStep}
-use Rattle.gated_tree.specs.declared.{growth.{Grow.{Grow}, GrowStep.{GrowStep}}, marks.{Mark.{Mark}, MarkStep.{MarkStep}}}
-use Rattle.gated_tree.specs.declared.{opens.{OpenFile.{OpenFile}, OpenStep.{OpenStep}}, phases.TreePhase.{TreePhase}}
-use Rattle.gated_tree.specs.declared.snapshots.{Snapshot.Snapshot, SnapshotStep.SnapshotStep}
-use Rattle.node_words.specs.{Phases.{clear_after}}
-use Rattle.node_words.specs.declared.{marks.ClearMarks.{ClearMarks}}
+-- The numbers of a phase stay in range, and each word of its steps is there.
+use Rattle.gate_schedules.proofs.Prelude.{HookAnswer, TreePhase, arith, common_steps, map_next, ℕ, ◌<◌, ◌≡◌}
+use Rattle.gated_tree.specs.{Calls.{CreateStepFits, RemoveStepFits, MoveStepFits, SnapshotStepFits, TreePhaseFits, NextFits}, Phases.after}
+use Rattle.gated_tree.specs.{Phases.{create_after, remove_after, grow_after, move_after, mark_after, open_after, snapshot_after}, Roles.Bounds}
+use Rattle.gated_tree.specs.{Roles.AreWithin, declared.changes.{Create.Create, CreateStep.CreateStep, MoveStep.MoveStep, MoveTo.MoveTo}}
+use Rattle.gated_tree.specs.declared.{changes.{Remove.Remove, RemoveStep.RemoveStep}, growth.{Grow.Grow, GrowStep.GrowStep}, marks.Mark.Mark}
+use Rattle.gated_tree.specs.declared.{marks.MarkStep.MarkStep, opens.{OpenFile.OpenFile, OpenStep.OpenStep}, snapshots.Snapshot.Snapshot}
+use Rattle.gated_tree.specs.declared.snapshots.SnapshotStep.{SnapshotStep}
+use Rattle.node_words.specs.{Phases.clear_after, declared.marks.ClearMarks.ClearMarks}
 
 module _ (c : Bounds) (within : AreWithin c) (t : ℕ) where
   create_fits : (x : Create) (step : CreateStep) (found : ℕ) → x.dir < c.nodes → x.nodes ≡ c.nodes → CreateStepFits c step →
@@ -42,7 +38,7 @@ module _ (c : Bounds) (within : AreWithin c) (t : ℕ) where
   clear_fits : (x : ClearMarks) (found : ℕ) → x.nodes ≡ c.nodes → NextFits c t (map_next TreePhase.ClearMarks (clear_after x found).0)
   clear_fits x found same = grind arith
 
-  -- what comes after an event of a phase that fits, whatever it found, fits
+  -- what comes after a step of a phase that fits, whatever it found, fits
   pub fits_after : (phase : TreePhase) (found : ℕ) (hook : HookAnswer) → TreePhaseFits c t phase → NextFits c t (after phase found hook).0
   fits_after (TreePhase.Create x) found hook fits = create_fits x x.step found fits.0 fits.1 fits.2
   fits_after (TreePhase.Remove x) found hook fits = remove_fits x x.step found fits.0 fits.1

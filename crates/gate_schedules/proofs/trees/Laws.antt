@@ -1,14 +1,13 @@
--- Any event at the tree: a role changes with the counts, or with one node word.
-use Rattle.std.proofs.Common.{◌≡◌, ℕ, zero, suc, ◌+◌, ◌<◌, ◌≤◌, true, false, refl, sym, ap, ◌∙◌, subst, inl, inr, arith}
-use Rattle.std.proofs.lemmas.Bool.{cases_Bool, cases_lt, eq-eqb, ne_eqb}
-use Rattle.std.specs.Prelude.{◌⊎◌, Option, Some, nat_lt}
-use Rattle.finite_sums.{proofs.Totals.{each_updated, total_updated, total_changed_by, total_at}, specs.Sums.{update, total}}
+-- Any step at the tree: a role changes with the counts, or with one node word.
+use Rattle.gate_schedules.proofs.Prelude.{Option, Some, ap, arith, cases_Bool, each_updated, eq-eqb, false, inl, inr, nat_lt, refl, subst, suc, sym}
+use Rattle.gate_schedules.proofs.Prelude.{total, true, update, zero, ℕ, ◌+◌, ◌<◌, ◌∙◌, ◌≡◌, ◌≤◌}
+use Rattle.std.{proofs.lemmas.Bool.{cases_lt, ne_eqb}, specs.Prelude.◌⊎◌}
+use Rattle.finite_sums.proofs.Totals.{total_updated, total_changed_by, total_at}
 use Rattle.access_model.specs.{States.{size_of, is_dirty, is_removed, one_if, IsDirectory}, declared.actions.{Kind.Kind, NodeInfo.NodeInfo}}
-use Rattle.node_words.proofs.Words.{word_shows, word_opens}
-use Rattle.node_words.specs.{Nodes.{IsNode, opens_in, info_of, node_shown}, declared.nodes.NodeWord.{NodeWord}}
-use Rattle.gated_tree.specs.Roles.{Role, Loaded, Found, Placing, Targets, Moving, Freeing, Bare, Clearing, Reading, Bounds, TreeState, charge, child_charge}
-use Rattle.gated_tree.specs.Roles.{removal, frees, is_bare, cleared, words_read, tree_word, seen_as, IsLastOpen, HasParent, RoleHolds, TreeHolds, NobodyReads}
-use Rattle.gated_tree.specs.{Roles.{MayDirty}, Trees.{is_same, has_parent, is_child}}
+use Rattle.node_words.{proofs.Words.{word_shows, word_opens}, specs.{Nodes.{IsNode, opens_in, info_of, node_shown}, declared.nodes.NodeWord.NodeWord}}
+use Rattle.gated_tree.specs.Roles.{Role, Loaded, Found, Placing, Targets, Moving, Freeing, Bare, Clearing, Reading, Bounds, TreeState, charge}
+use Rattle.gated_tree.specs.Roles.{child_charge, removal, frees, is_bare, cleared, words_read, tree_word, seen_as, IsLastOpen, HasParent, RoleHolds}
+use Rattle.gated_tree.specs.{Roles.{TreeHolds, NobodyReads, MayDirty}, Trees.{is_same, has_parent, is_child}}
 use Rattle.gate_schedules.specs.trees.Events.{turned, with_node}
 
 pub same_here : (d : ℕ) → is_same d d ≡ 1

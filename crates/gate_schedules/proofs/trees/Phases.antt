@@ -1,29 +1,24 @@
--- The events of all calls at the tree, by their phases.
-use Rattle.std.{proofs.Common.{◌≡◌, ℕ, ◌<◌, subst, arith}, specs.Prelude.Option}
-use Rattle.access_model.specs.{Replies.map_next, declared.{actions.Action.Action, replies.Next.Next}}
-use Rattle.cpu_words.specs.{Hooks.HookAnswer, Names.{Extents, IsWord}, Words.Words, declared.{events.Touch.Touch, names.WordName.WordName}}
-use Rattle.gated_tree.specs.Calls.{phase_role, role_after, TreePhaseFits}
-use Rattle.gated_tree.specs.Phases.{next, create_next, remove_next, grow_next, move_next, mark_next, open_next, snapshot_next}
-use Rattle.gated_tree.specs.Roles.{Role, Bounds, AreWithin, TreeHolds}
-use Rattle.gated_tree.specs.declared.changes.{Create.Create, MoveTo.MoveTo, Remove.Remove}
-use Rattle.gated_tree.specs.declared.{growth.{Grow.Grow}, marks.{Mark.Mark}, opens.{OpenFile.OpenFile}}
-use Rattle.gated_tree.specs.declared.{phases.TreePhase.TreePhase, snapshots.{Snapshot.Snapshot}}
-use Rattle.gate_schedules.proofs.trees.{Steps.{create_step, remove_step, grow_step, move_step, mark_step, open_step}, Sweeps.{clear_step, snapshot_step}}
-use Rattle.gate_schedules.specs.trees.Steps.{tree_in, found_at, EventKeeps, TreeAllowsStep, Notes, StepKeeps}
+-- The steps of all calls at the tree, by their phases.
+use Rattle.gate_schedules.proofs.Prelude.{Action, HookAnswer, Next, Option, Touch, TreePhase, WordName, Words, arith, map_next, subst, ℕ, ◌<◌, ◌≡◌}
+use Rattle.cpu_words.specs.Names.{Extents, IsWord}
+use Rattle.gated_tree.specs.{Calls.{phase_role, role_after, TreePhaseFits}, Phases.{next, create_next, remove_next, grow_next, move_next, mark_next}}
+use Rattle.gated_tree.specs.{Phases.{open_next, snapshot_next}, Roles.{Role, Bounds, AreWithin, TreeHolds}}
+use Rattle.gate_schedules.proofs.trees.{Steps.{create_step, remove_step, grow_step, move_step, mark_step, open_step}, Sweeps.clear_step}
+use Rattle.gate_schedules.{proofs.trees.Sweeps.snapshot_step, specs.trees.Steps.{tree_in, found_at, EventKeeps, TreeAllowsStep, Notes, StepKeeps}}
 
--- what comes after an event has the same role as a phase of one call and of all
+-- what comes after a step has the same role as a phase of one call and of all
 role_mapped : {P : Type 0} (to : P → TreePhase) (role : TreePhase → Role) (n : Next P) →
     role_after (λ x. role (to x)) n ≡ role_after role (map_next to n)
 role_mapped to role n = grind arith
 
 module _ (c : Bounds) (within : AreWithin c) (sealed bare : ℕ) (w : Words) (at : ℕ → Role) (good : TreeHolds c (tree_in sealed bare w at))
     (t : ℕ) (lt : t < c.tasks) where
-  -- an event that is kept with a role is kept with the same role
+  -- a step that is kept with a role is kept with the same role
   with_role : (event : WordName × Touch) (action : Option Action) (role other : Role) → role ≡ other →
       EventKeeps c sealed bare w at t event role action → EventKeeps c sealed bare w at t event other action
   with_role event action role other same h = subst (λ r. EventKeeps c sealed bare w at t event r action) same h
 
-  -- each event of each call
+  -- each step of each call
   pub each_phase : (phase : TreePhase) (values noted : ℕ → ℕ) (hook : HookAnswer) → at t ≡ phase_role values phase →
       TreePhaseFits c t phase →
       TreeAllowsStep c (tree_in sealed bare w at) phase → Notes phase values noted (found_at w (next phase hook)) →
@@ -54,7 +49,7 @@ module _ (c : Bounds) (within : AreWithin c) (sealed bare : ℕ) (w : Words) (at
       (clear_step c within sealed bare w at good t lt x fits.0 may is)
 
   module _ (e : Extents) (nodes : e.nodes ≡ c.nodes) where
-    -- the word of each event is there
+    -- the word of each step is there
     pub word_there : (phase : TreePhase) (values : ℕ → ℕ) (hook : HookAnswer) → at t ≡ phase_role values phase → TreePhaseFits c t phase →
         IsWord e (next phase hook).0
     word_there phase values hook is fits = grind arith

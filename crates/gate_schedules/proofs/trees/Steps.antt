@@ -1,27 +1,25 @@
--- Each event of each call is an event of the tree.
-use Rattle.std.proofs.Common.{◌≡◌, ℕ, Bool, true, false, ◌+◌, ◌<◌, ◌≤◌, refl, sym, ap, ◌∙◌, subst, inl, inr, arith}
-use Rattle.std.proofs.lemmas.Bool.{cases_lt, lt-ltb, le-ltb, Decides.eqb_tells}
-use Rattle.std.specs.Prelude.{◌==◌, Option, Some, None, Result, Ok, Err, is_some, nat_lt, if◌then◌else◌}
-use Rattle.finite_sums.{specs.Sums.update}
-use Rattle.access_model.specs.declared.{actions.{Action.Action, Kind.Kind}, errors.GateError.GateError, replies.{Next.Next, Reply.Reply}}
-use Rattle.cpu_words.specs.{Words.{Words, read, put}, declared.{events.Touch.Touch, names.WordName.WordName}}
+-- Each step of each call is a step of the tree.
+use Rattle.gate_schedules.proofs.Prelude.{Action, Bool, Err, GateError, Next, None, Ok, Option, Reply, Result, Some, Touch, WordName, Words, ap}
+use Rattle.gate_schedules.proofs.Prelude.{arith, eqb_tells, false, if◌then◌else◌, inl, inr, nat_lt, put, read, refl, subst, sym, true, update, ℕ, ◌+◌}
+use Rattle.gate_schedules.proofs.Prelude.{◌<◌, ◌==◌, ◌∙◌, ◌≡◌, ◌≤◌}
+use Rattle.std.{proofs.lemmas.Bool.{cases_lt, lt-ltb, le-ltb}, specs.Prelude.is_some}
+use Rattle.access_model.specs.declared.actions.Kind.{Kind}
 use Rattle.gated_tree.specs.Calls.{create_role, remove_role, grow_role, move_role, mark_role, open_role, role_after, CreateStepFits, RemoveStepFits}
-use Rattle.gated_tree.specs.Calls.{OpenStepFits}
-use Rattle.gated_tree.specs.Phases.{create_next, create_looked, create_looks_at, create_past, create_after, at_create, remove_next, remove_after}
-use Rattle.gated_tree.specs.Phases.{removes_file, at_remove, grow_next, grow_from, grow_after, at_grow, move_next, move_after, at_move, mark_next, mark_done}
-use Rattle.gated_tree.specs.Phases.{mark_after, at_mark, open_next, open_after, at_open, opens_from}
-use Rattle.gated_tree.specs.Roles.{Role, Out, Loaded, Found, Growing, Charged, Refunding, Returning, Uncounting, Bounds, TreeState, AreWithin, TreeHolds}
-use Rattle.gated_tree.specs.Roles.{NobodyReads, MayDirty, MayRemove, HasNoCharge}
-use Rattle.gated_tree.specs.declared.changes.{Create.Create, CreateStep.CreateStep, MoveStep.MoveStep, MoveTo.MoveTo, Remove.Remove, RemoveStep.RemoveStep}
-use Rattle.gated_tree.specs.declared.{growth.{Grow.{Grow}, GrowStep.{GrowStep}}, marks.{Mark.{Mark}, MarkStep.{MarkStep}}}
-use Rattle.gated_tree.specs.declared.opens.{OpenFile.OpenFile, OpenStep.OpenStep}
-use Rattle.node_words.specs.{Nodes.{word_of, unpacked, file_in, directory_in, node_after, marked_node}, Phases.{after_look}}
+use Rattle.gated_tree.specs.{Calls.OpenStepFits, Phases.{create_next, create_looked, create_looks_at, create_past, create_after, at_create}}
+use Rattle.gated_tree.specs.Phases.{remove_next, remove_after, removes_file, at_remove, grow_next, grow_from, grow_after, at_grow, move_next}
+use Rattle.gated_tree.specs.Phases.{move_after, at_move, mark_next, mark_done, mark_after, at_mark, open_next, open_after, at_open, opens_from}
+use Rattle.gated_tree.specs.Roles.{Role, Out, Loaded, Found, Growing, Charged, Refunding, Returning, Uncounting, Bounds, TreeState, AreWithin}
+use Rattle.gated_tree.specs.{Roles.{TreeHolds, NobodyReads, MayDirty, MayRemove, HasNoCharge}, declared.changes.Create.Create}
+use Rattle.gated_tree.specs.declared.changes.{CreateStep.CreateStep, MoveStep.MoveStep, MoveTo.MoveTo, Remove.Remove, RemoveStep.RemoveStep}
+use Rattle.gated_tree.specs.declared.{growth.{Grow.Grow, GrowStep.GrowStep}, marks.{Mark.Mark, MarkStep.MarkStep}, opens.OpenFile.OpenFile}
+use Rattle.gated_tree.specs.declared.opens.OpenStep.{OpenStep}
+use Rattle.node_words.specs.{Nodes.{word_of, unpacked, file_in, directory_in, node_after, marked_node}, Phases.after_look}
 use Rattle.node_words.specs.declared.nodes.NodeWord.{NodeWord}
-use Rattle.gate_schedules.proofs.trees.Counts.{looks, leaves, finds_directory, finds_file, finds_target, finds_room, create_fails, remove_fails, move_fails, grow_fails}
-use Rattle.gate_schedules.proofs.trees.{Counts.{charges_blocks}, Each.{each_event}}
-use Rattle.gate_schedules.specs.trees.Events.{Event, tree_shown, opens_shown, turned, MarksRemoved as MarksOne, OpensFile as OpensIt, CountsRemoval, Uncounts}
-use Rattle.gate_schedules.specs.trees.Events.{RefundsBlocks as TakesBack, FreesBlocks, CreateAdds, MoveAdds, SubtractsChild, Creates, Removes, Grows, Moves, Dirties}
-use Rattle.gate_schedules.specs.trees.{Events.{Flushes}, Steps.{tree_in, words_left, found_at, EventKeeps, MayMark}}
+use Rattle.gate_schedules.proofs.trees.Counts.{looks, leaves, finds_directory, finds_file, finds_target, finds_room, create_fails, remove_fails}
+use Rattle.gate_schedules.{proofs.trees.{Counts.{move_fails, grow_fails, charges_blocks}, Each.each_event}, specs.trees.Events.{Event, tree_shown}}
+use Rattle.gate_schedules.specs.trees.Events.{opens_shown, turned, MarksRemoved as MarksOne, OpensFile as OpensIt, CountsRemoval, Uncounts}
+use Rattle.gate_schedules.specs.trees.Events.{RefundsBlocks as TakesBack, FreesBlocks, CreateAdds, MoveAdds, SubtractsChild, Creates, Removes, Grows}
+use Rattle.gate_schedules.specs.trees.{Events.{Moves, Dirties, Flushes}, Steps.{tree_in, words_left, found_at, EventKeeps, MayMark}}
 
 -- a write of what is there leaves the tree
 same_tree : (sealed bare : ℕ) (w : Words) (at : ℕ → Role) (name : WordName) → tree_in sealed bare (put w name (read w name)) at ≡ tree_in sealed bare w at
@@ -29,11 +27,11 @@ same_tree sealed bare w at name = grind arith
 
 module _ (c : Bounds) (within : AreWithin c) (sealed bare : ℕ) (w : Words) (at : ℕ → Role) (good : TreeHolds c (tree_in sealed bare w at))
     (t : ℕ) (lt : t < c.tasks) where
-  -- the tree before the event
+  -- the tree before the step
   abbrev here : TreeState
   here = tree_in sealed bare w at
 
-  -- a load, or any event that leaves the word as it was, where only the task's role changes
+  -- a load, or any step that leaves the word as it was, where only the task's role changes
   pub leaves_word : (name : WordName) (role : Role) → TreeHolds c (turned here t role) → EventKeeps c sealed bare w at t (name, Touch.Load) role None
   leaves_word name role h = (
     subst (TreeHolds c) (sym (same_tree sealed bare w (update at t role) name)) h,
@@ -105,7 +103,7 @@ module _ (c : Bounds) (within : AreWithin c) (sealed bare : ℕ) (w : Words) (at
   removes_role : (x : Remove) (file : NodeWord) (opens : ℕ) → remove_role x (removes_file file opens) ≡ Loaded file
   removes_role x file opens = elim (eqb_tells opens 0) [ inl e ↦ rw e.0 refl | inr e ↦ rw e.0 refl ]
 
-  -- each event of a remove
+  -- each step of a remove
   pub remove_step : (x : Remove) (step : RemoveStep) → x.file < c.nodes → RemoveStepFits step → NobodyReads c here → MayRemove c here →
       at t ≡ remove_role x step →
       EventKeeps c sealed bare w at t (remove_next x step)
@@ -203,7 +201,7 @@ module _ (c : Bounds) (within : AreWithin c) (sealed bare : ℕ) (w : Words) (at
     | inr e ↦ rw e.0 (leaves_word (WordName.Node n) Out (ends_free (Loaded file) is (loaded_free file)))
   ]
 
-  -- each event of a page fault or a write-back
+  -- each step of a page fault or a write-back
   pub mark_step : (x : Mark) (step : MarkStep) → x.file < c.nodes → MayMark x.dirty c here → at t ≡ mark_role x step →
       EventKeeps c sealed bare w at t (mark_next x step)
       (role_after (λ y. mark_role y y.step) (mark_after x step (found_at w (mark_next x step))).0)

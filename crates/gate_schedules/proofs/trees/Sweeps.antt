@@ -1,24 +1,22 @@
--- Each event of a clearing of the dirty marks and of a snapshot is an event of the tree.
-use Rattle.std.proofs.{Common.{◌≡◌, ℕ, suc, Bool, true, false, ◌+◌, ◌-◌, ◌<◌, refl, sym, ap, ◌∙◌, subst, inl, inr, arith}}
-use Rattle.std.proofs.lemmas.Bool.{cases_lt, lt-ltb, le-ltb, Decides.eqb_tells}
-use Rattle.std.specs.Prelude.{is_some, Ok, Err}
-use Rattle.finite_sums.{proofs.Totals.{update_at}, specs.Sums.update}
-use Rattle.cpu_words.specs.{Words.Words, declared.names.WordName.WordName}
-use Rattle.node_words.proofs.Packing.{packed_unpacks}
-use Rattle.node_words.specs.{Nodes.{dirty_in, unpacked}, Phases.{clear_next, clear_after}, declared.marks.ClearMarks.{ClearMarks}}
-use Rattle.gated_tree.specs.Calls.{snapshot_role, role_after, SnapshotStepFits}
-use Rattle.gated_tree.specs.Phases.{snapshot_next, snapshot_after, snapshot_locked_out}
+-- Each step of a clearing of the dirty marks and of a snapshot is a step of the tree.
+use Rattle.gate_schedules.proofs.Prelude.{Bool, Err, Ok, WordName, Words, ap, arith, eqb_tells, false, inl, inr, refl, subst, suc, sym, true, update}
+use Rattle.gate_schedules.proofs.Prelude.{update_at, ℕ, ◌+◌, ◌<◌, ◌∙◌, ◌≡◌}
+use Rattle.std.{proofs.{Common.◌-◌, lemmas.Bool.{cases_lt, lt-ltb, le-ltb}}, specs.Prelude.is_some}
+use Rattle.node_words.{proofs.Packing.packed_unpacks, specs.{Nodes.{dirty_in, unpacked}, Phases.{clear_next, clear_after}}}
+use Rattle.node_words.specs.declared.marks.ClearMarks.{ClearMarks}
+use Rattle.gated_tree.specs.{Calls.{snapshot_role, role_after, SnapshotStepFits}, Phases.{snapshot_next, snapshot_after, snapshot_locked_out}}
 use Rattle.gated_tree.specs.Roles.{Role, Out, Clearing, Reading, Bounds, TreeState, AreWithin, TreeHolds, HasNoCharge, tree_word, seen_as}
-use Rattle.gated_tree.specs.declared.snapshots.{Snapshot.{Snapshot}, SnapshotStep.{SnapshotStep}}
-use Rattle.gate_schedules.proofs.trees.{Clearings.{clears, passes, snapshot_begins, snapshot_loads}, Counts.leaves, Steps.{leaves_word, ends_free, stays_at}}
-use Rattle.gate_schedules.specs.trees.{Events.{turned, MayClean}, Steps.{tree_in, words_left, found_at, EventKeeps, NotesLoad}}
+use Rattle.gated_tree.specs.declared.snapshots.{Snapshot.Snapshot, SnapshotStep.SnapshotStep}
+use Rattle.gate_schedules.proofs.trees.{Clearings.{clears, passes, snapshot_begins, snapshot_loads}, Counts.leaves, Steps.{leaves_word, ends_free}}
+use Rattle.gate_schedules.{proofs.trees.Steps.stays_at, specs.trees.{Events.{turned, MayClean}, Steps.{tree_in, words_left, found_at, EventKeeps}}}
+use Rattle.gate_schedules.specs.trees.Steps.{NotesLoad}
 
 update_twice : {A : Type 0} (f : ℕ → A) (t : ℕ) (a b : A) → update (update f t a) t b ≡ update f t b
 update_twice f t a b = grind arith
 
 module _ (c : Bounds) (within : AreWithin c) (sealed bare : ℕ) (w : Words) (at : ℕ → Role) (good : TreeHolds c (tree_in sealed bare w at))
     (t : ℕ) (lt : t < c.tasks) where
-  -- the tree before the event
+  -- the tree before the step
   abbrev here : TreeState
   here = tree_in sealed bare w at
 
@@ -28,7 +26,7 @@ module _ (c : Bounds) (within : AreWithin c) (sealed bare : ℕ) (w : Words) (at
       subst (λ roles. TreeHolds c (record s { at = roles })) (update_twice s.at t role Out)
       (leaves c (turned s t role) h t lt (subst HasNoCharge (sym (update_at s.at t role)) free))
 
-  -- each event of a clearing: the node is cleared, and the next one is to come
+  -- each step of a clearing: the node is cleared, and the next one is to come
   pub clears_node : (x : ClearMarks) → x.node < c.nodes → MayClean c here → at t ≡ Clearing x.node →
       EventKeeps c sealed bare w at t (clear_next x) (Clearing (suc x.node)) (clear_after x (w.node x.node)).1
   clears_node x ln may is = elim (eqb_tells (dirty_in (w.node x.node)) 1) [
@@ -36,7 +34,7 @@ module _ (c : Bounds) (within : AreWithin c) (sealed bare : ℕ) (w : Words) (at
     | inr e ↦ rw e.0 (passes c here good t lt x.node is ln (omega (arith, e.1)))
   ]
 
-  -- the same, where the last node's event ends it
+  -- the same, where the last node's step ends it
   pub clear_step : (x : ClearMarks) → x.node < c.nodes → MayClean c here → at t ≡ Clearing x.node →
       EventKeeps c sealed bare w at t (clear_next x) (role_after (λ (y : ClearMarks). Clearing y.node) (clear_after x (w.node x.node)).0)
       (clear_after x (w.node x.node)).1

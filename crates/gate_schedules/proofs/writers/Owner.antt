@@ -1,8 +1,6 @@
--- Events of a freeze or a thaw as `umount` has them: taken, given back, or as it was.
-use Rattle.std.proofs.Common.{◌≡◌, ℕ, suc, ◌<◌, sym, ◌∙◌}
-use Rattle.finite_sums.specs.Sums.{update}
-use Rattle.cpu_words.specs.Words.{Words}
-use Rattle.gate_world.specs.{Rules.{owns, remounts, OwnerHolds, IsGood, Owner}, Worlds.World, declared.{config.Config.Config, views.View.View}}
+-- Steps of a freeze or a thaw as `umount` has them: taken, given back, or as it was.
+use Rattle.gate_schedules.proofs.Prelude.{Config, IsGood, Owner, View, Words, World, owns, suc, sym, update, ℕ, ◌<◌, ◌∙◌, ◌≡◌}
+use Rattle.gate_world.specs.Rules.{remounts, OwnerHolds}
 use Rattle.gate_schedules.proofs.{frames.{Frames.left_alone, Owners.{locks_umount, releases_umount}}, writers.Parts.IsWriter}
 
 module _ (c : Config) (w : World) (good : IsGood c w) (t : ℕ) (lt : t < c.tasks) (v : View) (was : IsWriter (w.views t).phase)

@@ -1,26 +1,19 @@
--- What an event of a freeze or a thaw may leave: each part of the rule, and the shown model.
-use Rattle.std.proofs.lemmas.Grind.{common_steps}
-use Rattle.access_model.specs.{Replies.map_next, States.{Limits, State, openers}, declared.actions.{Action.Action, Holders.Holders, NodeInfo.NodeInfo}}
-use Rattle.access_model.specs.declared.replies.{Next.Next, Reply.Reply}
-use Rattle.cpu_words.specs.{Hooks.HookAnswer, Words.Words}
-use Rattle.finite_sums.proofs.Totals.{each_updated}
-use Rattle.finite_sums.specs.Sums.{update}
-use Rattle.freeze_levels.specs.{Holders.holders_in}
-use Rattle.freeze_levels.specs.declared.{freezes.{Freeze.Freeze}, thaws.{Thaw.Thaw}}
-use Rattle.gate_schedules.proofs.frames.{Frames.{left_alone, opens_left, view_as}, Known.{IsOwnersWork, known_after}}
-use Rattle.gate_schedules.proofs.frames.Stages.{IsStageEvent, shown_by, stage_action, stage_effect, stages_after, stages_in}
-use Rattle.gate_schedules.proofs.{levels.LevelPositions.{LevelsHold, left_world}, mounts.Parts.{is_known_part, known_is}}
-use Rattle.gate_world.specs.{Configs.model_limits, Fits.{FreezeFits, HasFile, file_of}, Holdings.Holdings}
-use Rattle.gate_world.specs.{SameRoles.{Roles, no_roles, roles_of}, Rules.{AtLevel, AtMount, Files}}
-use Rattle.gate_world.specs.Rules.{Fitting, Holding, Holds, IsGood, Known, Moves, Owner, OwnerHolds, Part, Sections, Stages, StepKeeps, SyncAt, Tree, ViewFits}
-use Rattle.gate_world.specs.{Rules.{stage_role_of, stage_roles}, Shown.shown, Views.{added_by, has_open, held_of, phase_after, taken_by}, Worlds.World}
-use Rattle.gate_world.specs.{Worlds.{after_step, phase_action}, declared.{config.Config.Config, views.View.View, work.Phase.Phase}}
+-- What a step of a freeze or a thaw may leave: each conjunct of the invariant, and the shown state.
+use Rattle.gate_schedules.proofs.Prelude.{Action, AtLevel, AtMount, Config, Fitting, Holdings, Holds, HookAnswer, IsGood, Next, None, Ok, Option}
+use Rattle.gate_schedules.proofs.Prelude.{Owner, Phase, Reply, Some, Stages, StepKeeps, SyncAt, Tree, View, Words, World, after_step, ap, arith}
+use Rattle.gate_schedules.proofs.Prelude.{cases_Bool, common_steps, each_updated, false, held_of, inl, inr, map_next, phase_after, refl, shown}
+use Rattle.gate_schedules.proofs.Prelude.{stage_role_of, subst, sym, true≢false, update, ℕ, ◌<◌, ◌∙◌, ◌≡◌}
+use Rattle.access_model.specs.{States.{Limits, State, openers}, declared.actions.{Holders.Holders, NodeInfo.NodeInfo}}
+use Rattle.freeze_levels.specs.{Holders.holders_in, declared.{freezes.Freeze.Freeze, thaws.Thaw.Thaw}}
+use Rattle.gate_schedules.proofs.frames.{Frames.{left_alone, opens_left, view_as}, Known.{IsOwnersWork, known_after}, Stages.{IsStageEvent, shown_by}}
+use Rattle.gate_schedules.proofs.{frames.Stages.{stage_action, stage_effect, stages_after, stages_in}, levels.LevelPositions.{LevelsHold, left_world}}
+use Rattle.gate_schedules.proofs.mounts.Parts.{is_known_part, known_is}
+use Rattle.gate_world.specs.{Configs.model_limits, Fits.{FreezeFits, HasFile, file_of}, Rules.{Files, Holding, Known, Moves, OwnerHolds, Part}}
+use Rattle.gate_world.specs.{Rules.{Sections, ViewFits, stage_roles}, SameRoles.{Roles, no_roles, roles_of}, Views.{added_by, has_open, taken_by}}
+use Rattle.gate_world.specs.Worlds.{phase_action}
 use Rattle.node_words.specs.Nodes.{node_shown, opens_in}
-use Rattle.percpu_rwsem.specs.Writers.{at_down_write, down_write_after}
-use Rattle.percpu_rwsem.specs.declared.writers.{DownWrite.DownWrite, DownWriteStep.DownWriteStep}
+use Rattle.percpu_rwsem.specs.{Writers.{at_down_write, down_write_after}, declared.writers.{DownWrite.DownWrite, DownWriteStep.DownWriteStep}}
 use Rattle.freeze_laws.specs.stages.{Events.{StageEvent, action_of as stage_action_of}, Shown.{AsksOthers, ShowsStages, state_after}}
-use Rattle.std.proofs.{Common.{ap, arith, false, inl, inr, refl, subst, sym, true≢false, ℕ, ◌<◌, ◌∙◌, ◌≡◌}, lemmas.Bool.cases_Bool}
-use Rattle.std.specs.Prelude.{None, Ok, Option, Some}
 
 -- of these roles those that no freeze and no thaw has
 abbrev pub off_writers : Roles → Roles
@@ -74,7 +67,7 @@ AsksWhere l s (Some a) = AsksOthers l s a
 
 module _ (c : Config) (w : World) (good : IsGood c w) (t : ℕ) (lt : t < c.tasks) (ws : Words) (v : View) (action : Option Action)
     (kind : StageEvent) where
-  -- All that is to be known of an event of a freeze or a thaw: what it leaves of the words and of its task's view, which event of the
+  -- All that is to be known of a step of a freeze or a thaw: what it leaves of the words and of its task's view, which step of the
   -- stage it is, and what it adds.
   pub record WriterEvent : Type 0 where
     pub words : SameOffFreezes w.words ws
@@ -131,19 +124,19 @@ writer_moves c w good t lt ws v None kind h = effect_shown c w good t lt ws v No
 writer_moves c w good t lt ws v (Some a) kind h =
     (stage_action c w good t lt ws v kind h.happens a h.adds h.asks, effect_shown c w good t lt ws v (Some a) kind h)
 
--- the law of an event: each part but what the owner knows, and the shown model
+-- the law of a step: each part but what the owner knows, and the shown state
 abbrev pub WriterLaw : Config → World → ℕ → Words → View → Option Action → Type 0
 WriterLaw c w t ws v action =
     ((part : Part) → is_known_part part ≡ false → Holds c (left_world w t ws v) part) ×
     Moves c (shown c w) t action (shown c (left_world w t ws v))
 
--- so it is of such an event
+-- so it is of such a step
 pub writer_law : (c : Config) (w : World) (good : IsGood c w) (t : ℕ) (lt : t < c.tasks) (ws : Words) (v : View) (action : Option Action)
     (kind : StageEvent) → WriterEvent c w good t lt ws v action kind → WriterLaw c w t ws v action
 writer_law c w good t lt ws v action kind h =
     (writer_parts c w good t lt ws v action kind h, writer_moves c w good t lt ws v action kind h)
 
--- the law of the next event of a phase, as this
+-- the law of the next step of a phase, as this
 abbrev pub WriterKeeps : Config → World → ℕ → HookAnswer → Phase → Type 0
 WriterKeeps c w t hook phase =
     ((part : Part) → is_known_part part ≡ false → Holds c (after_step w t phase hook) part) ×
@@ -160,7 +153,7 @@ whole_writer c w t lt good hook phase e work keeps = (
   keeps.1,
 )
 
--- What comes after an event of a down-write is the same one with another step, or it is done.
+-- What comes after a step of a down-write is the down-write at another point, or it is done.
 module _ (d : DownWrite) (P : Next DownWrite → Type 0) (go : (s : DownWriteStep) → P (Next.Go (at_down_write d s)))
     (wait : (s : DownWriteStep) → P (Next.Wait (at_down_write d s))) (done : P (Next.Done (Ok Reply.Unit))) where
   pub down_write_comes : (s : DownWriteStep) (found : ℕ) → P (down_write_after d s found).0

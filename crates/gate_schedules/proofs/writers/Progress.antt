@@ -1,24 +1,20 @@
--- A level is closed, where nobody is inside a section and nothing is counted there, and opened, in a bounded number of events.
-use Rattle.std.proofs.Common.{◌≡◌, ℕ, suc, ◌+◌, ◌<◌, ◌≤◌, true, refl, sym, ap, subst, inl, inr, arith, add-one}
-use Rattle.std.proofs.lemmas.Bool.{cases_Bool, ltb-true, ltb-false, eq-eqb, Decides.eqb_tells}
-use Rattle.std.specs.Prelude.{◌-◌, ◌*◌, ◌%◌, ◌==◌, nat_lt, Some, None}
-use Rattle.finite_sums.{proofs.Totals.update_at, specs.Sums.total}
-use Rattle.access_model.specs.declared.replies.Next.{Next}
-use Rattle.cpu_words.specs.{Sums.{ahead, lead}, Touches.{left, found_by, wrap_add}, Words.{Words, read}, declared.{names.WordName.WordName, sums.Sum.Sum}}
-use Rattle.cpu_words.proofs.gate_counts.Numbers.{ahead_past, ahead_step}
-use Rattle.percpu_rwsem.specs.{Graces.looked, SyncWords.{unpack, is_passed, on_enter, on_exit, on_callback}, Transitions.{transition_next, transition_after}}
-use Rattle.percpu_rwsem.specs.Writers.{down_write_next, down_write_after, at_down_write, enter_step, callback_step, sections_awaited}
-use Rattle.percpu_rwsem.specs.{Writers.{up_write_next, up_write_after, exit_made}, declared.grace.GraceNext.{GraceNext}}
-use Rattle.percpu_rwsem.specs.declared.transitions.{Transition.Transition, TransitionNext.TransitionNext}
-use Rattle.percpu_rwsem.specs.declared.writers.{DownWrite.DownWrite, DownWriteStep.DownWriteStep, UpWrite.UpWrite, UpWriteStep.UpWriteStep}
+-- A level is closed, where nobody is inside a section and nothing is counted there, and opened, in a bounded number of steps.
+use Rattle.gate_schedules.proofs.Prelude.{Config, IsGood, Next, None, Some, SyncAt, WordName, Words, World, ap, arith, cases_Bool, eq-eqb, eqb_tells}
+use Rattle.gate_schedules.proofs.Prelude.{found_by, inl, inr, is_frozen_whole, left, nat_lt, read, refl, subst, suc, sym, sync_role_of, total, true}
+use Rattle.gate_schedules.proofs.Prelude.{update_at, ℕ, ◌+◌, ◌<◌, ◌==◌, ◌≡◌, ◌≤◌}
+use Rattle.std.{proofs.{Common.add-one, lemmas.Bool.{ltb-true, ltb-false}}, specs.Prelude.{◌-◌, ◌*◌, ◌%◌}}
+use Rattle.cpu_words.{proofs.gate_counts.Numbers.{ahead_past, ahead_step}, specs.{Sums.{ahead, lead}, Touches.wrap_add, declared.sums.Sum.Sum}}
+use Rattle.percpu_rwsem.specs.{Graces.looked, SyncWords.{unpack, is_passed, on_enter, on_exit, on_callback}, Transitions.transition_next}
+use Rattle.percpu_rwsem.specs.{Transitions.transition_after, Writers.{down_write_next, down_write_after, at_down_write, enter_step, callback_step}}
+use Rattle.percpu_rwsem.specs.{Writers.{sections_awaited, up_write_next, up_write_after, exit_made}, declared.grace.GraceNext.GraceNext}
+use Rattle.percpu_rwsem.specs.declared.{transitions.{Transition.Transition, TransitionNext.TransitionNext}, writers.DownWrite.DownWrite}
+use Rattle.percpu_rwsem.specs.declared.writers.{DownWriteStep.DownWriteStep, UpWrite.UpWrite, UpWriteStep.UpWriteStep}
 use Rattle.freeze_laws.specs.levels.{Operations.{down_write_role, up_write_role}, Roles.{SyncRole, Past, Entered, entering, entered, closed}}
-use Rattle.gate_world.specs.{Fits.DownWriteStepFits, Levels.{is_frozen_whole, sync_role_of}, Rules.{IsGood, SyncAt, SyncHoldsIn}, Worlds.World}
-use Rattle.gate_world.specs.declared.config.Config.{Config}
-use Rattle.gate_schedules.proofs.frames.Words.{load_same}
-use Rattle.gate_schedules.proofs.levels.Facts.{ExchangeFalls, exchange_falls, defined_falls, enter_defined, writer_passed, exit_defined, block_clear}
-use Rattle.gate_schedules.proofs.levels.Facts.{writer_called}
-use Rattle.gate_schedules.proofs.operations.{callback.Progress.{GraceFalls, look_falls}, deadlocks.RankDecreases.after_event}
-use Rattle.gate_schedules.specs.operations.{Ranks.{exchange_rank, grace_rank, up_rank, reopens_rank, sum_rank, down_rank}, Unblocked.{NobodyInside, NothingCounted, RankDecreases}}
+use Rattle.gate_world.specs.{Fits.DownWriteStepFits, Rules.SyncHoldsIn}
+use Rattle.gate_schedules.proofs.{frames.Words.load_same, levels.Facts.{ExchangeFalls, exchange_falls, defined_falls, enter_defined, writer_passed}}
+use Rattle.gate_schedules.proofs.{levels.Facts.{exit_defined, block_clear, writer_called}, operations.callback.Progress.{GraceFalls, look_falls}}
+use Rattle.gate_schedules.{proofs.operations.deadlocks.RankDecreases.after_event, specs.operations.Ranks.{exchange_rank, grace_rank, up_rank}}
+use Rattle.gate_schedules.specs.operations.{Ranks.{reopens_rank, sum_rank, down_rank}, Unblocked.{NobodyInside, NothingCounted, RankDecreases}}
 
 -- a sum has taken one word more: what is ahead of it is as it was
 lead_on : (processors : ℕ) (count : ℕ → ℕ) (k sum : ℕ) → k < processors →
@@ -156,7 +152,7 @@ module _ (c : Config) (w : World) (good : IsGood c w) (t : ℕ) (lt : t < c.task
         (down_write_after d (DownWriteStep.Sums sum) (w.words.level d.level sum.words)).0) (sym same)
         (sums_falls w.words d sum (omega (arith, fits, processors)) k)
 
-  -- each event of an up-write
+  -- each step of an up-write
   module _ (u : UpWrite) (one : 1 ≤ u.level) (three : u.level ≤ 3) where
     exits_falls : (after : Words) (n : ℕ) (next : TransitionNext) → ExchangeFalls (after.sync u.level) n ⊥ next →
         RankDecreases (reopens_rank after) (λ (y : UpWrite). Unit {0}) (n + 3 * (u.level - 1) + 1) (exit_made u next)

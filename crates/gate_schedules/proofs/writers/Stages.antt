@@ -1,19 +1,17 @@
--- Events of a freeze or a thaw that leave the words of the levels: on `umount`, loads by the owner, and stores of the stage.
-use Rattle.std.proofs.lemmas.Grind.{common_steps}
-use Rattle.std.{proofs.{Common.{◌≡◌, ℕ, ◌<◌, refl, sym, ap, ◌∙◌, subst, inl, inr, arith}, lemmas.Bool.Decides.eqb_tells}, specs.Prelude.{Option, Some, None}}
-use Rattle.finite_sums.{proofs.Totals.update_same, specs.Sums.update}
-use Rattle.access_model.specs.{Actions.after_action, declared.actions.Action.Action}
-use Rattle.cpu_words.specs.Words.{Words}
+-- Steps of a freeze or a thaw that leave the words of the levels: on `umount`, loads by the owner, and stores of the stage.
+use Rattle.gate_schedules.proofs.Prelude.{Action, Config, Holds, IsGood, IsWithin, None, Option, Some, Stages, Tree, View, Words, World, ap, arith}
+use Rattle.gate_schedules.proofs.Prelude.{common_steps, eqb_tells, inl, inr, is_frozen_whole, refl, shown, stage_role_of, subst, sym, tree_bounds}
+use Rattle.gate_schedules.proofs.Prelude.{tree_role_of, update, update_same, ℕ, ◌<◌, ◌∙◌, ◌≡◌}
+use Rattle.access_model.specs.Actions.{after_action}
 use Rattle.gated_tree.specs.Roles.{TreeState, sealed_by}
-use Rattle.gate_schedules.specs.trees.Events.{Event, Opens}
+use Rattle.gate_schedules.proofs.{frames.{Frames.{SameLevelCounts, left_alone}, Stages.{IsStageEvent, stages_in}}, levels.LevelPositions.HasPosition}
+use Rattle.gate_schedules.proofs.{levels.{LevelPositions.{LevelsHold, left_world}, PositionRoles.levels_stay}, trees.worlds.Trees.sealed_read_only}
+use Rattle.gate_schedules.proofs.{trees.worlds.Trees.{tree_then, tree_after}, writers.Parts.{IsWriter, SameAtMounts, LeavesRest, AsksWhere}}
+use Rattle.gate_schedules.{proofs.writers.Parts.{WriterLaw, writer_law}, specs.trees.Events.{Event, Opens}}
 use Rattle.freeze_levels.specs.Holders.{holders_in}
 use Rattle.freeze_laws.specs.stages.{Events.{playing, StageEvent, Stays, action_of as stage_action_of}, Roles.StageRole}
-use Rattle.gate_world.specs.{Configs.{IsWithin, model_limits}, Levels.is_frozen_whole, Roles.LevelPosition, Rules.{Holding, Holds, IsGood, OwnerHolds, Stages, Tree}}
-use Rattle.gate_world.specs.{Rules.{ViewFits, stage_role_of, stage_roles}, Shown.shown, Trees.{tree_bounds, tree_of, tree_role_of, tree_roles}}
-use Rattle.gate_world.specs.{Worlds.World, declared.{config.Config.Config, views.View.View}}
-use Rattle.gate_schedules.proofs.{frames.{Frames.{SameLevelCounts, left_alone}, Stages.{IsStageEvent, stages_in}}, levels.PositionRoles.levels_stay}
-use Rattle.gate_schedules.proofs.{levels.LevelPositions.{HasPosition, LevelsHold, left_world}, trees.worlds.Trees.{sealed_read_only, tree_then, tree_after}}
-use Rattle.gate_schedules.proofs.writers.Parts.{IsWriter, SameAtMounts, LeavesRest, AsksWhere, WriterLaw, writer_law}
+use Rattle.gate_world.specs.{Configs.model_limits, Roles.LevelPosition, Rules.{Holding, OwnerHolds, ViewFits, stage_roles}, Trees.tree_of}
+use Rattle.gate_world.specs.Trees.{tree_roles}
 
 -- the words that tell the stage are as they were
 pub record SameStageWords (old new : Words) : Type 0 where
@@ -24,7 +22,7 @@ pub record SameStageWords (old new : Words) : Type 0 where
   pub node_same : new.node ≡ old.node
 
 module _ (c : Config) (w : World) (good : IsGood c w) (t : ℕ) (lt : t < c.tasks) where
-  -- an event that is about other words
+  -- a step that is about other words
   pub stays_there : (ws : Words) (v : View) → SameStageWords w.words ws → stage_role_of v.phase ≡ stage_role_of (w.views t).phase →
       IsStageEvent c w good t lt ws v Stays
   stays_there ws v words same = grind (arith, common_steps)
@@ -74,7 +72,7 @@ module _ (c : Config) (w : World) (good : IsGood c w) (t : ℕ) (lt : t < c.task
 
   module _ (v : View) (was : IsWriter (w.views t).phase) (now : IsWriter v.phase) (mounts : SameAtMounts (w.views t) v)
       (levels : SameLevelCounts (w.views t) v) (fits : ViewFits c t v) where
-    -- an event that leaves all words but `umount`, and what its task has to do with the levels and the tree
+    -- a step that leaves all words but `umount`, and what its task has to do with the levels and the tree
     pub writer_beside : (n : ℕ) (stand : Option LevelPosition) (kind : StageEvent) →
         OwnerHolds c.tasks n w.words.remount (λ y. (update w.views t v y).phase) →
         HasPosition (w.views t).phase stand → HasPosition v.phase stand →

@@ -1,21 +1,19 @@
--- Events of a down-write and of an up-write: the words that they leave, the counts, and what they add.
-use Rattle.std.{proofs.Common.{◌≡◌, ℕ, ◌<◌, refl, sym, ◌∙◌, subst, arith}, specs.Prelude.{Option, Some, None}}
-use Rattle.finite_sums.specs.Sums.{update}
-use Rattle.access_model.specs.{Actions.after_action, States.State, declared.{actions.Action.Action}}
-use Rattle.cpu_words.specs.{Touches.left, Words.{Words, read, put}}
+-- Steps of a down-write and of an up-write: the words that they leave, the counts, and what they add.
+use Rattle.gate_schedules.proofs.Prelude.{Action, Config, Holds, IsGood, IsWithin, None, Option, Some, Tree, View, Words, World, arith, left, owns}
+use Rattle.gate_schedules.proofs.Prelude.{put, read, refl, shown, subst, sym, tree_bounds, tree_role_of, update, ℕ, ◌<◌, ◌∙◌, ◌≡◌}
+use Rattle.access_model.specs.{Actions.after_action, States.State}
 use Rattle.node_words.specs.Nodes.{node_shown, opens_in}
 use Rattle.gated_tree.specs.Roles.{Out, Clearing}
+use Rattle.gate_schedules.proofs.frames.{Frames.{unwritten, left_alone}, Holders.holders_stay, Stages.{IsStageEvent, stages_in}}
+use Rattle.gate_schedules.proofs.{levels.LevelPositions.{LevelsHold, left_world}, trees.worlds.Trees.{tree_then, tree_after}}
+use Rattle.gate_schedules.proofs.writers.{Owner.owner_stays, Parts.{IsWriter, SameAtMounts, LeavesRest, AsksWhere, WriterLaw, writer_law}}
 use Rattle.gate_schedules.specs.trees.Events.{Event, turned, BeginsClearing}
-use Rattle.percpu_rwsem.specs.Writers.{down_write_next, down_write_after, up_write_next, up_write_after}
-use Rattle.percpu_rwsem.specs.declared.writers.{DownWrite.DownWrite, DownWriteStep.DownWriteStep, UpWrite.UpWrite, UpWriteStep.UpWriteStep}
+use Rattle.percpu_rwsem.specs.{Writers.{down_write_next, down_write_after, up_write_next, up_write_after}, declared.writers.DownWrite.DownWrite}
+use Rattle.percpu_rwsem.specs.declared.writers.{DownWriteStep.DownWriteStep, UpWrite.UpWrite, UpWriteStep.UpWriteStep}
 use Rattle.freeze_levels.specs.Holders.{holders_in}
 use Rattle.freeze_laws.specs.stages.{Events.{StageEvent, action_of as stage_action_of}, Shown.state_after}
-use Rattle.gate_world.specs.{Configs.{IsWithin, model_limits}, Levels.{level_added_after, level_taken_after}, Rules.{Holds, IsGood, Tree, ViewFits}}
-use Rattle.gate_world.specs.{Rules.{holder_role_of, owns}, Shown.shown, Trees.{is_bare_at, is_sealed, tree_bounds, tree_of, tree_role_of, tree_roles}}
-use Rattle.gate_world.specs.{Views.{added_after, taken_after}, Worlds.{World}, declared.{config.Config.{Config}, views.View.{View}}}
-use Rattle.gate_schedules.proofs.frames.{Frames.{unwritten, left_alone}, Holders.holders_stay, Stages.{IsStageEvent, stages_in}}
-use Rattle.gate_schedules.proofs.{levels.LevelPositions.{LevelsHold, left_world}, trees.worlds.Trees.{tree_then, tree_after}, writers.Owner.owner_stays}
-use Rattle.gate_schedules.proofs.writers.Parts.{IsWriter, SameAtMounts, LeavesRest, AsksWhere, WriterLaw, writer_law}
+use Rattle.gate_world.specs.{Configs.model_limits, Levels.{level_added_after, level_taken_after}, Rules.{ViewFits, holder_role_of}, Trees.is_bare_at}
+use Rattle.gate_world.specs.{Trees.{is_sealed, tree_of, tree_roles}, Views.{added_after, taken_after}}
 
 -- the words that are no level's own
 abbrev pub off_level_words : Words → Words
@@ -47,9 +45,9 @@ pub up_write_counts_none : (u : UpWrite) (s : UpWriteStep) (f : ℕ → ℕ → 
     (level_taken_after (up_write_next u s).0 (up_write_next u s).1 f ≡ f)
 up_write_counts_none u s f = grind arith
 
--- What an event of a down-write adds: nothing, or that its level is passed.
+-- What a step of a down-write adds: nothing, or that its level is passed.
 module _ (d : DownWrite) (P : Option Action → Type 0) (none : P None) (pass : P (Some (Action.Pass d.level))) where
-  -- each event
+  -- each step
   pub down_write_adds : (s : DownWriteStep) (found : ℕ) → P (down_write_after d s found).1
   down_write_adds s found = grind arith
 
@@ -87,7 +85,7 @@ tree_begins c w good t lt ws v within words was now =
     } in
     tree_after c w good t lt ws v within None (subst (λ s. Event (tree_bounds c) (tree_of w) t s None) (sym same) (BeginsClearing was))
 
--- the law of an event of a freeze or a thaw on a word of a level, which leaves who owns `umount`
+-- the law of a step of a freeze or a thaw on a word of a level, which leaves who owns `umount`
 pub writer_at_level : (c : Config) (w : World) (good : IsGood c w) (t : ℕ) (lt : t < c.tasks) (ws : Words) (v : View)
     (action : Option Action) (kind : StageEvent) → IsWriter (w.views t).phase → IsWriter v.phase → IsAtLevels w.words ws →
     SameAtMounts (w.views t) v → ViewFits c t v → owns v.phase ≡ owns (w.views t).phase → LevelsHold c (left_world w t ws v) →

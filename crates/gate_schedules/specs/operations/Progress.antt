@@ -1,4 +1,4 @@
--- Progress: from each world in which an operation is under way a reply is near, or each task under way stands before a level that is held
+-- Progress: from each state in which an operation is under way a reply is near, or each task under way stands before a level that is held
 -- closed, or that it can't pass, by what no task under way can change.
 use Rattle.std.specs.Prelude.{◌≡◌, ℕ, zero, suc, ◌<◌, ◌≤◌, ◌⊎◌, ◌==◌, ◌&&◌, if◌then◌else◌, Bool, true, false, Option, Some, None, Ok, List}
 use Rattle.cpu_words.specs.{Hooks.HookAnswer, Words.Words}
@@ -30,7 +30,7 @@ IsUnderWay w t = (phase : Phase) × ((w.views t).phase ≡ Some phase)
 abbrev pub HasReply : World → ℕ → Type 0
 HasReply w t = (w.views t).phase ≡ None
 
--- A reply is at most so many events away. Which of the tasks under way does the next event is chosen; what a hook answers to it is not.
+-- A reply is at most so many steps away. Which of the tasks under way does the next step is chosen; what a hook answers to it is not.
 abbrev pub ReplyWithin : Config → ℕ → World → Type 0
 ReplyWithin c zero w = ⊥
 ReplyWithin c (suc n) w =
@@ -169,19 +169,19 @@ AllAreBlocked c w = (t : ℕ) → t < c.tasks → (phase : Phase) → (w.views t
 abbrev pub Progresses : Config → ℕ → World → Type 0
 Progresses c n w = ReplyWithin c n w ⊎ AllAreBlocked c w
 
--- All that is under way comes to its end, as far as it can. Somebody can pick, event by event, one of the tasks under way, knowing what the hooks
--- have answered so far but not what they will, so that after at most so many events each operation that is still under way is blocked. No other
+-- All that is under way comes to its end, as far as it can. Somebody can pick, step by step, one of the tasks under way, knowing what the hooks
+-- have answered so far but not what they will, so that after at most so many steps each operation that is still under way is blocked. No other
 -- operation begins in between, so each of the others has its reply.
 abbrev pub SettlesWithin : Config → ℕ → World → Type 0
 SettlesWithin c zero w = AllAreBlocked c w
 SettlesWithin c (suc n) w =
     AllAreBlocked c w ⊎ ((t : ℕ) × (t < c.tasks) × IsUnderWay w t × ((hook : HookAnswer) → SettlesWithin c n (happens c w (Steps t hook))))
 
--- the hook that the next event of a phase asks, if it asks one, agrees
+-- the hook that the next step of a phase asks, if it asks one, agrees
 abbrev pub IsAgreed : Phase → HookAnswer → Type 0
 IsAgreed phase hook = (hook_of phase ≡ None) ⊎ (hook ≡ Ok tt)
 
--- The converse: where each operation under way is blocked, no event of one of them is a reply, and all stay blocked. So they are until an idle
+-- The converse: where each operation under way is blocked, no step of one of them is a reply, and all stay blocked. So they are until an idle
 -- task gives its level back, another operation begins, or a hook fails.
 abbrev pub BlockedIsStable : Config → World → Type 0
 BlockedIsStable c w = AllAreBlocked c w → (t : ℕ) → t < c.tasks → (phase : Phase) → (w.views t).phase ≡ Some phase → (hook : HookAnswer) →
@@ -197,17 +197,17 @@ abbrev pub ReplyOrFrozen : Config → ℕ → World → Type 0
 ReplyOrFrozen c n w = (t : ℕ) → t < c.tasks → IsUnderWay w t →
     ReplyWithin c n w ⊎ ((is_frozen_whole w.words ≡ 1) ⊎ AFreezeIsKept c w)
 
--- the premise of the theorem, which holds of each schedule: an event of a task under way keeps the rule
+-- the premise of the theorem, which holds of each execution: a step of a task under way keeps the invariant
 abbrev pub EventsKeepRule : Config → Type 0
 EventsKeepRule c = (w : World) → IsGood c w → (t : ℕ) → t < c.tasks → (hook : HookAnswer) → (phase : Phase) →
     (w.views t).phase ≡ Some phase → IsGood c (after_step w t phase hook)
 
--- that of its converse: it moves the shown model by its action
+-- that of its converse: it moves the shown state by its action
 abbrev pub EventsMoveModel : Config → Type 0
 EventsMoveModel c = (w : World) → IsGood c w → (t : ℕ) → t < c.tasks → (hook : HookAnswer) → (phase : Phase) →
     (w.views t).phase ≡ Some phase → Moves c (shown c w) t (phase_action w hook (Some phase)) (shown c (after_step w t phase hook))
 
--- the four of a schedule
+-- the four of an execution
 abbrev pub ReplyOrAllBlocked : Config → ℕ → List Entry → Type 0
 ReplyOrAllBlocked c n entries = Progresses c n (world_after c entries)
 

@@ -1,4 +1,4 @@
--- How many events may still come after the next one of a phase, where its way is free and no other task does anything.
+-- How many steps may still come after the next one of a phase, where its way is free and no other task does anything.
 use Rattle.std.specs.Prelude.{max, ℕ, zero, suc, ◌+◌, ◌-◌, ◌*◌, ◌==◌, Bool, true, false, if◌then◌else◌}
 use Rattle.finite_sums.specs.Sums.{total}
 pub use Rattle.gated_tree.specs.Ranks.{create_rank, remove_rank, grow_rank, move_rank, mark_rank, open_rank, snapshot_rank, tree_rank}
@@ -140,7 +140,7 @@ down_rank w d AwaitsPassed = d.processors + 1
 down_rank w d SetsBlock = d.processors
 down_rank w d (WSums sum) = sum_rank d.processors (w.level d.level) sum
 
--- the events that close one level in a freeze
+-- the steps that close one level in a freeze
 abbrev pub closing_rank : Freeze → ℕ
 closing_rank x = x.processors + x.tasks + 5
 
@@ -213,7 +213,7 @@ most_beside c = 3 * c.processors + 2 * c.tasks + c.nodes + 24 + max c.processors
 abbrev pub most_alone : Config → ℕ
 most_alone c = max (most_in_loop c) (most_beside c)
 
--- where all others who are inside a section have to leave it first, which takes 5 events each, it is no remount and no snapshot
+-- where all others who are inside a section have to leave it first, which takes 5 steps each, it is no remount and no snapshot
 abbrev pub most_settled : Config → ℕ
 most_settled c = max (most_in_loop c) (most_beside c + 5 * (c.tasks - 1))
 

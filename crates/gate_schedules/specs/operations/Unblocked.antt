@@ -1,4 +1,4 @@
--- When the way of a phase is free: where nobody else does anything, none of its events waits for good.
+-- When the way of a phase is free: where nobody else does anything, none of its steps waits for good.
 use Rattle.std.specs.Prelude.{◌≡◌, ℕ, ◌<◌, ◌≤◌, ◌%◌, Bool, true, false, Some}
 use Rattle.finite_sums.specs.Sums.{total}
 use Rattle.access_model.specs.declared.replies.Next.{Next, TheVariants.{Go, Wait, Done}}
@@ -109,13 +109,13 @@ IsUnblocked c w (Trees phase) = TreeIsUnblocked w phase
 IsUnblocked c w (FileCloses phase) = CloseIsUnblocked w phase
 IsUnblocked c w phase = Unit {0}
 
--- what comes after an event has a lower rank and a free way, or it is the reply
+-- what comes after a step has a lower rank and a free way, or it is the reply
 abbrev pub RankDecreases : {P : Type 0} → (P → ℕ) → (P → Type 0) → ℕ → Next P → Type 0
 RankDecreases rank_of free n (Go q) = (rank_of q < n) × free q
 RankDecreases rank_of free n (Wait q) = (rank_of q < n) × free q
 RankDecreases rank_of free n (Done answer) = Unit {0}
 
--- What is to be proved of each phase: where its way is free, its event lowers its rank and leaves its way free.
+-- What is to be proved of each phase: where its way is free, its step lowers its rank and leaves its way free.
 pub record PhaseEnds (c : Config) (phase : Phase) : Type 0 where
   pub falls : IsWithin c → (w : World) → IsGood c w → (t : ℕ) → t < c.tasks → (hook : HookAnswer) → (w.views t).phase ≡ Some phase →
       IsUnblocked c w.words phase →

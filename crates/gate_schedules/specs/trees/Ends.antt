@@ -1,4 +1,4 @@
--- What the events of a call have found, as far as it has come: so each refusal has its cause among them, and an answer its actions.
+-- What the steps of a call have found, as far as it has come: so each refusal has its cause among them, and an answer its actions.
 use Rattle.std.specs.Prelude.{◌≡◌, ℕ, ◌+◌, ◌<◌, ◌≤◌, nat_lt, Bool, true, Option, Some, None, Result, Ok, Err, List, [], ◌∷◌}
 use Rattle.access_model.specs.declared.actions.Action.{Action}
 use Rattle.access_model.specs.declared.actions.Action.TheVariants.{Create as CreateAction, Remove as RemoveAction, Grow as GrowAction, MoveTo as MoveToAction}
@@ -94,7 +94,7 @@ module _ (Seen : (Event → Bool) → Type 0) where
   SnapshotKnows x (Releases answer) = SnapshotAnswers answer
   SnapshotKnows x step = Unit {0}
 
--- What comes after an event of a call, and the actions added with it: a phase of which `Knows` holds and which has added just those; or an
+-- What comes after a step of a call, and the actions added with it: a phase of which `Knows` holds and which has added just those; or an
 -- answer with its actions, of which a reply is one of the call's, and a refusal has its cause.
 abbrev pub NextIsJustified : {P : Type 0} → (P → Type 0) → (P → List Action) → (Reply → Type 0) → (GateError → Type 0) →
     (Result Reply GateError → List Action) → Next P → List Action → Type 0
@@ -103,17 +103,17 @@ NextIsJustified Knows added IsOne IsHonest adds (Wait phase) actions = Knows pha
 NextIsJustified Knows added IsOne IsHonest adds (Done (Ok reply)) actions = IsOne reply × (actions ≡ adds (Ok reply))
 NextIsJustified Knows added IsOne IsHonest adds (Done (Err refusal)) actions = IsHonest refusal × (actions ≡ adds (Err refusal))
 
--- what was seen is seen still, and what this event shows is seen too
+-- what was seen is seen still, and what this step shows is seen too
 pub record SeesMore (Seen More : (Event → Bool) → Type 0) (e : Event) : Type 0 where
   pub earlier : (test : Event → Bool) → Seen test → More test
   pub now : (test : Event → Bool) → test e ≡ true → More test
 
--- some event of a call passed this test, by an account of its events
+-- some step of a call passed this test, by an account of its steps
 abbrev pub Passed : ((Event → Bool) → Bool) → (Event → Bool) → Type 0
 Passed seen test = seen test ≡ true
 
 module _ (More : (Event → Bool) → Type 0) where
-  -- after the event of a create that found this value: it is done with a node, which it has created, or refused, with a cause
+  -- after the step of a create that found this value: it is done with a node, which it has created, or refused, with a cause
   abbrev pub CreateEnds : Create → CreateStep → ℕ → Type 0
   CreateEnds x step found =
       NextIsJustified (λ (y : Create). CreateKnows More y y.step) (λ y. []) IsNodeReply (CreateHonest More x) (create_adds x)

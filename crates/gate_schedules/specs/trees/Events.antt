@@ -1,4 +1,4 @@
--- The events at the tree: what a task finds and does there, the tree that it leaves, and its action.
+-- The steps at the tree: what a task finds and does there, the tree that it leaves, and its action.
 use Rattle.std.specs.Prelude.{◌≡◌, ℕ, suc, ◌+◌, ◌-◌, ◌<◌, ◌≤◌, ◌⊎◌, true, false, Option, Some, None, Ok, bit_and}
 use Rattle.finite_sums.specs.Sums.{update, total}
 use Rattle.access_model.specs.Actions.{HoldsSomeMount, IsWriter, tree_after}
@@ -40,7 +40,7 @@ MayClean c s = (s.sealed ≡ 1) ⊎ NobodyReads c s
 abbrev pub cleared_word : ℕ → ℕ
 cleared_word word = bit_and word 18446744073709551611
 
--- An event of task t: what it finds, the tree that it leaves, and the action that it adds.
+-- A step of task t: what it finds, the tree that it leaves, and the action that it adds.
 pub data Event (c : Bounds) (s : TreeState) (t : ℕ) : TreeState → Option Action → Type 0 where
   -- loads: a create finds its directory; a call finds its file; a move finds its directory, and a grow room for its blocks
   FindsDirectory : (d : ℕ) (dir : NodeWord) → s.at t ≡ Out → d < c.nodes → directory_in (s.node d) ≡ Some (Ok dir) →
@@ -51,7 +51,7 @@ pub data Event (c : Bounds) (s : TreeState) (t : ℕ) : TreeState → Option Act
       Event c s t (turned s t (Targets file d)) None
   FindsRoom : (file : NodeWord) (b : ℕ) → s.at t ≡ Loaded file → 0 < b → s.used + b ≤ c.capacity → file.size + b ≤ c.capacity →
       Event c s t (turned s t (Growing file b s.used)) None
-  -- an event that changes no word and no role
+  -- a step that changes no word and no role
   Looks : Event c s t (turned s t (s.at t)) None
   -- a refusal, an end, or a failed compare-exchange, where nothing is charged; a failed one where something is
   Leaves : HasNoCharge (s.at t) → Event c s t (turned s t Out) None
@@ -59,17 +59,17 @@ pub data Event (c : Bounds) (s : TreeState) (t : ℕ) : TreeState → Option Act
   MoveFails : (file : NodeWord) (d : ℕ) → s.at t ≡ Moving file d → Event c s t (turned s t (Returning d)) None
   RemoveFails : (file : NodeWord) → s.at t ≡ Removing file → Event c s t (turned s t Uncounting) None
   GrowFails : (file : NodeWord) (b : ℕ) → s.at t ≡ Charged file b → Event c s t (turned s t (Refunding b)) None
-  -- events of `used`: a grow charges its blocks, or subtracts them again; a remove subtracts its file's
+  -- steps of `used`: a grow charges its blocks, or subtracts them again; a remove subtracts its file's
   ChargesBlocks : (file : NodeWord) (b : ℕ) → NobodyReads c s → s.at t ≡ Growing file b s.used →
       Event c s t (with_used s (s.used + b) t (Charged file b)) None
   RefundsBlocks : (b : ℕ) → NobodyReads c s → s.at t ≡ Refunding b → Event c s t (with_used s (wrap_sub s.used b) t Out) None
   FreesBlocks : (b d : ℕ) → NobodyReads c s → s.at t ≡ Freed b d → Event c s t (with_used s (wrap_sub s.used b) t (Returning d)) None
   DropsBlocks : (b : ℕ) → NobodyReads c s → s.at t ≡ Dropped b → Event c s t (with_used s (wrap_sub s.used b) t Uncounting) None
-  -- events of `removed`: a remove counts its file, which is open; a failed one, and a last close, take that back
+  -- steps of `removed`: a remove counts its file, which is open; a failed one, and a last close, take that back
   CountsRemoval : (file : NodeWord) → MayRemove c s → s.at t ≡ Loaded file → 1 ≤ file.opens →
       Event c s t (with_removed s (wrap_add s.removed 1) t (Removing file)) None
   Uncounts : s.at t ≡ Uncounting → Event c s t (with_removed s (wrap_sub s.removed 1) t Out) None
-  -- events of the children that are charged
+  -- steps of the children that are charged
   CreateAdds : (d : ℕ) → NobodyReads c s → s.at t ≡ Found d → Event c s t (with_kids s d (wrap_add (s.kids d) 1) t (Placing d)) None
   MoveAdds : (file : NodeWord) (d : ℕ) → NobodyReads c s → s.at t ≡ Targets file d →
       Event c s t (with_kids s d (wrap_add (s.kids d) 1) t (Moving file d)) None

@@ -1,4 +1,4 @@
--- One event of a call, among all words.
+-- One step of a call, among all words.
 use Rattle.std.specs.Prelude.{◌≡◌, ℕ, suc, ◌+◌, ◌<◌, Bool, true, false, Option}
 use Rattle.finite_sums.specs.Sums.{update}
 use Rattle.access_model.specs.declared.actions.Action.{Action}
@@ -22,15 +22,15 @@ tree_in sealed bare w at = record {
   at = at;
 }
 
--- the words that an event leaves
+-- the words that a step leaves
 abbrev pub words_left : Words → WordName × Touch → Words
 words_left w event = put w event.0 (left event.1 (read w event.0))
 
--- what an event finds
+-- what a step finds
 abbrev pub found_at : Words → WordName × Touch → ℕ
 found_at w event = found_by event.1 (read w event.0)
 
--- The event of task t leaves a tree of which the same holds, with its task at this role, and moves the shown tree by this action or not
+-- The step of task t leaves a tree of which the same holds, with its task at this role, and moves the shown tree by this action or not
 -- at all.
 abbrev pub EventKeeps : Bounds → ℕ → ℕ → Words → (ℕ → Role) → ℕ → WordName × Touch → Role → Option Action → Type 0
 EventKeeps c sealed bare w at t event role action =
@@ -41,7 +41,7 @@ abbrev pub MayMark : Bool → Bounds → TreeState → Type 0
 MayMark true c s = NobodyReads c s × MayDirty c s
 MayMark false c s = MayClean c s
 
--- what an event of a phase asks of the other tasks
+-- what a step of a phase asks of the other tasks
 abbrev pub TreeAllowsStep : Bounds → TreeState → TreePhase → Type 0
 TreeAllowsStep c s (Creates x) = NobodyReads c s
 TreeAllowsStep c s (Removes x) = NobodyReads c s × MayRemove c s
@@ -52,11 +52,11 @@ TreeAllowsStep c s (OpensOne x) = Unit {0}
 TreeAllowsStep c s (Snapshots x) = Unit {0}
 TreeAllowsStep c s (Clears x) = MayClean c s
 
--- these values are the earlier ones, with one more that an event found
+-- these values are the earlier ones, with one more that a step found
 abbrev pub NotesOne : ℕ → (ℕ → ℕ) → (ℕ → ℕ) → ℕ → Type 0
 NotesOne words values noted found = (noted words ≡ found) × ((i : ℕ) → i < words → noted i ≡ values i)
 
--- the values after an event of a snapshot are those before it, with the word that it loads
+-- the values after a step of a snapshot are those before it, with the word that it loads
 abbrev pub NotesLoad : ℕ → SnapshotStep → (ℕ → ℕ) → (ℕ → ℕ) → ℕ → Type 0
 NotesLoad nodes LoadsUsed values noted found = NotesOne 0 values noted found
 NotesLoad nodes (LoadsNode node) values noted found = NotesOne (suc node) values noted found
@@ -68,7 +68,7 @@ abbrev pub Notes : TreePhase → (ℕ → ℕ) → (ℕ → ℕ) → ℕ → Typ
 Notes (Snapshots x) values noted found = NotesLoad x.nodes x.step values noted found
 Notes phase values noted found = Unit {0}
 
--- The next event of task t, which is at this phase, keeps what holds of the tree, and is its action or changes nothing that is shown. A
+-- The next step of task t, which is at this phase, keeps what holds of the tree, and is its action or changes nothing that is shown. A
 -- snapshot has loaded `values` before it, and `noted` after it.
 abbrev pub StepKeeps : Bounds → ℕ → ℕ → Words → (ℕ → Role) → ℕ → TreePhase → (ℕ → ℕ) → HookAnswer → Type 0
 StepKeeps c sealed bare w at t phase noted hook =

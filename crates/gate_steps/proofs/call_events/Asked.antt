@@ -1,4 +1,4 @@
--- What an operation has asked, by where it stands: a fact that holds at its first phase, and that each event keeps, holds after each trace.
+-- What an operation has asked, by where it stands: a fact that holds at its first phase, and that each step keeps, holds after each trace.
 use Rattle.std.proofs.Common.{ℕ, Bool, true, false, List, [], ◌∷◌}
 use Rattle.std.specs.Prelude.{if◌then◌else◌}
 use Rattle.access_model.specs.declared.{actions.Action.{Action}, replies.Next.{Next, TheVariants.{Go, Wait, Done}}}
@@ -18,7 +18,7 @@ module _ (I : Next Phase → List Action → List Ask → Type 0)
     (waits_so : (p : Phase) (added : List Action) (asks : List Ask) → I (Wait p) added asks → I (Go p) added asks)
     (keeps : (p : Phase) (found : ℕ) (hook : HookAnswer) (at : DealtNumbers) (added : List Action) (asks : List Ask) → I (Go p) added asks →
     I (after_of p found hook).0 (actions_after (after_of p found hook).1 added) (asks_with (call_at p) at hook asks)) where
-  -- one event more
+  -- one step more
   one_more : (comes : Next Phase) (added : List Action) (e : Traced) (at : DealtNumbers) (asks : List Ask) → I comes added asks →
       I (trace_state_after comes added e).comes (trace_state_after comes added e).added (asks_with (next_call comes) at e.hook asks)
   one_more (Go p) added e at asks is = keeps p e.event.found e.hook at added asks is

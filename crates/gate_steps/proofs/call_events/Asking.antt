@@ -1,4 +1,4 @@
--- The hooks that one event more asks, and those of a whole call.
+-- The hooks that one step more asks, and those of a whole call.
 use Rattle.std.proofs.Common.{arith, ◌≡◌, ℕ, List, ap, sym, subst, ◌∙◌}
 use Rattle.std.specs.Prelude.{Option, Some, None, Result, Ok, Err}
 use Rattle.access_model.specs.declared.{errors.GateError.{GateError}, replies.Reply.{Reply}}
@@ -36,7 +36,7 @@ module _ {H : Type 0} (answers : HookCall → DealtNumbers → H → HookAnswer 
       unless_refused (refusal_at op old) → left ≡ old → (before : H) → RepliesAsking answers read op old left (Err e) before before
   was_refused_asking read op old left e is same before = grind arith
 
-  -- and one that was done, those that its events read
+  -- and one that was done, those that its steps read
   pub was_done_asking : {A : Type 0} (read : Reply → A) (op : Op) (old left : SeatedTask) (answer : Result Reply GateError)
       (outcome : Result A GateError) → outcome ≡ told_as read answer → Ok tt ≡ unless_refused (refusal_at op old) →
       (before hooks : H) (waited : ℕ) → CalledAsking answers op old before left answer waited hooks → RepliesAsking answers read op old left outcome before hooks

@@ -13,11 +13,11 @@ use Rattle.gate_steps.specs.call_events.Spans.{HappensAfter, IsEventDuring, IsCa
 use Rattle.gate_steps.specs.call_events.SeatedTasks.{SeatedTask, own_number}
 use Rattle.gate_steps.proofs.call_events.{Running.{course_is, completed_is}, Spanning.{last_event, each_event}}
 
--- what an event says that it found, it finds again
+-- what a step says that it found, it finds again
 found_again : (touch : Touch) (n : ℕ) → found_by touch (found_by touch n) ≡ found_by touch n
 found_again touch n = grind arith
 
--- what an event says that it found, it finds in the world of its moment
+-- what a step says that it found, it finds in the state of its moment
 says : (c : Config) (n : ℕ) (op : Op) (earlier : List Traced) (e : Traced) (entries : List Entry)
     (h : HappensAfter c n op earlier e entries) → e.event.found ≡ found_at (world_after c entries).words h.phase e.hook
 says c n op earlier e entries h =
@@ -28,7 +28,7 @@ module _ (c : Config) (items : DealtNumbers) (op : Op) (earlier : List Traced) (
   abbrev n : ℕ
   n = own_number items
 
-  -- an event that ends the operation with a refusal
+  -- a step that ends the operation with a refusal
   refused_during : (during : IsEventDuring c items op earlier e seen gone) → during.rest ≡ [] →
       (state_of_trace c n op (e ∷ earlier)).comes ≡ Done (Err refusal) → IsCausedDuring c items op earlier e refusal seen gone
   refused_during during returns ends =
@@ -68,7 +68,7 @@ pub call_caused : (op : Op) (old left : SeatedTask) (refusal : GateError) (calle
 call_caused op old left refusal called =
     all_alone old.config old.items op refusal old.seen left.seen called.trace (call_caused_during op old left refusal called)
 
--- and where an event of a call has completed a snapshot, that is of the tree of its moment
+-- and where a step of a call has completed a snapshot, that is of the tree of its moment
 pub tree_during : (c : Config) (items : DealtNumbers) (op : Op) (seen gone : List (List Entry)) (loaded : TreeWords)
     (later : List Traced) (e : Traced) (earlier : List Traced) → AreMoves c op items seen (later ++ e ∷ earlier) gone →
     completed_by (state_of_trace c (own_number items) op earlier).comes earlier e ≡ Some loaded → IsTreeDuring c items op seen gone loaded

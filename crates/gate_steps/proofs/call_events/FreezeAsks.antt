@@ -173,7 +173,7 @@ reopens_on : (u : UpWrite) (step : UpWriteStep) (found code : ℕ) (added : List
 reopens_on u ClearsBlock found code added asks is = is
 reopens_on u (Exits transition) found code added asks is = is
 
--- one event more
+-- one step more
 step_keeps : (x : Freeze) (step : FreezeStep) (found : ℕ) (hook : HookAnswer) (at : DealtNumbers) (added : List Action) (asks : List Ask) →
     AtStep step added asks → AtNext (freeze_after x step found hook).0 (actions_after (freeze_after x step found hook).1 added)
     (asks_with (call_at (Freezes (at_freeze x step))) at hook asks)

@@ -1,4 +1,4 @@
--- What an event leaves of a task's fields and view.
+-- What a step leaves of a task's fields and view.
 use Rattle.std.proofs.lemmas.Grind.{common_steps}
 use Rattle.std.proofs.Common.{arith, ◌≡◌, ℕ, Bool, List, refl, sym, ap, ◌∙◌, subst}
 use Rattle.gate_world.specs.declared.entries.Entry.{Entry}
@@ -28,7 +28,7 @@ entered_actions v begins phase = grind arith
 
 module _ (number : ℕ) (c : Config) (begins : Option Op) (state : TaskState) (flags : List Bool) (phase : Phase) (is : state.phase ≡ Some phase)
     (hook : HookAnswer) (found : ℕ) where
-  -- what comes after the event, and its action
+  -- what comes after the step, and its action
   abbrev done : Next Phase × Option Action
   done = after_of phase (found_by (next_of phase hook).1 found) hook
 
@@ -37,7 +37,7 @@ module _ (number : ℕ) (c : Config) (begins : Option Op) (state : TaskState) (f
   kept_after = record { phase = phase_after done.0; accesses = accesses_after state.accesses done.1 }
 
   module _ (x : Numbered) (xs : DealtNumbers) (ghost_agrees : OwnNumberAgrees number c begins state flags x xs) where
-    -- the own view with which the event begins
+    -- the own view with which the step begins
     abbrev v : View
     v = entered x.view begins phase
 
@@ -62,7 +62,7 @@ module _ (number : ℕ) (c : Config) (begins : Option Op) (state : TaskState) (f
     held_seen = holdings_of_after done.1 v.actions ∙ ap (λ (l : List Action). held_after done.1 (holdings_of l))
         (entered_actions x.view begins phase)
 
-    -- the fields and the own view agree after the event
+    -- the fields and the own view agree after the step
     ghost_agrees_after : OwnNumberAgrees number c None kept_after flags (numbered x.number seen) xs
     ghost_agrees_after = record {
       within = ghost_agrees.within;
@@ -83,7 +83,7 @@ module _ (number : ℕ) (c : Config) (begins : Option Op) (state : TaskState) (f
       marks = ghost_agrees.marks;
     }
 
-  -- the fields that follow an event are what the seat knows after it
+  -- the fields that follow a step are what the seat knows after it
   pub matches_after : (items : DealtNumbers) → GhostAgrees number c begins state flags items →
       GhostAgrees number c None kept_after flags (items_after begins phase hook found items)
   matches_after items t = grind (arith, common_steps, ghost_agrees_after)
@@ -98,7 +98,7 @@ module _ (number : ℕ) (c : Config) (begins : Option Op) (state : TaskState) (f
     (next : WordName × Touch) (next_is : next ≡ next_of phase hook) (found : ℕ) (event : Event)
     (event_is : event ≡ event_of next.0 next.1 found)
     (done : Next Phase × Option Action) (done_is : done ≡ after_of phase event.found hook) where
-  -- the event is the one of the phase
+  -- the step is the one of the phase
   pub same_event : event ≡ event_of (next_of phase hook).0 (next_of phase hook).1 found
   same_event = event_is ∙ ap (λ (n : WordName × Touch). event_of n.0 n.1 found) next_is
 
@@ -132,7 +132,7 @@ module _ (number : ℕ) (c : Config) (begins : Option Op) (state : TaskState) (f
     left_is seen gone table before same =
         λ i. record { table = same i; config = c; begins = None; phase = same_phase i; items = after_is i; seen = gone }
 
-    -- the step that the code has done, where the seat's event was such a move
+    -- the step that the code has done, where the seat's own was such a move
     pub stepped_here : (seen gone : List (List Entry)) (table before : TableId) (now : SeatedTask) → table ≡ before →
         task_state before c begins state.phase (knows items seen) ≡ now → HasWitness c begins phase hook items found seen gone →
         (p : Phase) → now.phase ≡ Some p → Stepped p hook now (record { event = Some event; action = done.1; progress = progress.0 })

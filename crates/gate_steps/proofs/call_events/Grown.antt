@@ -18,7 +18,7 @@ pub only : (last : List Entry) (j : ℕ) (later : List Entry) → get_elem? (las
 only last zero later at = some-injective last later at
 only last (suc j) later at = absurd (some-ne-none later (sym at))
 
--- the schedules that an event leaves go on from all seen before it
+-- the schedules that a step leaves go on from all seen before it
 pub moved_on : (c : Config) (begins : Option Op) (phase : Phase) (hook : HookAnswer) (items : DealtNumbers) (found : ℕ) (seen gone : List (List Entry)) →
     HasWitness c begins phase hook items found seen gone → AllGoOn seen gone
 moved_on c begins phase hook items found seen gone move k earlier at j later there = grind (arith, common_steps)
@@ -36,7 +36,7 @@ only_seen earlier = ([], sym (append-nil earlier))
 pub same_stays_seen : (seen : List (List Entry)) → StaySeen seen seen
 same_stays_seen seen k earlier at = (k, earlier, at, only_seen earlier)
 
--- and so between any two events
+-- and so between any two steps
 pub sees_on_stays : (trace : List Traced) (before now : List (List Entry)) → SeesOn trace before now → StaySeen before now
 sees_on_stays [] before now same = subst (StaySeen before) (sym same) (same_stays_seen before)
 sees_on_stays (e ∷ earlier) before now stays = stays
@@ -70,7 +70,7 @@ trace_goes_on : (c : Config) (op : Op) (items : DealtNumbers) (seen gone : List 
 trace_goes_on c op items seen gone answer [] ends moves = absurd (let no : ⊥ = cc in no)
 trace_goes_on c op items seen gone answer (e ∷ earlier) ends moves = moves_on c op items seen e earlier gone moves
 
--- so a whole call, which has at least one event
+-- so a whole call, which has at least one step
 pub call_goes_on : (op : Op) (old left : SeatedTask) (answer : Result Reply GateError) → Called op old left answer → AllGoOn old.seen left.seen
 call_goes_on op old left answer called = trace_goes_on old.config op old.items old.seen left.seen answer called.trace called.ends called.moves
 

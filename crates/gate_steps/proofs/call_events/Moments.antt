@@ -1,4 +1,4 @@
--- The worlds of a schedule that goes on, and the entries of one number in it.
+-- The states of a schedule that goes on, and the transitions of one number in it.
 use Rattle.std.proofs.{Common.{arith, ◌≡◌, ℕ, List, [], ◌∷◌, ◌++◌, refl, sym, ap, ◌∙◌, subst, inl, inr}, lemmas.Bool.Decides.{eqb_tells}}
 use Rattle.std.proofs.lemmas.List.{append_assoc, append-nil}
 use Rattle.std.specs.Prelude.{Some, None}
@@ -9,7 +9,7 @@ use Rattle.gate_world.specs.{Worlds.{World, happens, run, opening, history, task
 use Rattle.gate_world.specs.declared.{config.Config.Config, views.View.View, work.Phase.Phase}
 use Rattle.gate_steps.specs.{Seating.{NoneOf}, call_events.Spans.{own_entries}}
 
--- the entries of a number in two lists, one after the other
+-- the transitions of a number in two lists, one after the other
 pub own_more : (n : ℕ) (a b : List Entry) → own_entries n (a ++ b) ≡ own_entries n a ++ own_entries n b
 own_more n [] b = refl
 own_more n (e ∷ a) b =
@@ -55,7 +55,7 @@ history_append c (e ∷ a) b w earlier = history_append c a b (happens c w e) _
 pub actions_append : (c : Config) (a b : List Entry) → actions_so_far c (a ++ b) ≡ actions_since c a b ++ actions_so_far c a
 actions_append c a b = history_append c a b opening [] ∙ history_on c (run c opening a) (history c opening [] a) b
 
--- the worlds of a schedule with one entry more
+-- the states of a schedule with one transition more
 pub trail_more : (c : Config) (earlier : List World) (w : World) (es : List Entry) (e : Entry) →
     trail c earlier w (es ++ e ∷ []) ≡ happens c (run c w es) e ∷ trail c earlier w es
 trail_more c earlier w [] e = refl
@@ -75,7 +75,7 @@ pub idle_since : (c : Config) (n : ℕ) (es : List Entry) → ((world_after c es
 idle_since c n es idle =
     let ends = trail_ends c [] opening es in ap (since_begun n) ends.1 ∙ none_begun n (world_after c es) ends.0 idle
 
--- Worlds since a number began its operation, in a schedule that goes on while the operation does
+-- States since a number began its operation, in a schedule that goes on while the operation does
 module _ (c : Config) (n : ℕ) (start : World) (phase : Phase) where
   pub one_since : (es since : List Entry) (e : Entry) → since_begun n (trail_of c es) ≡ trail c [] start since →
       run c start since ≡ world_after c es → ((happens c (world_after c es) e).views n).phase ≡ Some phase →

@@ -1,4 +1,4 @@
--- An operation that goes on after an event, at the phase that comes next.
+-- An operation that goes on after a step, at the phase that comes next.
 use Rattle.std.proofs.Common.{arith, ◌≡◌, ◌⊎◌, ap, ℕ, ◌<◌, Bool, List, subst}
 use Rattle.gate_steps.specs.{declared.seating.Knowledge.{Knowledge}, Seating.{DealtNumbers}}
 use Rattle.gate_steps.specs.call_events.{Runs.{OpUnderWay, OpAfterStep, Called, IsTrying}, Stepped.{Stepped}}
@@ -38,7 +38,7 @@ module _ (c : Config) (within : IsWithin c) (event : Event) (action : Option Act
     (after_step : Stepped phase hook (task_state table c begins (Some phase) items) (step_was event action next)
     (task_state left_table c None (phase_after next) left))
     (further : Phase) (is : phase_after next ≡ Some further) where
-  -- before the event
+  -- before the step
   abbrev before : SeatedTask
   before = task_state table c begins (Some phase) items
 
@@ -52,7 +52,7 @@ module _ (c : Config) (within : IsWithin c) (event : Event) (action : Option Act
       subst (λ (o : Option Phase). OpUnderWay op start (task_state left_table c None o left)) is
       (goes_where op start after next further is (went_so c within op start event action next hook goes after_step))
 
-  -- it still has a most number of events
+  -- it still has a most number of steps
   pub tries_so : IsTrying before → IsTrying (task_state left_table c None (Some further) left)
   tries_so t = record { op = t.op; start = t.start; goes = goes_so t.op t.start t.goes; tries = t.tries }
 

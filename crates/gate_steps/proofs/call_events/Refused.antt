@@ -73,6 +73,6 @@ pub waits_honestly : (c : Config) (t : ℕ) (op : Op) → IsWithin c → (trace 
 waits_honestly c t op within [] follows = tt
 waits_honestly c t op within (e ∷ earlier) follows = (
   honest_wait c op e earlier (state_of_trace c t op (e ∷ earlier)).comes (state_of_trace c t op (e ∷ earlier)).added
-      ((op_keeps c op).tells within t (e ∷ earlier) follows),
+      (((op_keeps c op).traces within).tells t (e ∷ earlier) follows),
   waits_honestly c t op within earlier follows.1,
 )

@@ -81,7 +81,7 @@ module _ (read_only : Bool) where
       OnceFailed (ReconfigureCall read_only) code (failed (ReconfigureCall x.read_only) code at ∷ asks)
   failed_so x code at asks same is = (at, λ i. failed (ReconfigureCall (same i)) code at ∷ is i)
 
-  -- one event more
+  -- one step more
   step_keeps : (x : Remount) (step : RemountStep) (found : ℕ) (hook : HookAnswer) (at : DealtNumbers) (asks : List Ask) →
       x.read_only ≡ read_only → AtStep step asks →
       AtNext (remount_after x step found hook).0 (asks_with (call_at (Remounts (at_remount x step))) at hook asks)

@@ -1,4 +1,4 @@
--- While an operation is under way, a number of whose events none is new has had no entry.
+-- While an operation is under way, a number of whose steps none is new has had no transition.
 use Rattle.std.proofs.Common.{arith, ◌≡◌, ℕ, ◌+◌, ◌<◌, ◌≤◌, List, [], ◌∷◌, ◌++◌, length, ap, ◌∙◌}
 use Rattle.std.specs.Prelude.{Some}
 use Rattle.gate_world.specs.{Worlds.{World, happens, run, task_of}, declared.entries.Entry.{Entry}}
@@ -11,11 +11,11 @@ pub formed_rest : (c : Config) (a b : List Entry) (w : World) → IsWellFormed c
 formed_rest c [] b w formed = formed
 formed_rest c (e ∷ a) b w formed = formed_rest c a b (happens c w e) formed.1
 
--- how many events a number has had
+-- how many steps a number has had
 abbrev events_at : World → ℕ → ℕ
 events_at w n = length (w.views n).events
 
--- no entry takes events away
+-- no transition takes steps away
 entry_grows : (c : Config) (n : ℕ) (w : World) (e : Entry) → events_at w n ≤ events_at (happens c w e) n
 entry_grows c n w e = grind (arith, length)
 
@@ -27,7 +27,7 @@ run_grows c n (e ∷ es) w =
     omega arith
 
 module _ (c : Config) (n : ℕ) (task : n < c.tasks) (phase : Phase) where
-  -- an entry of its own has one more
+  -- a transition of its own has one more
   own_grows : (w : World) (e : Entry) → BeginsIdle w e → (w.views n).phase ≡ Some phase → task_of e ≡ n →
       events_at w n + 1 ≤ events_at (happens c w e) n
   own_grows w e idle at its = grind (arith, length)

@@ -1,4 +1,4 @@
--- An operation, event after event, from its beginning to its reply.
+-- An operation, step after step, from its beginning to its reply.
 use Rattle.gate_world.specs.declared.{entries.Entry.{Entry}, operations.Op.{TheVariants.{Callback}, Op}, config.Config.{Config}}
 use Rattle.gate_world.specs.{declared.{work.Phase.{Phase}, views.{Traced.{Traced}, View.{View}}}, Configs.{IsWithin}}
 use Rattle.gate_world.specs.traces.Snapshots.{completes, last_snapshot}
@@ -32,12 +32,12 @@ entered_items begins (Some p) (x ∷ xs) = numbered x.number (entered x.view beg
 not_entered : (o : Option Phase) (l : DealtNumbers) → entered_items None o l ≡ l
 not_entered o l = grind arith
 
--- an event that begins an operation is one of the numbers that have begun it
+-- a step that begins an operation is one of the numbers that have begun it
 after_entered : (begins : Option Op) (p : Phase) (h : HookAnswer) (found : ℕ) (l : DealtNumbers) →
     items_after None p h found (entered_items begins (Some p) l) ≡ items_after begins p h found l
 after_entered begins p h found l = grind arith
 
--- the event of the phase that stands comes next
+-- the step of the phase that stands comes next
 next_is : (s : Next Phase) (p : Phase) (e : Traced) → phase_after s ≡ Some p → IsEventOf p e → IsNext s e
 next_is s p e is h = grind arith
 
@@ -46,12 +46,12 @@ move_is : (c : Config) (op : Op) (items : DealtNumbers) (earlier : List Traced) 
     phase_after s ≡ Some p → IsMoveOf c op items earlier e seen gone p → IsNextMove c op items earlier e seen gone s
 move_is c op items earlier e seen gone s p is h = grind arith
 
--- what an event found is what its word may hold
+-- what a step found is what its word may hold
 move_holds : (c : Config) (begins : Option Op) (p : Phase) (hook : HookAnswer) (items : DealtNumbers) (found : ℕ)
     (seen gone : List (List Entry)) → HasWitness c begins p hook items found seen gone → ReadIsValid p (next_of p hook).0 found
 move_holds c begins p hook items found seen gone move = grind arith
 
--- an event leaves one history
+-- a step leaves one history
 move_has_history : (c : Config) (begins : Option Op) (p : Phase) (hook : HookAnswer) (items : DealtNumbers) (found : ℕ)
     (seen gone : List (List Entry)) → HasWitness c begins p hook items found seen gone → HaveHistory c (items_after begins p hook found items) gone
 move_has_history c begins p hook [] found seen gone move = absurd move
@@ -65,16 +65,16 @@ move_has_history c begins p hook (x ∷ xs) found seen gone move =
       last = move.leaves;
     }
 
--- what the event of this phase completes
+-- what the step of this phase completes
 pub completed_is : (s : Next Phase) (p : Phase) (earlier : List Traced) (e : Traced) → phase_after s ≡ Some p →
     completed_by s earlier e ≡ completes p earlier e.event.found
 completed_is s p earlier e is = grind arith
 
--- the hook that the event of this phase reads
+-- the hook that the step of this phase reads
 call_is : (s : Next Phase) (p : Phase) → phase_after s ≡ Some p → next_call s ≡ call_at p
 call_is s p is = grind arith
 
--- the course after it
+-- where the operation is after it
 pub course_is : (s : Next Phase) (p : Phase) (added : List Action) (e : Traced) → phase_after s ≡ Some p → trace_state_after s added e ≡
     trace_state_with added (after_of p e.event.found e.hook)
 course_is s p added e is = grind arith
@@ -104,11 +104,11 @@ wait_told x = grind arith
 pub same_wait : (x y : Next Phase) → progress_of x ≡ progress_of y → is_wait x ≡ is_wait y
 same_wait x y same = wait_told x ∙ (ap waits_told same ∙ sym (wait_told y))
 
--- how many events the operation under way has had
+-- how many steps the operation under way has had
 abbrev pub steps_of : SeatedTask → ℕ
 steps_of now = length (own_view (entered_items now.begins now.phase now.items)).trace
 
--- the events that may be left to an operation that has a most number of them
+-- the steps that may be left to an operation that has a most number of them
 abbrev pub events_left : SeatedTask → ℕ
 events_left now = most_events_of_all + 1 - steps_of now
 
@@ -179,11 +179,11 @@ module _ (op : Op) (start now left : SeatedTask) (step : Step) (h : HookAnswer) 
   abbrev p : Phase
   p = goes.going.0
 
-  -- its event
+  -- its step
   did : Stepped p h now step left
   did = after_step p goes.going.1
 
-  -- what the event found
+  -- what the step found
   abbrev found : ℕ
   found = did.found
 
@@ -191,7 +191,7 @@ module _ (op : Op) (start now left : SeatedTask) (step : Step) (h : HookAnswer) 
   abbrev after : Next Phase × Option Action
   after = after_of p (found_by (next_of p h).1 found) h
 
-  -- the event with the hook
+  -- the step with the hook
   abbrev e : Traced
   e = with_hook (event_of (next_of p h).0 (next_of p h).1 found) h
 
@@ -207,7 +207,7 @@ module _ (op : Op) (start now left : SeatedTask) (step : Step) (h : HookAnswer) 
   follows_after : IsTrace c n op trace
   follows_after = (next_is (state_of_trace c n op goes.trace).comes p e stands_there (found, refl, move_holds now.config now.begins p h now.items found now.seen left.seen did.moves), goes.follows)
 
-  -- the course after the event
+  -- where the operation is after the step
   course_here : state_of_trace c n op trace ≡ trace_state_with (state_of_trace c n op goes.trace).added after
   course_here = course_is (state_of_trace c n op goes.trace).comes p (state_of_trace c n op goes.trace).added e stands_there
 
@@ -258,7 +258,7 @@ module _ (op : Op) (start now left : SeatedTask) (step : Step) (h : HookAnswer) 
   begins_then : left.begins ≡ None
   begins_then = ap (λ (s : SeatedTask). s.begins) did.new
 
-  -- each event was a move
+  -- each step was a move
   moves_then : AreMoves c op start.items start.seen trace left.seen
   moves_then =
       let P : Config × Option Op × DealtNumbers → Type 0 = λ z. HasWitness z.0 z.1 p h z.2 found now.seen left.seen in
@@ -271,7 +271,7 @@ module _ (op : Op) (start now left : SeatedTask) (step : Step) (h : HookAnswer) 
   history_then : HaveHistory c left.items left.seen
   history_then = grind (arith, items_after, move_has_history, did)
 
-  -- where it does not reply, it goes on, with this event more
+  -- where it does not reply, it goes on, with this step more
   goes_with_it : ((a : Result Reply GateError) → step.progress ≡ Ended a → ⊥) → (goes : OpUnderWay op start left) × (goes.trace ≡ trace)
   goes_with_it not = (
     record {
@@ -304,14 +304,14 @@ module _ (op : Op) (start now left : SeatedTask) (step : Step) (h : HookAnswer) 
       (may_begin c (is_some start.phase) (held_of (own_view start.items)) op
       goes.admitted).order is)
 
-  -- where it replies, it was done whole, with this event more
+  -- where it replies, it was done whole, with this step more
   ends_with_it : IsWithin c → (a : Result Reply GateError) → step.progress ≡ Ended a →
       (called : Called op start left a) × (called.trace ≡ trace)
   ends_with_it within a is =
       let last : after.0 ≡ Done a = done_is after.0 a (sym progress_then ∙ is) in
       let ends : (state_of_trace c n op trace).comes ≡ Done a = ap (λ (o : TraceState). o.comes) course_here ∙ last in
       let tells : Tells c op trace (Done a) (state_of_trace c n op trace).added =
-      subst (λ s. Tells c op trace s (state_of_trace c n op trace).added) ends ((op_keeps c op).tells within n trace follows_after) in
+      subst (λ s. Tells c op trace s (state_of_trace c n op trace).added) ends (((op_keeps c op).traces within).tells n trace follows_after) in
       let idle : left.phase ≡ None = phase_then ∙ ap (λ s. phase_after s) ends in (
         record {
           trace = trace;
@@ -323,7 +323,7 @@ module _ (op : Op) (start now left : SeatedTask) (step : Step) (h : HookAnswer) 
           honest = tells.1;
           unchanged = unchanged_then a tells.0;
           waits = waits_honestly c n op within trace follows_after;
-          short = (op_keeps c op).short within n trace follows_after;
+          short = ((op_keeps c op).traces within).short n trace follows_after;
           history = history_then;
         },
         refl,
@@ -351,13 +351,13 @@ module _ (op : Op) (start now left : SeatedTask) (step : Step) (h : HookAnswer) 
   asks_then asks is = λ i.
       asks_with (call_is (state_of_trace c n op goes.trace).comes p stands_there i) (sym goes.items i) h (is i)
 
-  -- how many of its events have come to a wait then
+  -- how many of its steps have come to a wait then
   waits_then : (waits : ℕ) → waits_in c n op goes.trace ≡ waits → (next : Next Phase) → step.progress ≡ progress_of next →
       waits_in c n op trace ≡ waits + is_wait next
   waits_then waits is next at = λ i.
       is i + (ap (λ (o : TraceState). is_wait o.comes) course_here ∙ same_wait after.0 next (sym progress_then ∙ at)) i
 
-  -- so it went, by what comes after the event
+  -- so it went, by what comes after the step
   pub went_asking : (asks : List Ask) (waits : ℕ) → asks_of c op start.items goes.trace ≡ asks → waits_in c n op goes.trace ≡ waits →
       IsWithin c → (next : Next Phase) → step.progress ≡ progress_of next →
       OpAfterStepWith (asks_with (call_at p) now.items h asks) waits op start next left
@@ -377,13 +377,13 @@ module _ (op : Op) (start now left : SeatedTask) (step : Step) (h : HookAnswer) 
         ap (waits_in c n op) g.1 ∙ (waits_then waits came (Done a) at ∙ add-zero waits),
       )
 
-  -- and its trace has one event more
+  -- and its trace has one step more
   grown : (begins : Option Op) (o : Option Phase) (l : DealtNumbers) → o ≡ Some p →
       HasWitness now.config begins p h l found now.seen left.seen →
       length (own_view (items_after begins p h found l)).trace ≡ length (own_view (entered_items begins o l)).trace + 1
   grown begins o l is moves = grind arith
 
-  -- so it has had one event more
+  -- so it has had one step more
   one_more : steps_of left ≡ steps_of now + 1
   one_more = grind (arith, length, own_view, begins_then, not_entered, did, grown)
 
@@ -395,19 +395,19 @@ few most trace bounded short small = grind arith
 own_trace : (c : Config) (op : Op) (trace : List Traced) (l : DealtNumbers) → length (own_view (ran_items c op trace l)).trace ≤ length trace
 own_trace c op trace l = grind arith
 
--- an operation that has a most number of events has no more than the most of all
+-- an operation that has a most number of steps has no more than the most of all
 pub few_steps : (op : Op) (start now : SeatedTask) → IsWithin start.config → IsBounded (most_events start.config op) → OpUnderWay op start now →
     steps_of now ≤ most_events_of_all
 few_steps op start now within tries goes =
     let c : Config = start.config in
     let keeps = op_keeps c op in
-    let short = few (most_events c op) goes.trace tries (keeps.short within (own_number start.items) goes.trace goes.follows)
+    let short = few (most_events c op) goes.trace tries ((keeps.traces within).short (own_number start.items) goes.trace goes.follows)
     (keeps.most_small within) in
     let own = own_trace c op goes.trace start.items in
     let same = ap (λ l. length (own_view l).trace) (ran_so_far op start now goes) in
     omega (arith, short, own, same)
 
--- what comes after the event tells whether it goes on
+-- what comes after the step tells whether it goes on
 pub went_on : (op : Op) (start now left : SeatedTask) (step : Step) (hook : HookAnswer) (goes : OpUnderWay op start now)
     (after_step : (p : Phase) → now.phase ≡ Some p → Stepped p hook now step left) → IsWithin start.config →
     (next : Next Phase) → step.progress ≡ progress_of next → OpAfterStep op start next left
@@ -417,7 +417,7 @@ went_on op start now left step hook goes after_step within (Wait q) is =
     goes_further op start now left step hook goes after_step (λ a ended. absurd (let f : ⊥ = cc in f))
 went_on op start now left step hook goes after_step within (Done a) is = ends_there op start now left step hook goes after_step within a is
 
--- fewer events are left after each
+-- fewer steps are left after each
 pub falls : (op : Op) (start now left : SeatedTask) (step : Step) (hook : HookAnswer) (goes : OpUnderWay op start now)
     (after_step : (p : Phase) → now.phase ≡ Some p → Stepped p hook now step left) → IsWithin start.config →
     IsBounded (most_events start.config op) →

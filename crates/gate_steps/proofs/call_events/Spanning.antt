@@ -1,4 +1,4 @@
--- Each event of a call has its moment between call and return.
+-- Each step of a call has its moment between call and return.
 use Rattle.std.proofs.{Common.{◌≡◌, ℕ, List, [], ◌∷◌, ◌++◌, length, refl, sym, ap, ◌∙◌, subst, arith}, lemmas.List.{append_assoc, append-nil}}
 use Rattle.std.specs.Prelude.{Option, Some, None}
 use lib.ListN.{get_elem?}
@@ -18,7 +18,7 @@ use Rattle.gate_steps.proofs.{Dealing.{times-at}, Reaching.{begins_idle}, call_e
 use Rattle.gate_steps.proofs.call_events.Moments.{own_more, own_none, own_one, run_append, run_quiet, idle_since, trail_more, one_since, one_run, more_since}
 use Rattle.gate_steps.proofs.call_events.{Resting.{formed_rest, no_entry}, Running.{course_is}}
 
--- the moment of an event that was a move of a phase, of an operation that was under way with these earlier events
+-- the moment of a step that was a move of a phase, of an operation that was under way with these earlier steps
 happens_after : (c : Config) (op : Op) (earlier : List Traced) (e : Traced) (begins : Option Op) (phase : Phase) (x : Numbered)
     (xs : DealtNumbers) (found : ℕ) (seen gone : List (List Entry)) →
     phase_after (state_of_trace c x.number op earlier).comes ≡ Some phase →
@@ -28,23 +28,23 @@ happens_after : (c : Config) (op : Op) (earlier : List Traced) (e : Traced) (beg
     HappensAfter c x.number op earlier e move.reached.entries
 happens_after c op earlier e begins phase x xs found seen gone comes is move at under_way events = grind arith
 
--- the schedule that an event leaves
+-- the schedule that a step leaves
 leaves_so : (c : Config) (begins : Option Op) (phase : Phase) (hook : HookAnswer) (x : Numbered) (xs : DealtNumbers) (found : ℕ)
     (seen gone : List (List Entry)) (move : StepWitness c begins phase hook x xs found seen gone) →
     gone ≡ (move.reached.entries ++ Steps x.number hook ∷ []) ∷ []
 leaves_so c begins phase hook x xs found seen gone move = move.leaves ∙ ap (λ (l : List Entry). l ∷ []) move.stepped
 
--- the task of the last event has seen all up to it
+-- the task of the last step has seen all up to it
 abbrev IsLast : (c : Config) (items : DealtNumbers) (op : Op) (earlier : List Traced) (e : Traced) (seen gone : List (List Entry)) → Type 0
 IsLast c items op earlier e seen gone = (d : IsEventDuring c items op earlier e seen gone) × (d.rest ≡ [])
 
--- in the world that a schedule leaves, a number's operation stands where these events lead, and it has had no other events since it began with
+-- in the state that a schedule leaves, a number's operation stands where these steps lead, and it has had no other steps since it began with
 -- this view
 abbrev StandsAfter : Config → ℕ → Op → View → List Traced → List Entry → Type 0
 StandsAfter c n op v trace entries = (((world_after c entries).views n).phase ≡ phase_after (state_of_trace c n op trace).comes) ×
     (((world_after c entries).views n).events ≡ events_onto trace v.events)
 
--- the event of a phase that stands leads on from there
+-- the step of a phase that stands leads on from there
 leads_on : (c : Config) (n : ℕ) (op : Op) (earlier : List Traced) (e : Traced) (phase : Phase) (found : ℕ) →
     phase_after (state_of_trace c n op earlier).comes ≡ Some phase →
     e ≡ with_hook (event_of (next_of phase e.hook).0 (next_of phase e.hook).1 found) e.hook →
@@ -54,7 +54,7 @@ leads_on c n op earlier e phase found comes is =
     ap (λ (s : TraceState). phase_after s.comes)
     (sym (course_is (state_of_trace c n op earlier).comes phase (state_of_trace c n op earlier).added e comes))
 
--- where an event's schedule leaves its number
+-- where a step's schedule leaves its number
 stands_after : (c : Config) (op : Op) (earlier : List Traced) (e : Traced) (begins : Option Op) (phase : Phase) (x : Numbered)
     (xs : DealtNumbers) (found : ℕ) (v : View) (seen gone : List (List Entry)) →
     phase_after (state_of_trace c x.number op earlier).comes ≡ Some phase →
@@ -72,7 +72,7 @@ stands_after c op earlier e begins phase x xs found v seen gone comes is had mov
           (λ i. (sym is i).event ∷ had i))),
     )
 
--- the last event, and where it leaves the task's own number
+-- the last step, and where it leaves the task's own number
 abbrev Lasts : (c : Config) (items : DealtNumbers) (op : Op) (earlier : List Traced) (e : Traced) (seen gone : List (List Entry)) → Type 0
 Lasts c items op earlier e seen gone = (last : IsLast c items op earlier e seen gone) ×
     StandsAfter c (own_number items) op (own_view items) (e ∷ earlier) (last.0.entries ++ Steps (own_number items) e.hook ∷ [])
@@ -81,7 +81,7 @@ module _ (c : Config) (op : Op) (x : Numbered) (xs : DealtNumbers) (e : Traced) 
   abbrev n : ℕ
   n = x.number
 
-  -- the first event
+  -- the first step
   first_event : (seen gone : List (List Entry)) → phase_after (state_of_trace c n op []).comes ≡ Some phase →
       e ≡ with_hook (event_of (next_of phase e.hook).0 (next_of phase e.hook).1 found) e.hook →
       StepWitness c (Some op) phase e.hook x xs found seen gone → Lasts c (x ∷ xs) op [] e seen gone
@@ -125,7 +125,7 @@ module _ (c : Config) (op : Op) (x : Numbered) (xs : DealtNumbers) (e : Traced) 
         stands_after c op [] e (Some op) phase x xs found x.view seen gone comes is refl move,
       )
 
-  -- since the event before this one its number has had no entry: it is where that one left it
+  -- since the step before this one its number has had no transition: it is where that one left it
   rests_until : (d : Traced) (ds : List Traced) (v : View) (es gap : List Entry) (saw gone : List (List Entry)) →
       phase_after (state_of_trace c n op (d ∷ ds)).comes ≡ Some phase → v.events ≡ events_onto (d ∷ ds) x.view.events →
       (move : StepWitness c None phase e.hook (numbered n v) xs found saw gone) → move.past.reached.entries ≡ es ++ gap →
@@ -203,7 +203,7 @@ module _ (c : Config) (op : Op) (x : Numbered) (xs : DealtNumbers) (e : Traced) 
         stands_after c op (d ∷ ds) e None phase (numbered n v) xs found x.view saw gone comes is had move,
       )
 
--- the event of this phase, after those before it
+-- the step of this phase, after those before it
 module _ (c : Config) (op : Op) (e : Traced) (phase : Phase) (seen gone : List (List Entry)) where
   move_first : (items : DealtNumbers) (before : List (List Entry)) → before ≡ seen →
       phase_after (state_of_trace c (own_number items) op []).comes ≡ Some phase → IsMoveOf c op items [] e before gone phase →
@@ -237,7 +237,7 @@ comes_next c op items e d ds seen before saw gone (Wait phase) is last stays m =
     move_next c op e phase seen gone items before saw d ds last stays (ap phase_after is) m
 comes_next c op items e d ds seen before saw gone (Done answer) is last stays m = absurd m
 
--- so of the last event of any trace
+-- so of the last step of any trace
 lasts : (c : Config) (op : Op) (items : DealtNumbers) (seen gone : List (List Entry)) (e : Traced) (earlier : List Traced) →
     AreMoves c op items seen (e ∷ earlier) gone → Lasts c items op earlier e seen gone
 lasts c op items seen gone e [] m =
@@ -250,7 +250,7 @@ pub last_event : (c : Config) (op : Op) (items : DealtNumbers) (seen gone : List
     AreMoves c op items seen (e ∷ earlier) gone → (during : IsEventDuring c items op earlier e seen gone) × (during.rest ≡ [])
 last_event c op items seen gone e earlier m = (lasts c op items seen gone e earlier m).0
 
--- what an event leaves goes on from where the one before it did
+-- what a step leaves goes on from where the one before it did
 goes_on_from : (c : Config) (items : DealtNumbers) (op : Op) (earlier : List Traced) (e : Traced) (seen before gone : List (List Entry)) →
     IsEventDuring c items op earlier e seen before → AllGoOn before gone → (last : List Entry) → gone ≡ last ∷ [] →
     IsEventDuring c items op earlier e seen gone
@@ -273,7 +273,7 @@ goes_on_from c items op earlier e seen before gone one all last only_one =
           (on.1 ∙ append_assoc one.entries (Steps n e.hook ∷ one.rest) on.0);
     }
 
--- and of each event before it
+-- and of each step before it
 pub each_event : (c : Config) (op : Op) (items : DealtNumbers) (seen gone : List (List Entry)) (later : List Traced) (e : Traced)
     (earlier : List Traced) → AreMoves c op items seen (later ++ e ∷ earlier) gone → IsEventDuring c items op earlier e seen gone
 each_event c op items seen gone [] e earlier m = (last_event c op items seen gone e earlier m).0

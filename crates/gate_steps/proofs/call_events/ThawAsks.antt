@@ -50,7 +50,7 @@ opening_next : (x : Thaw) (level : ℕ) (next : Next UpWrite) (asks : List Ask) 
     AtNext (after_opening x level next) asks
 opening_next x level next asks is = grind arith
 
--- one event more
+-- one step more
 step_keeps : (x : Thaw) (step : ThawStep) (found : ℕ) (hook : HookAnswer) (at : DealtNumbers) (asks : List Ask) → AtStep step asks →
     AtNext (thaw_after x step found hook).0 (asks_with (call_at (Thaws (at_thaw x step))) at hook asks)
 step_keeps x Locks found hook at asks is =

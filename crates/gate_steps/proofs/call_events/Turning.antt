@@ -1,4 +1,4 @@
--- One event apart from the task: what it leaves of the fields, and which step it was.
+-- One step apart from the task: what it leaves of the fields, and which step of its operation it was.
 use Rattle.gate_world.specs.declared.entries.Entry.{Entry}
 use Rattle.gate_world.specs.{Accesses.{accesses_after, held_in}, Configs.IsWithin, Fits.ActionFits, Views.{phase_after, held_of}, Work.{next_of, after_of}}
 use Rattle.gate_world.specs.declared.{accesses.Accesses.Accesses, config.Config.Config, operations.Op.Op, work.Phase.Phase}
@@ -15,9 +15,9 @@ use Rattle.gate_schedules.proofs.schedules.Phases.{word_placed}
 use Rattle.atomic_table.specs.Seated.{TableId}
 use Rattle.gate_steps.proofs.call_events.{Going.{may_add, ghost_agrees_left, stepped_here}, Running.{went_on, went_asking}}
 
--- before the event: the word is one of the table's, and the number may do the event
+-- before the step: the word is one of the table's, and the number may do the step
 module _ (number : ℕ) (c : Config) (begins : Option Op) (phase : Phase) (accesses : Accesses) (flags : List Bool) (hook : HookAnswer) where
-  -- the word of the event is one of the table's
+  -- the word of the step is one of the table's
   word_inside : (l : DealtNumbers) → GhostAgrees number c begins (state_at (Some phase) accesses) flags l → place (next_of phase hook).0 < words_in_all
   word_inside l t = grind (arith, word_placed, held_of)
 
@@ -32,7 +32,7 @@ module _ (c key : Config) (same_key : key ≡ c) (begins : Option Op) (phase : P
   pub acts_so : OwnNumberMayStep key begins phase items
   acts_so = grind arith
 
-  -- what the event adds can be done on the accesses
+  -- what the step adds can be done on the accesses
   pub adds_so : (found : ℕ) (event : Event) → event ≡ event_of (next_of phase hook).0 (next_of phase hook).1 found →
       (done : Next Phase × Option Action) → done ≡ after_of phase event.found hook → ActionFits (held_in accesses) done.1
   adds_so found event event_is done done_is =
@@ -53,7 +53,7 @@ module _ (c key : Config) (same_key : key ≡ c) (begins : Option Op) (phase : P
       done done_is
       (progress_of done.0, phase_after done.0) refl accesses_left accesses_is left left_is
 
-  -- the event was a step
+  -- the step was one of the operation
   pub stepped_so : (number : ℕ) (flags : List Bool) → GhostAgrees number c begins (state_at (Some phase) accesses) flags items →
       (seen gone : List (List Entry)) → HasWitness key begins phase hook items found seen gone → (table before : TableId) → table ≡ before →
       Stepped phase hook (task_state before c begins (Some phase) (knows items seen)) (step_was event done.1 done.0)
@@ -81,7 +81,7 @@ went_so c within op start event action next hook {table} {left_table} {begins} {
     (λ p is. subst (λ (q : Phase). Stepped q hook now step after) (let same : phase ≡ p = cc in same) after_step)
     (subst IsWithin goes.config within) next refl
 
--- and which hooks it has asked, and how many of its events came to a wait
+-- and which hooks it has asked, and how many of its steps came to a wait
 pub went_with_so : (c : Config) → IsWithin c → (op : Op) (start : SeatedTask) (event : Event) (action : Option Action) (next : Next Phase)
     (hook : HookAnswer) (asks : List Ask) (waits : ℕ)
     {table left_table : TableId} {begins : Option Op} {phase : Phase} {items left : Knowledge} →

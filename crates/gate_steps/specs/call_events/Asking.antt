@@ -34,7 +34,7 @@ call_of phase UnfreezeFs = UnfreezeCall
 call_of phase Reconfigure = ReconfigureCall (state_at phase)
 call_of phase KeepWaiting = KeepWaitingCall (level_at phase)
 
--- the hook whose answer the next event of a phase reads, with what it is asked
+-- the hook whose answer the next step of a phase reads, with what it is asked
 abbrev pub call_at : Phase → Option HookCall
 call_at phase = option_map (call_of phase) (hook_of phase)
 
@@ -55,7 +55,7 @@ abbrev pub asks_with : Option HookCall → DealtNumbers → HookAnswer → List 
 asks_with None at answer earlier = earlier
 asks_with (Some call) at answer earlier = record { call = call; at = at; answer = answer } ∷ earlier
 
--- The hooks whose answers the events of a trace read, the newest first: each was asked where the events before had led, with the answer that
+-- The hooks whose answers the steps of a trace read, the newest first: each was asked where the steps before had led, with the answer that
 -- stands in the trace.
 abbrev pub asks_of : Config → Op → DealtNumbers → List Traced → List Ask
 asks_of c op items [] = []
@@ -67,7 +67,7 @@ abbrev pub WereAsked : {H : Type 0} → (HookCall → DealtNumbers → H → Hoo
 WereAsked {H} answers [] old new = new ≡ old
 WereAsked {H} answers (a ∷ earlier) old new = (mid : H) × WereAsked answers earlier old mid × answers a.call a.at mid a.answer new
 
--- an operation under way, of whose events these read an answer, and so many came to a wait
+-- an operation under way, of whose steps these read an answer, and so many came to a wait
 abbrev pub OpUnderWayWith : List Ask → ℕ → Op → SeatedTask → SeatedTask → Type 0
 OpUnderWayWith asks waits op start now = (goes : OpUnderWay op start now) × (asks_of start.config op start.items goes.trace ≡ asks)
     × (waits_in start.config (own_number start.items) op goes.trace ≡ waits)
@@ -78,32 +78,32 @@ CalledWith asks waits op start left answer = (called : Called op start left answ
     × (asks_of start.config op start.items called.trace ≡ asks)
     × (waits_in start.config (own_number start.items) op called.trace ≡ waits)
 
--- the same by what comes after the last event, before which so many came to a wait
+-- the same by what comes after the last step, before which so many came to a wait
 abbrev pub OpAfterStepWith : List Ask → ℕ → Op → SeatedTask → Next Phase → SeatedTask → Type 0
 OpAfterStepWith asks waits op start (Go phase) now = OpUnderWayWith asks waits op start now
 OpAfterStepWith asks waits op start (Wait phase) now = OpUnderWayWith asks (waits + 1) op start now
 OpAfterStepWith asks waits op start (Done answer) now = CalledWith asks waits op start now answer
 
--- an operation under way, which has asked just the hooks whose answers its events read
+-- an operation under way, which has asked just the hooks whose answers its steps read
 abbrev pub OpUnderWayAsking : {H : Type 0} → (HookCall → DealtNumbers → H → HookAnswer → H → Type 0) → ℕ → Op → SeatedTask → H → SeatedTask → H → Type 0
 OpUnderWayAsking answers waits op start before now hooks =
     (asks : List Ask) × OpUnderWayWith asks waits op start now × WereAsked answers asks before hooks
 
--- the same by what comes after the last event
+-- the same by what comes after the last step
 abbrev pub OpAfterStepAsking : {H : Type 0} → (HookCall → DealtNumbers → H → HookAnswer → H → Type 0) → ℕ → Op → SeatedTask → H → Next Phase →
     SeatedTask → H → Type 0
 OpAfterStepAsking answers waits op start before next now hooks =
     (asks : List Ask) × OpAfterStepWith asks waits op start next now × WereAsked answers asks before hooks
 
--- one that was done whole, has asked just these, and tells how many of its events came to a wait
+-- one that was done whole, has asked just these, and tells how many of its steps came to a wait
 abbrev pub CalledAsking : {H : Type 0} → (HookCall → DealtNumbers → H → HookAnswer → H → Type 0) → Op → SeatedTask → H → SeatedTask →
     Result Reply GateError → ℕ → H → Type 0
 CalledAsking answers op start before left answer waited hooks =
     (called : Called op start left answer) × WereAsked answers (asks_of start.config op start.items called.trace) before hooks
     × (waited ≡ counted (waits_in start.config (own_number start.items) op called.trace))
 
--- A call that asks hooks. Where its beginning is refused, none is asked; else just those are whose answers the events of its trace read, each
--- once, in their order, where the events before had led, with the answer that stands in the trace.
+-- A call that asks hooks. Where its beginning is refused, none is asked; else just those are whose answers the steps of its trace read, each
+-- once, in their order, where the steps before had led, with the answer that stands in the trace.
 pub record RepliesAsking {A H : Type 0} (answers : HookCall → DealtNumbers → H → HookAnswer → H → Type 0) (read : Reply → A) (op : Op)
     (old left : SeatedTask) (outcome : Result A GateError) (before hooks : H) : Type 0 where
   pub replies : Replies read op old left outcome

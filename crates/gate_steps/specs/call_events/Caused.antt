@@ -6,9 +6,9 @@ use Rattle.gate_world.specs.{refusals.Causes.{HasCause, since_begun, trail_of}, 
 use Rattle.gate_world.specs.{Views.{with_hook}, Work.{next_of, after_of}, Worlds.{found_at}, declared.entries.Entry.{Entry}}
 use Rattle.gate_world.specs.declared.{config.Config.{Config}, operations.Op.{Op}, views.Traced.{Traced}, work.Phase.{Phase}}
 
--- A schedule ends right before the event with which an operation of this number is refused. In its world the operation is under way, with just
--- these earlier events; the event finds there what it says that it found, and ends the operation with this refusal; and that has its cause
--- among the worlds of the schedule since the operation began.
+-- A schedule ends right before the step with which an operation of this number is refused. In its state the operation is under way, with just
+-- these earlier steps; the step finds there what it says that it found, and ends the operation with this refusal; and that has its cause
+-- among the states of the schedule since the operation began.
 pub record IsCausedBy (c : Config) (t : ℕ) (op : Op) (earlier : List Traced) (last : Traced) (refusal : GateError) : Type 0 where
   pub within : IsWithin c
   pub task : t < c.tasks

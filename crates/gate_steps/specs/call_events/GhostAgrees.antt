@@ -6,7 +6,7 @@ use Rattle.gate_schedules.specs.{TaskStates.{task_holdings}, declared.task_state
 use Rattle.gate_steps.specs.{Seating.{DealtNumbers, NumberMayStep, times}, declared.seating.Numbered.Numbered}
 use Rattle.gate_steps.specs.call_events.SeatedTasks.{Empty}
 
--- the view stands where the task does: no operation is under way in either, or the task may do the event of its phase
+-- the view stands where the task does: no operation is under way in either, or the task may do the step of its phase
 abbrev pub PhaseOk : Config → Option Op → Option Phase → Numbered → Type 0
 PhaseOk c begins None x = (begins ≡ None) × (x.view.phase ≡ None)
 PhaseOk c begins (Some phase) x = NumberMayStep c begins phase x

@@ -40,7 +40,7 @@ pub record Led (gates : GateWords) (begins : Option Op) (next : Next Phase) (acc
       OpAfterStepWith asks waits op start next (seated_at gates begins next seat) →
       OpAfterStepWith asks waits op start further (seated_at gates None further left)
 
--- Steps that may ask hooks, likewise: whichever operation has gone there, and has asked just the hooks whose answers its steps read, has come
+-- Steps that may ask hooks: whichever operation has gone there, and has asked just the hooks whose answers its steps read, has come
 -- here, and has asked just those.
 pub record LedAsking {H : Type 0} (answers : HookCall → DealtNumbers → H → HookAnswer → H → Type 0) (gates : GateWords) (begins : Option Op)
     (next : Next Phase) (accesses : Accesses) (seat : TaskSeat) (hooks : H) (further : Next Phase) (accesses_left : Accesses)

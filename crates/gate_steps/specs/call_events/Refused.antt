@@ -26,7 +26,7 @@ IsHonestWait c op trace (Go phase) = Unit {0}
 IsHonestWait c op trace (Wait phase) = MayWait c op trace
 IsHonestWait c op trace (Done answer) = Unit {0}
 
--- so it does after each event
+-- so it does after each step
 abbrev pub WaitsHonestly : Config → ℕ → Op → List Traced → Type 0
 WaitsHonestly c t op [] = Unit {0}
 WaitsHonestly c t op (e ∷ earlier) =

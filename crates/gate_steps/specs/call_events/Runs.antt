@@ -13,18 +13,18 @@ use Rattle.gate_steps.specs.Seating.{DealtNumbers, numbered, HaveHistory, done_b
 use Rattle.gate_steps.specs.call_events.{Grown.{StaySeen}, Refused.{IsUnchangedBy, WaitsHonestly}, SeatedTasks.{SeatedTask, own_number, own_view, refusal_at}}
 use Rattle.gate_schedules.specs.declared.steps.Progress.{Progress, TheVariants.{Idle, Going, Waiting, Done as Ended}}
 
--- the events of a trace before earlier ones, the newest first
+-- the steps of a trace before earlier ones, the newest first
 abbrev pub events_onto : List Traced → List Event → List Event
 events_onto [] earlier = earlier
 events_onto (e ∷ es) earlier = e.event ∷ events_onto es earlier
 
--- what the snapshot has loaded that an event completes, of an operation that stood there after these events
+-- what the snapshot has loaded that a step completes, of an operation that stood there after these steps
 abbrev pub completed_by : Next Phase → List Traced → Traced → Option TreeWords
 completed_by (Go phase) earlier e = completes phase earlier e.event.found
 completed_by (Wait phase) earlier e = completes phase earlier e.event.found
 completed_by (Done answer) earlier e = None
 
--- the last snapshot of a number that began an operation with this view, after these events of it, the newest first, where each other
+-- the last snapshot of a number that began an operation with this view, after these steps of it, the newest first, where each other
 -- number of its task has done so many actions
 abbrev pub ran_snapshot : Config → ℕ → Op → List (ℕ × ℕ) → List Traced → View → Option Snapshot
 ran_snapshot c t op others [] v = v.snapshot
@@ -49,36 +49,36 @@ abbrev pub ran_items : Config → Op → List Traced → DealtNumbers → DealtN
 ran_items c op trace [] = []
 ran_items c op trace (x ∷ xs) = numbered x.number (ran_view c x.number op (done_by xs) trace x.view) ∷ xs
 
--- the operation that begins with the next event
+-- the operation that begins with the next step
 abbrev pub begins_at : Op → List Traced → Option Op
 begins_at op [] = Some op
 begins_at op (e ∷ earlier) = None
 
--- the numbers as they stand before the next event
+-- the numbers as they stand before the next step
 abbrev pub items_at : Config → Op → List Traced → DealtNumbers → DealtNumbers
 items_at c op [] items = items
 items_at c op (e ∷ earlier) items = ran_items c op (e ∷ earlier) items
 
--- the event was one of this phase in a world that the rule holds of, in which the numbers have their views, and it moved the shown model
+-- the step was one of this phase in a state that the invariant holds of, in which the numbers have their views, and it moved the shown state
 -- by its action
 abbrev pub IsMoveOf : Config → Op → DealtNumbers → List Traced → Traced → List (List Entry) → List (List Entry) → Phase → Type 0
 IsMoveOf c op items earlier e seen left phase =
     (found : ℕ) × (e ≡ with_hook (event_of (next_of phase e.hook).0 (next_of phase e.hook).1 found) e.hook)
     × HasWitness c (begins_at op earlier) phase e.hook (items_at c op earlier items) found seen left
 
--- the event was such a move of the phase that comes next
+-- the step was such a move of the phase that comes next
 abbrev pub IsNextMove : Config → Op → DealtNumbers → List Traced → Traced → List (List Entry) → List (List Entry) → Next Phase → Type 0
 IsNextMove c op items earlier e seen left (Go phase) = IsMoveOf c op items earlier e seen left phase
 IsNextMove c op items earlier e seen left (Wait phase) = IsMoveOf c op items earlier e seen left phase
 IsNextMove c op items earlier e seen left (Done answer) = ⊥
 
--- After an event a task may see more before the next one: it met another task, or took in a receipt. What it had seen stays seen. Before its
--- first event an operation begins from just what was seen.
+-- After a step a task may see more before the next one: it met another task, or took in a receipt. What it had seen stays seen. Before its
+-- first step an operation begins from just what was seen.
 abbrev pub SeesOn : List Traced → List (List Entry) → List (List Entry) → Type 0
 SeesOn [] before now = now ≡ before
 SeesOn (e ∷ earlier) before now = StaySeen before now
 
--- Each event was such a move of the phase that came next before it, from what the task had seen then. That goes on from what the event before
+-- Each step was such a move of the phase that came next before it, from what the task had seen then. That goes on from what the step before
 -- left, and the first from what the task had seen: so each one's schedule goes on from that of the one before.
 abbrev pub AreMoves : Config → Op → DealtNumbers → List (List Entry) → List Traced → List (List Entry) → Type 0
 AreMoves c op items seen [] left = left ≡ seen
@@ -91,7 +91,7 @@ abbrev pub AreMovesSoFar : Config → Op → DealtNumbers → List (List Entry) 
 AreMovesSoFar c op items seen trace now =
     (before : List (List Entry)) × SeesOn trace before now × AreMoves c op items seen trace before
 
--- an operation that has a most number of events
+-- an operation that has a most number of steps
 abbrev pub IsBounded : Option ℕ → Type 0
 IsBounded None = ⊥
 IsBounded (Some most) = Unit {0}
@@ -124,10 +124,10 @@ abbrev pub IsRanReply : Reply → Type 0
 IsRanReply (Ran ran) = Unit {0}
 IsRanReply reply = ⊥
 
--- One whole operation. Its events are a trace of it that ends in this answer. The own view has done just these events and their
--- actions, and nothing else of the task changed. Each event was a move in a world that the rule holds of. So it has added exactly the
+-- One whole operation. Its steps are a trace of it that ends in this answer. The own view has done just these steps and their
+-- actions, and nothing else of the task changed. Each step was a move in a state that the invariant holds of. So it has added exactly the
 -- operation's actions, a refusal has its cause in the trace and leaves all unchanged, it waits only where it may, and where the operation has
--- a most number of events, they are no more. What it leaves has one history, in which each last snapshot has its moment.
+-- a most number of steps, they are no more. What it leaves has one history, in which each last snapshot has its moment.
 pub record Called (op : Op) (old left : SeatedTask) (answer : Result Reply GateError) : Type 0 where
   pub trace : List Traced
   pub follows : IsTrace old.config (own_number old.items) op trace
@@ -152,7 +152,7 @@ pub record Replies {A : Type 0} (read : Reply → A) (op : Op) (old left : Seate
 abbrev pub Performs : Op → SeatedTask → SeatedTask → Result (Unit {0}) GateError → Type 0
 Performs op old left outcome = Replies unit_of op old left outcome
 
--- an operation under way, after these events
+-- an operation under way, after these steps
 pub record OpUnderWay (op : Op) (start now : SeatedTask) : Type 0 where
   pub trace : List Traced
   pub admitted : refusal_at op start ≡ None
@@ -165,7 +165,7 @@ pub record OpUnderWay (op : Op) (start now : SeatedTask) : Type 0 where
   pub items : now.items ≡ items_at start.config op trace start.items
   pub moves : AreMovesSoFar start.config op start.items start.seen trace now.seen
 
--- what comes after the last event: it goes on, or it was done whole
+-- what comes after the last step: it goes on, or it was done whole
 abbrev pub OpAfterStep : Op → SeatedTask → Next Phase → SeatedTask → Type 0
 OpAfterStep op start (Go phase) now = OpUnderWay op start now
 OpAfterStep op start (Wait phase) now = OpUnderWay op start now
@@ -178,7 +178,7 @@ ProgressMatches op start Going now = OpUnderWay op start now
 ProgressMatches op start Waiting now = (goes : OpUnderWay op start now) × MayWait start.config op goes.trace
 ProgressMatches op start (Ended answer) now = Called op start now answer
 
--- some operation that has a most number of events is under way here
+-- some operation that has a most number of steps is under way here
 pub record IsTrying (now : SeatedTask) : Type 0 where
   pub op : Op
   pub start : SeatedTask

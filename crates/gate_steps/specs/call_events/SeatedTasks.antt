@@ -7,7 +7,7 @@ use Rattle.gate_world.specs.declared.{accesses.Accesses.Accesses, config.Config.
 use Rattle.gate_world.specs.declared.entries.Entry.{Entry}
 use Rattle.gate_steps.specs.{Seating.{DealtNumbers}, declared.seating.Knowledge.{Knowledge}}
 
--- the table, the configuration, the operation that has begun and has had no event, the phase of the operation under way, and the
+-- the table, the configuration, the operation that has begun and has had no step, the phase of the operation under way, and the
 -- numbers with their views, its own first, and the schedules that it has seen
 pub record SeatedTask : Type 0 where
   pub table : TableId

@@ -1,4 +1,4 @@
--- Calls in the order of time: where the events of a call stand in a schedule that goes on from all that its task had seen.
+-- Calls in the order of time: where the steps of a call stand in a schedule that goes on from all that its task had seen.
 use Rattle.std.specs.Prelude.{◌≡◌, ◌==◌, ℕ, ◌<◌, if◌then◌else◌, None, Some, Err, List, [], ◌∷◌, ◌++◌}
 use mathlib.Core.Option.{some}
 use lib.ListN.{get_elem?}
@@ -14,21 +14,21 @@ use Rattle.gate_world.specs.declared.{config.Config.Config, operations.Op.Op, vi
 use Rattle.gate_steps.specs.{Seating.{DealtNumbers, IsPrefix, HasRested}, declared.seating.Numbered.{Numbered}}
 use Rattle.gate_steps.specs.call_events.SeatedTasks.{own_number}
 
--- the entries of this number among these
+-- the transitions of this number among these
 abbrev pub own_entries : ℕ → List Entry → List Entry
 own_entries n [] = []
 own_entries n (e ∷ es) = if task_of e == n then e ∷ own_entries n es else own_entries n es
 
--- the entries of these events, the oldest first: a trace has the newest first
+-- the transitions of these steps, the oldest first: a trace has the newest first
 abbrev pub steps_of : ℕ → List Traced → List Entry
 steps_of n [] = []
 steps_of n (e ∷ earlier) = steps_of n earlier ++ Steps n e.hook ∷ []
 
--- the worlds of a schedule since this number began an operation, the newest first: after that beginning, and after each entry since
+-- the states of a schedule since this number began an operation, the newest first: after that beginning, and after each transition since
 abbrev pub worlds_since : Config → List Entry → ℕ → Op → List Entry → List World
 worlds_since c began n op since = trail c [] (world_after c (began ++ Begins n op ∷ [])) since
 
--- A schedule goes on from all that a task had seen. The task's own number has no entry behind one of these and is idle, and each of its numbers
+-- A schedule goes on from all that a task had seen. The task's own number has no transition behind one of these and is idle, and each of its numbers
 -- has done just what the task knew.
 pub record GoesOnFromSeen (c : Config) (items : DealtNumbers) (seen : List (List Entry)) (began : List Entry) : Type 0 where
   pub saw : (k : ℕ) (earlier : List Entry) → get_elem? seen k ≡ some earlier → IsPrefix earlier began
@@ -36,7 +36,7 @@ pub record GoesOnFromSeen (c : Config) (items : DealtNumbers) (seen : List (List
   pub idle : ((world_after c began).views (own_number items)).phase ≡ None
   pub lists : (k : ℕ) (x : Numbered) → get_elem? items k ≡ some x → ((world_after c began).views x.number).actions ≡ x.view.actions
 
--- An event of a call happens right after this schedule: in its world the operation is under way with just the earlier events, and the event
+-- A step of a call happens right after this schedule: in its state the operation is under way with just the earlier steps, and the step
 -- finds there what it says that it found.
 pub record HappensAfter (c : Config) (n : ℕ) (op : Op) (earlier : List Traced) (e : Traced) (entries : List Entry) : Type 0 where
   pub phase : Phase
@@ -47,9 +47,9 @@ pub record HappensAfter (c : Config) (n : ℕ) (op : Op) (earlier : List Traced)
   pub finds : e ≡ with_hook (event_of (next_of phase e.hook).0 (next_of phase e.hook).1
       (found_at (world_after c entries).words phase e.hook)) e.hook
 
--- An event of a call has its moment between call and return. The call began after a schedule that goes on from all that its task had seen. From
--- there to the event the task has no entry but the beginning and the call's earlier events; the worlds in between are those since the task
--- began the operation, as the causes of refusals speak of them. And the schedule with which the call returns goes on from the event.
+-- A step of a call has its moment between call and return. The call began after a schedule that goes on from all that its task had seen. From
+-- there to the step the task has no transition but the beginning and the call's earlier steps; the states in between are those since the task
+-- began the operation, as the causes of refusals speak of them. And the schedule with which the call returns goes on from the step.
 pub record IsEventDuring (c : Config) (items : DealtNumbers) (op : Op) (earlier : List Traced) (e : Traced)
     (seen left : List (List Entry)) : Type 0 where
   pub within : IsWithin c
@@ -65,7 +65,7 @@ pub record IsEventDuring (c : Config) (items : DealtNumbers) (op : Op) (earlier 
   pub rest : List Entry
   pub leaves : left ≡ (entries ++ Steps (own_number items) e.hook ∷ rest) ∷ []
 
--- A refusal has its cause between call and return: among the worlds from the call's beginning to its last event, with which it returns.
+-- A refusal has its cause between call and return: among the states from the call's beginning to its last step, with which it returns.
 pub record IsCausedDuring (c : Config) (items : DealtNumbers) (op : Op) (earlier : List Traced) (last : Traced) (refusal : GateError)
     (seen left : List (List Entry)) : Type 0 where
   pub during : IsEventDuring c items op earlier last seen left
@@ -87,7 +87,7 @@ pub record IsTreeDuring (c : Config) (items : DealtNumbers) (op : Op) (seen left
   pub tree : IsPresentTree c (world_after c during.entries).words loaded
 
 -- A whole call takes effect between call and return. It began after a schedule that goes on from all that its task had seen, and returns with
--- one that goes on from there, in which its task has no other entry than the beginning and the call's events, each once and in their order. The
+-- one that goes on from there, in which its task has no other transition than the beginning and the call's steps, each once and in their order. The
 -- actions of the history that it leaves are, the newest first, those that were added since it began, and then all that stood there when it did,
 -- among which is all that each of its numbers had done; and its own among those added since are exactly the call's.
 pub record TakesEffect (c : Config) (items : DealtNumbers) (op : Op) (trace : List Traced) (seen left : List (List Entry))

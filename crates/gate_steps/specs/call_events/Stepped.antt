@@ -6,7 +6,7 @@ use Rattle.cpu_words.specs.{Hooks.{HookAnswer}, Touches.{found_by, event_of}}
 use Rattle.gate_schedules.specs.{declared.steps.Step.{Step}, Answers.{progress_of, phase_step}}
 use Rattle.gate_steps.specs.{Seating.{DealtNumbers, items_after, HasWitness}, call_events.SeatedTasks.{SeatedTask}}
 
--- the step of the event of a phase that found this
+-- the step of a phase that found this
 abbrev pub found_step : Phase → HookAnswer → ℕ → Step
 found_step phase hook found = record {
   event = Some (event_of (next_of phase hook).0 (next_of phase hook).1 found);
@@ -23,14 +23,14 @@ state_after old phase hook found seen = record old {
   seen = seen;
 }
 
--- the step is the one that the phase has in the world of this event
+-- the step is the one that the phase has in this state
 abbrev pub ToldIn : (c : Config) (begins : Option Op) (phase : Phase) (hook : HookAnswer) (found : ℕ) (items : DealtNumbers)
     (seen left : List (List Entry)) → HasWitness c begins phase hook items found seen left → Step → Type 0
 ToldIn c begins phase hook found [] seen left move step = ⊥
 ToldIn c begins phase hook found (x ∷ xs) seen left move step = step ≡ phase_step move.world hook (Some phase)
 
--- One event of the task's own number, which found something in a world that the rule holds of, before it and after it. The step is the
--- one that the phase has in that world.
+-- One step of the task's own number, which found something in a state that the invariant holds of, before it and after it. The step is the
+-- one that the phase has in that state.
 pub record Stepped (phase : Phase) (hook : HookAnswer) (old : SeatedTask) (done : Step) (left : SeatedTask) : Type 0 where
   pub found : ℕ
   pub step : done ≡ found_step phase hook found

@@ -1,4 +1,4 @@
--- What one event leaves of a task's fields, apart from the task.
+-- What one step leaves of a task's fields, apart from the task.
 use Rattle.std.specs.Prelude.{ℕ, Bool, Option, Some, None, List}
 use Rattle.access_model.specs.{declared.{actions.Action.{Action}, replies.Next.{Next}}, Replies.{map_next}}
 use Rattle.cpu_words.specs.declared.events.Event.{Event}
@@ -26,7 +26,7 @@ AgreesAfter c begins phase accesses items left accesses_left items_left =
     (number : ℕ) (flags : List Bool) → GhostAgrees number c begins (state_at phase accesses) flags items →
     GhostAgrees number c None (state_at left accesses_left) flags items_left
 
--- the step that an event was
+-- the step that was done
 abbrev pub step_was : Event → Option Action → Next Phase → Step
 step_was event action next = record { event = Some event; action = action; progress = progress_of next }
 

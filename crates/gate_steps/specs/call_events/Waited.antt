@@ -1,4 +1,4 @@
--- How often an operation comes to a wait: how many of its events found what it waits for.
+-- How often an operation comes to a wait: how many of its steps found what it waits for.
 use Rattle.std.specs.Prelude.{◌≡◌, ℕ, ◌+◌, Option, Some, None, Result, List, [], ◌∷◌}
 use Rattle.access_model.specs.declared.{errors.GateError.{GateError}, replies.{Next.{Next, TheVariants.{Go, Wait, Done}}, Reply.{Reply}}}
 use Rattle.gate_steps.specs.Seating.{DealtNumbers}
@@ -7,12 +7,12 @@ use Rattle.gate_world.specs.traces.TraceStates.{state_of_trace}
 pub use Rattle.gate_world.specs.Counted.{counted}
 use Rattle.gate_steps.specs.call_events.{Runs.{Called, OpUnderWay}, SeatedTasks.{SeatedTask, own_number, own_view}}
 
--- 1 where an event came to a wait
+-- 1 where a step came to a wait
 abbrev pub is_wait : Next Phase → ℕ
 is_wait (Wait phase) = 1
 is_wait next = 0
 
--- how many events of a trace did
+-- how many steps of a trace did
 abbrev pub waits_in : Config → ℕ → Op → List Traced → ℕ
 waits_in c t op [] = 0
 waits_in c t op (e ∷ earlier) = waits_in c t op earlier + is_wait (state_of_trace c t op (e ∷ earlier)).comes
@@ -33,7 +33,7 @@ waited_of c items = counted (waits_of c (own_number items) (own_view items))
 abbrev pub waited_at : SeatedTask → ℕ
 waited_at s = waited_of s.config s.items
 
--- an operation under way, of whose events so many came to a wait
+-- an operation under way, of whose steps so many came to a wait
 abbrev pub OpUnderWayWaiting : ℕ → Op → SeatedTask → SeatedTask → Type 0
 OpUnderWayWaiting waits op start now =
     (goes : OpUnderWay op start now) × (waits_in start.config (own_number start.items) op goes.trace ≡ waits)
@@ -43,7 +43,7 @@ abbrev pub CalledWaiting : ℕ → Op → SeatedTask → SeatedTask → Result R
 CalledWaiting waits op start left answer =
     (called : Called op start left answer) × (waits_in start.config (own_number start.items) op called.trace ≡ waits)
 
--- the same by what comes after the last event, before which so many came to one
+-- the same by what comes after the last step, before which so many came to one
 abbrev pub OpAfterStepWaiting : ℕ → Op → SeatedTask → Next Phase → SeatedTask → Type 0
 OpAfterStepWaiting waits op start (Go phase) now = OpUnderWayWaiting waits op start now
 OpAfterStepWaiting waits op start (Wait phase) now = OpUnderWayWaiting (waits + 1) op start now

@@ -13,7 +13,7 @@ pub trait TimedHooks {
     ghost answers: { HookCallType → DealtNumbers → Self → HookAnswer → Self → Type 0 };
 
     /// Asks a hook, by the seat of the task that asks: Ok, or Err with the code of its failure. Nobody has the seat as it stands after an
-    /// event before that event.
+    /// step before that step.
     fn ask(&mut self, call: HookCall, at: &GhostSeat) -> Result<(), u16>
         ensures { answers call at.now.me.0.items self.old result self.new };
 }

@@ -1,5 +1,5 @@
-//! One event of an operation under way, apart from the task that does it: so nothing is written down between two events of a
-//! call, and what is known of the operation lets its events become a straight line of code.
+//! One step of an operation under way, apart from the task that does it: so nothing is written down between two steps of a
+//! call, and what is known of the operation lets its steps become a straight line of code.
 
 ghost use Rattle.std.specs.Prelude.{◌≡◌, ℕ, Some, None, Ok, List};
 ghost use Rattle.access_model.specs.declared.replies.Next.TheVariants.{Go};
@@ -23,9 +23,9 @@ use freeze_levels::HookCall;
 use gate_transitions::PendingOp;
 use gate_world::{Accesses, Op};
 
-/// An event, the action that it added, and what comes after it.
+/// A step, the action that it added, and what comes after it.
 pub struct StepResult<P> {
-    /// The event.
+    /// The step.
     pub event: Event,
     /// The action, where it added one.
     pub action: Option<Action>,
@@ -33,7 +33,7 @@ pub struct StepResult<P> {
     pub next: Next<P>,
 }
 
-/// Does the next event of an operation under way, in one atomic step by the seat, and to the accesses what its action does.
+/// Does the next step of an operation under way, in one atomic step by the seat, and to the accesses what its action does.
 #[inline(always)]
 pub fn do_event<P: PendingOp>(
     gates: &GateWords,
@@ -59,7 +59,7 @@ pub fn do_event<P: PendingOp>(
     }
 }
 
-/// The same for a call that does one event after the other: what comes after it.
+/// Does the next step of an operation whose call does one step after the other, and returns what comes after it.
 #[inline(always)]
 pub fn step_once<P: PendingOp>(
     gates: &GateWords,

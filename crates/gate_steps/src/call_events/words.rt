@@ -45,7 +45,7 @@ impl GateWords {
         Ok((GateWords { table, config }, seat))
     }
 
-    /// The next event of the seat's own number, in one atomic step (`crate::event`).
+    /// The next step of the seat's own number, in one atomic step (`crate::event`).
     #[inline(always)]
     pub(crate) fn event<P: PendingOp>(
         &self,
@@ -66,7 +66,7 @@ impl GateWords {
         crate::event(&self.table.shared, seat, begins, under_way, hook)
     }
 
-    /// The same of an event that is known to touch this word so (`crate::touch`). What it found; of a store, what it wrote.
+    /// The next step of the seat's own number, which is known to touch this word so (`crate::touch`). What it found; of a store, what it wrote.
     #[inline(always)]
     pub(crate) fn touch<P: PendingOp>(
         &self,
@@ -129,7 +129,7 @@ impl GateWords {
         crate::receipt(&self.table.shared, seat)
     }
 
-    /// Lets two seats meet: the numbers of both stand in one world, which both have seen from then on.
+    /// Lets two seats meet: the numbers of both stand in one state, which both have seen from then on.
     pub fn meet(&self, one: &mut GhostSeat, two: &mut GhostSeat)
         requires table { (one.old.table_id ≡ self.now.table.shared.table_id) × (two.old.table_id ≡ self.now.table.shared.table_id) }
         requires slots { (one.old.me.1 ≡ []) × (two.old.me.1 ≡ []) }

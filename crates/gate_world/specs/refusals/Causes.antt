@@ -1,4 +1,4 @@
--- Moments of a schedule: what stood in the world when a refusal's cause was read.
+-- Moments of an execution: what stood in the state when a refusal's cause was read.
 use Rattle.std.specs.Prelude.{◌≡◌, ℕ, ◌<◌, ◌==◌, ◌&&◌, ◌||◌, ◌⊎◌, not, nat_lt, Bool, true, false, if◌then◌else◌, Option, Some, None, is_some, Err, List, []}
 use Rattle.std.specs.Prelude.{◌∷◌}
 use Rattle.finite_sums.specs.Sums.{total}
@@ -33,7 +33,7 @@ use Rattle.gate_world.specs.{Levels.{sync_role_of, is_frozen_whole, at_level}, R
 use Rattle.gate_world.specs.{Worlds.{World, happens, run, opening, found_at}, declared.{entries.Entry.{Entry}, config.Config.{Config}}}
 use Rattle.gate_world.specs.declared.work.Phase.{Phase, TheVariants.{Mounts, Remounts, DownReads, Writes, Freezes, Thaws, Trees, Closes}}
 
--- the worlds of a schedule, the newest first: the one that it leaves, and each that an entry found
+-- the states of an execution, the newest first: the one that it leaves, and each that a transition found
 abbrev pub trail : Config → List World → World → List Entry → List World
 trail c earlier w [] = w ∷ earlier
 trail c earlier w (e ∷ es) = trail c (w ∷ earlier) (happens c w e) es
@@ -42,12 +42,12 @@ trail c earlier w (e ∷ es) = trail c (w ∷ earlier) (happens c w e) es
 abbrev pub trail_of : Config → List Entry → List World
 trail_of c entries = trail c [] opening entries
 
--- of these worlds, the newest first, those since a task began the operation that it is at: before it the task was idle
+-- of these states, the newest first, those since a task began the operation that it is at: before it the task was idle
 abbrev pub since_begun : ℕ → List World → List World
 since_begun t [] = []
 since_begun t (w ∷ earlier) = if is_some (w.views t).phase then w ∷ since_begun t earlier else []
 
--- the next event of a want is one of its questions: whether HOLD is set, and whether the mount is read-only
+-- the next step of a want is one of its questions: whether HOLD is set, and whether the mount is read-only
 abbrev pub want_asks : WantStep → Bool
 want_asks LoadsHold = true
 want_asks LoadsRemount = true
@@ -66,16 +66,16 @@ asks (Some (Mounts (Wants x))) = want_asks x.step
 asks (Some (Writes x)) = write_asks x
 asks phase = false
 
--- the newest of these worlds in which a task is at such a phase
+-- the newest of these states in which a task is at such a phase
 abbrev pub last_where : (Option Phase → Bool) → ℕ → List World → Option World
 last_where is t [] = None
 last_where is t (w ∷ earlier) = if is (w.views t).phase then Some w else last_where is t earlier
 
--- the world in which a task last asked about a mount
+-- the state in which a task last asked about a mount
 abbrev pub last_question : ℕ → List World → Option World
 last_question t worlds = last_where asks t worlds
 
--- the shown model had the mount read-only there
+-- the shown state had the mount read-only there
 abbrev pub was_read_only : Config → ℕ → Option World → Bool
 was_read_only c m None = false
 was_read_only c m (Some w) = (shown c w).mount_ro m || (shown c w).sb_ro
@@ -85,12 +85,12 @@ abbrev pub WasHeld : Config → ℕ → ℕ → Option World → Type 0
 WasHeld c t m None = ⊥
 WasHeld c t m (Some w) = (y : ℕ) × (y < c.tasks) × (y ≡ t → ⊥) × (has_hold (role_of m (w.views y).phase) ≡ 1)
 
--- another task owns `umount` in the newest of these worlds
+-- another task owns `umount` in the newest of these states
 abbrev pub IsTaken : Config → ℕ → List World → Type 0
 IsTaken c t [] = ⊥
 IsTaken c t (w ∷ earlier) = (y : ℕ) × (y < c.tasks) × (y ≡ t → ⊥) × (owns (w.views y).phase ≡ 1)
 
--- the next event of a remount is its load of the stage
+-- the next step of a remount is its load of the stage
 abbrev pub step_looks : RemountStep → Bool
 step_looks LoadsStage = true
 step_looks step = false
@@ -124,16 +124,16 @@ looks_at_stage (Some (Thaws x)) = thaw_looks x.step
 looks_at_stage (Some (Trees phase)) = tree_looks phase
 looks_at_stage phase = false
 
--- the world in which a task last looked at the stage, or at who holds a freeze
+-- the state in which a task last looked at the stage, or at who holds a freeze
 abbrev pub last_look : ℕ → List World → Option World
 last_look t worlds = last_where looks_at_stage t worlds
 
--- the shown model had a stage other than 0 there
+-- the shown state had a stage other than 0 there
 abbrev pub was_frozen : Config → Option World → Bool
 was_frozen c None = false
 was_frozen c (Some w) = not ((shown c w).stage == 0)
 
--- the next event of a remount is a load of `removed`
+-- the next step of a remount is a load of `removed`
 abbrev pub step_counts : RemountStep → Bool
 step_counts LoadsRemoved = true
 step_counts (LoadsRemovedAgain held) = true
@@ -143,7 +143,7 @@ abbrev pub looks_at_removed : Option Phase → Bool
 looks_at_removed (Some (Remounts x)) = step_counts x.step
 looks_at_removed phase = false
 
--- the world in which a task last looked at `removed`
+-- the state in which a task last looked at `removed`
 abbrev pub last_removed : ℕ → List World → Option World
 last_removed t worlds = last_where looks_at_removed t worlds
 
@@ -168,7 +168,7 @@ abbrev pub was_unheld : Config → Holder → Option World → Bool
 was_unheld c holder None = false
 was_unheld c holder (Some w) = not ((shown c w).stage == 4) || not (held_by (shown c w).holders holder)
 
--- the next event of a down-read is its load of `block`
+-- the next step of a down-read is its load of `block`
 abbrev pub read_asks : DownReadStep → Bool
 read_asks LoadsBlock = true
 read_asks step = false
@@ -190,7 +190,7 @@ asks_level (Some (Writes x)) = write_asks_level x
 asks_level (Some (Closes x)) = close_asks_level x
 asks_level phase = false
 
--- the world in which a task last asked whether a level is closed
+-- the state in which a task last asked whether a level is closed
 abbrev pub last_asked : ℕ → List World → Option World
 last_asked t worlds = last_where asks_level t worlds
 
@@ -201,7 +201,7 @@ WasClosed c t i (Some w) =
     (is_frozen_whole w.words ≡ 1) ⊎
     ((y : ℕ) × (y < c.tasks) × (y ≡ t → ⊥) × (closed (sync_role_of i (w.views y).phase) ≡ 1))
 
--- how many words of its sum a change has read, where its next event is a load of a word
+-- how many words of its sum a change has read, where its next step is a load of a word
 abbrev pub step_read : ChangeStep → Option ℕ
 step_read (Sums sum) = Some sum.words
 step_read step = None
@@ -222,25 +222,25 @@ freeze_read (Closes d) = down_write_read d.step
 freeze_read (FreezeWaits d) = down_write_read d.step
 freeze_read step = None
 
--- how many words of a sum are read, where the next event of what a task is at is a load of a word
+-- how many words of a sum are read, where the next step of what a task is at is a load of a word
 abbrev pub words_read : Option Phase → Option ℕ
 words_read (Some (Mounts (Changes x))) = step_read x.step
 words_read (Some (Remounts x)) = remount_read x.step
 words_read (Some (Freezes x)) = freeze_read x.step
 words_read phase = None
 
--- the worlds of a task's last sum: from the one in which its first word was loaded to the newest in which a word was still to be
+-- the states of a task's last sum: from the one in which its first word was loaded to the newest in which a word was still to be
 -- loaded
 abbrev pub sum_worlds : World → Option ℕ → List World → List World
 sum_worlds w None earlier = earlier
 sum_worlds w (Some read) earlier = if read == 0 then w ∷ [] else w ∷ earlier
 
--- these worlds among those of a schedule, the newest first
+-- these states among those of an execution, the newest first
 abbrev pub moments_of_sum : ℕ → List World → List World
 moments_of_sum t [] = []
 moments_of_sum t (w ∷ earlier) = sum_worlds w (words_read (w.views t).phase) (moments_of_sum t earlier)
 
--- the mount of which the next event of a remount loads a count
+-- the mount of which the next step of a remount loads a count
 abbrev pub remount_sums : RemountStep → Option ℕ
 remount_sums (RemountSums m held sum) = Some m
 remount_sums step = None
@@ -249,7 +249,7 @@ abbrev pub mount_summed : Option Phase → Option ℕ
 mount_summed (Some (Remounts x)) = remount_sums x.step
 mount_summed phase = None
 
--- in each of these worlds the next event of a remount is a load of a count of this mount
+-- in each of these states the next step of a remount is a load of a count of this mount
 abbrev pub AreOfMount : ℕ → ℕ → List World → Type 0
 AreOfMount t m [] = Unit {0}
 AreOfMount t m (w ∷ earlier) = (mount_summed (w.views t).phase ≡ Some m) × AreOfMount t m earlier
@@ -258,7 +258,7 @@ AreOfMount t m (w ∷ earlier) = (mount_summed (w.views t).phase ≡ Some m) × 
 abbrev pub all_counted : Config → ℕ → World → ℕ
 all_counted c m w = total c.tasks (λ t. counted (at_mount m (w.views t)))
 
--- something was counted at the mount in one of these worlds
+-- something was counted at the mount in one of these states
 abbrev pub was_counted : Config → ℕ → List World → Bool
 was_counted c m [] = false
 was_counted c m (w ∷ earlier) = nat_lt 0 (all_counted c m w) || was_counted c m earlier
@@ -267,7 +267,7 @@ was_counted c m (w ∷ earlier) = nat_lt 0 (all_counted c m w) || was_counted c 
 abbrev pub all_inside : Config → ℕ → World → ℕ
 all_inside c i w = total c.tasks (λ t. counted_of (level_as_gate (at_level i (w.views t))))
 
--- something was counted at the level in one of these worlds
+-- something was counted at the level in one of these states
 abbrev pub was_inside : Config → ℕ → List World → Bool
 was_inside c i [] = false
 was_inside c i (w ∷ earlier) = nat_lt 0 (all_inside c i w) || was_inside c i earlier
@@ -277,7 +277,7 @@ abbrev pub SomeWasCounted : Config → ℕ → List World → Type 0
 SomeWasCounted c t worlds =
     (m : ℕ) × (m < c.mounts) × AreOfMount t m (moments_of_sum t worlds) × (was_counted c m (moments_of_sum t worlds) ≡ true)
 
--- the node that the next event of a call at the tree loads to see of which kind it is
+-- the node that the next step of a call at the tree loads to see of which kind it is
 abbrev pub create_sees : Create → CreateStep → Option ℕ
 create_sees x LoadsDirectory = Some x.dir
 create_sees x step = None
@@ -312,14 +312,14 @@ tree_sees (TreeMarks x) = mark_sees x x.step
 tree_sees (OpensOne x) = open_sees x x.step
 tree_sees phase = None
 
--- the refusal tells what the shown model has at this node: nothing or a removed file, a file, a directory
+-- the refusal tells what the shown state has at this node: nothing or a removed file, a file, a directory
 abbrev pub TellsOf : Option NodeInfo → GateError → Type 0
 TellsOf entry NoEntry = (entry ≡ None) ⊎ (is_removed entry ≡ true)
 TellsOf entry NotDir = IsFile entry
 TellsOf entry IsDir = IsDirectory entry
 TellsOf entry refusal = Unit {0}
 
--- What a refusal says that an event brings in the newest of these worlds, by what its task is at there. A kind of phase has rows of its own,
+-- What a refusal says that a step brings in the newest of these states, by what its task is at there. A kind of phase has rows of its own,
 -- by the refusal; one with none is never refused, so that a new one says its causes.
 
 -- a want: as read-only, and the mount was so when it last asked; again, and another task had HOLD set at the mount then
@@ -373,7 +373,7 @@ SnapshotRefused c t worlds Invalid = was_incomplete c (last_look t worlds) ≡ t
 SnapshotRefused c t worlds Again = IsTaken c t worlds
 SnapshotRefused c t worlds refusal = Unit {0}
 
--- another call at the tree: as a node that is free or removed, a file or a directory, and the event loads a node that the shown model has so
+-- another call at the tree: as a node that is free or removed, a file or a directory, and the step loads a node that the shown state has so
 abbrev pub NodeRefused : Config → List World → TreePhase → GateError → Type 0
 NodeRefused c [] phase refusal = ⊥
 NodeRefused c (w ∷ earlier) phase refusal = (n : ℕ) × (tree_sees phase ≡ Some n) × TellsOf ((shown c w).tree n) refusal
@@ -401,8 +401,8 @@ HasCause c t worlds (Trees phase) refusal = TreeRefused c t worlds phase refusal
 HasCause c t worlds (Closes phase) refusal = CloseRefused c t worlds phase refusal
 HasCause c t worlds phase refusal = ⊥
 
--- Every refusal has its cause: after any schedule, where the next event of a task ends its operation with a refusal, whatever its phase, that
--- has its cause among the worlds since the task began the operation.
+-- Every refusal has its cause: after any execution, where the next step of a task ends its operation with a refusal, whatever its phase, that
+-- has its cause among the states since the task began the operation.
 abbrev pub RefusalsHaveCauses : Config → List Entry → Type 0
 RefusalsHaveCauses c entries =
     (t : ℕ) (phase : Phase) (hook : HookAnswer) (refusal : GateError) → t < c.tasks →

@@ -1,4 +1,4 @@
--- What is kept along a schedule about the causes of refusals.
+-- What is kept along an execution about the causes of refusals.
 use Rattle.std.specs.Prelude.{◌≡◌, ◌⊎◌, ℕ, ◌<◌, true, false, Option, Some, Result, Ok, Err, List, ◌∷◌}
 use Rattle.access_model.specs.declared.{actions.Holder.Holder, errors.GateError.{GateError, TheVariants.{Again, Busy, Invalid}}, replies.Reply.Reply}
 use Rattle.cpu_words.specs.Sums.{lead}
@@ -91,13 +91,13 @@ module _ (c : Config) (t : ℕ) (w : World) (earlier : List World) where
   ThawCause holder (ThawReleases answer) = answer ≡ Err Invalid → was_unheld c holder (last_look t (w ∷ earlier)) ≡ true
   ThawCause holder step = Unit {0}
 
-  -- a snapshot that is invalid, likewise; past its lock it isn't refused again
+  -- a snapshot that is invalid; past its lock it isn't refused again
   abbrev pub SnapshotCause : SnapshotStep → Type 0
   SnapshotCause (SnapshotReleases (Err Again)) = ⊥
   SnapshotCause (SnapshotReleases (Err refusal)) = SnapshotRefused c t (w ∷ earlier) refusal
   SnapshotCause step = Unit {0}
 
-  -- another call at the tree has its cause at the event itself
+  -- another call at the tree has its cause at the step itself
   abbrev pub TreeCause : TreePhase → Type 0
   TreeCause (Snapshots x) = SnapshotCause x.step
   TreeCause phase = Unit {0}

@@ -1,4 +1,4 @@
--- Waits: where an event reports that its operation waits, another task has what it waits for.
+-- Waits: where a step reports that its operation waits, another task has what it waits for.
 use Rattle.std.specs.Prelude.{◌≡◌, ℕ, ◌<◌, true, Some, Ok, Err, List, [], ◌∷◌}
 use Rattle.access_model.specs.declared.replies.Next.{Next, TheVariants.{Go, Wait, Done}}
 use Rattle.cpu_words.specs.Hooks.{HookAnswer}
@@ -40,7 +40,7 @@ TreeIsWaitedFor w (Snapshots x) y = owns (w.views y).phase ≡ 1
 TreeIsWaitedFor w phase y = ⊥
 
 -- The same of a phase of any layer: a remount and a thaw wait for who has `umount`, a callback for who is inside a read-side section. A
--- reader of a level waits for nobody at its own event: it has found the level closed before.
+-- reader of a level waits for nobody at its own step: it has found the level closed before.
 abbrev pub IsWaitedFor : World → Phase → ℕ → Type 0
 IsWaitedFor w (Mounts phase) y = MountIsWaitedFor w phase y
 IsWaitedFor w (Remounts x) y = owns (w.views y).phase ≡ 1
@@ -68,7 +68,7 @@ abbrev pub CloseHasCulprit : Config → World → List World → ℕ → ClosePh
 CloseHasCulprit c w earlier t (Enters f node r) = WasClosed c t r.level (last_asked t (w ∷ earlier))
 CloseHasCulprit c w earlier t x = ⊥
 
--- the same of a down-write: where it sums its level's words, something was counted there in one of the worlds of its sum
+-- the same of a down-write: where it sums its level's words, something was counted there in one of the states of its sum
 abbrev pub DownWriteHasCulprit : Config → World → List World → ℕ → Freeze → ℕ → DownWriteStep → Type 0
 DownWriteHasCulprit c w earlier t x i (SumsLevel sum) = was_inside c i (moments_of_sum t (w ∷ earlier)) ≡ true
 DownWriteHasCulprit c w earlier t x i step = HasCulprit c w t (Freezes x)
@@ -79,7 +79,7 @@ FreezeHasCulprit c w earlier t x (Closes d) = DownWriteHasCulprit c w earlier t 
 FreezeHasCulprit c w earlier t x (FreezeWaits d) = DownWriteHasCulprit c w earlier t x d.level d.step
 FreezeHasCulprit c w earlier t x step = HasCulprit c w t (Freezes x)
 
--- what makes a phase wait, with the present world and the earlier ones: for a reader, that the level was closed when it last asked; for
+-- what makes a phase wait, with the present state and the earlier ones: for a reader, that the level was closed when it last asked; for
 -- a freeze that sums, that something was counted at the level meanwhile; for any other, that another task has now what it waits for
 abbrev pub HasCulpritSince : Config → World → List World → ℕ → Phase → Type 0
 HasCulpritSince c w earlier t (DownReads r) = WasClosed c t r.level (last_asked t (w ∷ earlier))
@@ -88,7 +88,7 @@ HasCulpritSince c w earlier t (Freezes x) = FreezeHasCulprit c w earlier t x x.s
 HasCulpritSince c w earlier t (Closes phase) = CloseHasCulprit c w earlier t phase
 HasCulpritSince c w earlier t phase = HasCulprit c w t phase
 
--- an event after which this comes has its reason: where it is a wait, its phase waits for what another task has or had; where it is a
+-- a step after which this comes has its reason: where it is a wait, its phase waits for what another task has or had; where it is a
 -- refusal, that has its cause
 abbrev pub HasReason : Config → World → List World → ℕ → Phase → Next Phase → Type 0
 HasReason c w earlier t phase (Go next) = Unit {0}
@@ -96,13 +96,13 @@ HasReason c w earlier t phase (Wait next) = HasCulpritSince c w earlier t phase
 HasReason c w earlier t phase (Done (Ok reply)) = Unit {0}
 HasReason c w earlier t phase (Done (Err refusal)) = HasCause c t (w ∷ earlier) phase refusal
 
--- the same of the worlds of a schedule, the newest first
+-- the same of the states of an execution, the newest first
 abbrev pub HasCulpritAmong : Config → List World → ℕ → Phase → Type 0
 HasCulpritAmong c [] t phase = ⊥
 HasCulpritAmong c (w ∷ earlier) t phase = HasCulpritSince c w earlier t phase
 
--- Every wait has a culprit: after any schedule, where the next event of a task reports that it waits, another task has what it waits for,
--- in the world in which the event is done; or, where it waits for a level, that was closed in the world in which the task last asked, or,
+-- Every wait has a blocker: after any execution, where the next step of a task reports that it waits, another task has what it waits for,
+-- in the state in which the step is done; or, where it waits for a level, that was closed in the state in which the task last asked, or,
 -- where a freeze sums the words of one, something was counted there while it did: always since the task began its operation.
 abbrev pub EachWaitHasCulprit : Config → List Entry → Type 0
 EachWaitHasCulprit c entries =

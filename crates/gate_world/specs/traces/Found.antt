@@ -1,4 +1,4 @@
--- What the events of a trace have found.
+-- What the steps of a trace have found.
 use Rattle.std.specs.Prelude.{◌≡◌, ◌≢◌, ℕ, zero, suc, ◌%◌, ◌==◌, not, ◌&&◌, ◌||◌, Bool, true, false, if◌then◌else◌, ◌⊎◌, Option, Some, None, is_some, List, []}
 use Rattle.std.specs.Prelude.{◌∷◌, sum_by}
 use Rattle.access_model.specs.{Holders.{held_by, with_holder, is_unheld}, declared.actions.{Action.{Action, TheVariants.Clean}, Holder.Holder}}
@@ -39,7 +39,7 @@ abbrev pub says_taken : WordName → ℕ → Bool
 says_taken Umount found = not (found == 0)
 says_taken word found = false
 
--- some event of the trace passes this test
+-- some step of the trace passes this test
 abbrev pub some_event : (Event → Bool) → List Traced → Bool
 some_event test [] = false
 some_event test (e ∷ earlier) = test e.event || some_event test earlier
@@ -67,26 +67,26 @@ counts_loaded m [] = []
 counts_loaded m (e ∷ earlier) = if is_load e.event.touch then count_found m e.event.word e.event.found
     (counts_loaded m earlier) else counts_loaded m earlier
 
--- the event is a load that found HOLD at this mount
+-- the step is a load that found HOLD at this mount
 abbrev pub finds_hold : ℕ → Event → Bool
 finds_hold m e = is_load e.touch && says_hold m e.word e.found
 
--- the event is a compare-exchange that found `umount` taken
+-- the step is a compare-exchange that found `umount` taken
 abbrev pub finds_taken : Event → Bool
 finds_taken e = is_cas e.touch && says_taken e.word e.found
 
--- each event of the trace passes this test
+-- each step of the trace passes this test
 abbrev pub each_event : (Event → Bool) → List Traced → Bool
 each_event test [] = true
 each_event test (e ∷ earlier) = test e.event && each_event test earlier
 
--- there is an event, and each but the oldest passes this test
+-- there is a step, and each but the oldest passes this test
 abbrev pub each_but_first : (Event → Bool) → List Traced → Bool
 each_but_first test [] = false
 each_but_first test (e ∷ []) = true
 each_but_first test (e ∷ (d ∷ earlier)) = test e.event && each_but_first test (d ∷ earlier)
 
--- the newest event passes this test, and so does each before it but the oldest, which is another
+-- the newest step passes this test, and so does each before it but the oldest, which is another
 abbrev pub looks_again : (Event → Bool) → List Traced → Bool
 looks_again test [] = false
 looks_again test (e ∷ earlier) = test e.event && each_but_first test earlier
@@ -174,16 +174,16 @@ says_shared holder word found = false
 abbrev pub found_shared : Holder → List Traced → Bool
 found_shared holder trace = some_event (λ e. is_load e.touch && says_shared holder e.word e.found) trace
 
--- the event stores this stage
+-- the step stores this stage
 abbrev pub stores_stage : ℕ → WordName → Touch → Bool
 stores_stage n Stage (Store value) = value == n
 stores_stage n word touch = false
 
--- some event did
+-- some step did
 abbrev pub stored_stage : ℕ → List Traced → Bool
 stored_stage n trace = some_event (λ e. stores_stage n e.word e.touch) trace
 
--- the level of which the event clears the `block`, or else this one
+-- the level of which the step clears the `block`, or else this one
 abbrev pub opened_by : WordName → Touch → ℕ → ℕ
 opened_by (Block i) (Store value) earlier = if value == 0 then i else earlier
 opened_by word touch earlier = earlier
@@ -211,13 +211,13 @@ abbrev pub is_clearing : Touch → Bool
 is_clearing (Store value) = value == 0
 is_clearing touch = false
 
--- some event that stores 0 in this word read this answer of a hook
+-- some step that stores 0 in this word read this answer of a hook
 abbrev pub ReadAnswer : WordName → HookAnswer → List Traced → Type 0
 ReadAnswer word answer [] = ⊥
 ReadAnswer word answer (e ∷ earlier) =
     ((clears_word word e.event.word ≡ true) × (is_clearing e.event.touch ≡ true) × (e.hook ≡ answer)) ⊎ ReadAnswer word answer earlier
 
--- the event cleared the mark of a node, on top of these actions
+-- the step cleared the mark of a node, on top of these actions
 abbrev pub clean_found : WordName → Touch → ℕ → List Action → List Action
 clean_found (Node n) (And mask) found earlier = if has_flag found 4 then Clean n ∷ earlier else earlier
 clean_found word touch found earlier = earlier
@@ -227,16 +227,16 @@ abbrev pub cleans : List Traced → List Action
 cleans [] = []
 cleans (e ∷ earlier) = clean_found e.event.word e.event.touch e.event.found (cleans earlier)
 
--- some event of the trace passes this test, as a statement
+-- some step of the trace passes this test, as a statement
 abbrev pub SeenIn : List Traced → (Event → Bool) → Type 0
 SeenIn trace test = some_event test trace ≡ true
 
--- the newest event passes this test
+-- the newest step passes this test
 abbrev pub newest : (Event → Bool) → List Traced → Bool
 newest test [] = false
 newest test (e ∷ earlier) = test e.event
 
--- the event is a load that found a level's `block` set
+-- the step is a load that found a level's `block` set
 abbrev pub says_closed : ℕ → WordName → ℕ → Bool
 says_closed i (Block j) found = (j == i) && not (found == 0)
 says_closed i word found = false
@@ -249,42 +249,42 @@ finds_closed i e = is_load e.touch && says_closed i e.word e.found
 abbrev pub found_closed : ℕ → List Traced → Bool
 found_closed i trace = some_event (finds_closed i) trace
 
--- the event takes one from a count of a level
+-- the step takes one from a count of a level
 abbrev pub takes_from : ℕ → WordName → Touch → Bool
 takes_from i (LevelCount j p) (Sub n) = j == i
 takes_from i word touch = false
 
--- the newest event is that, and the one before it found `block` set
+-- the newest step is that, and the one before it found `block` set
 abbrev pub backed_off : ℕ → List Traced → Bool
 backed_off i [] = false
 backed_off i (e ∷ earlier) = takes_from i e.event.word e.event.touch && newest (finds_closed i) earlier
 
--- the event turns a section word
+-- the step turns a section word
 abbrev pub turns_section : WordName → Touch → Bool
 turns_section (Section u) (Add n) = true
 turns_section word touch = false
 
--- the newest event ends a section in which a level was found closed, and its count was taken back
+-- the newest step ends a section in which a level was found closed, and its count was taken back
 abbrev pub left_closed : ℕ → List Traced → Bool
 left_closed i [] = false
 left_closed i (e ∷ earlier) = turns_section e.event.word e.event.touch && backed_off i earlier
 
--- the event adds to a count of this mount
+-- the step adds to a count of this mount
 abbrev pub adds_to : ℕ → WordName → Touch → Bool
 adds_to m (MountCount n p) (Add k) = n == m
 adds_to m word touch = false
 
--- the newest event found HOLD at this mount, and so did each before it, back to the addition to its count
+-- the newest step found HOLD at this mount, and so did each before it, back to the addition to its count
 abbrev pub holds_since : ℕ → List Traced → Bool
 holds_since m [] = false
 holds_since m (e ∷ earlier) = finds_hold m e.event && (newest (λ d. adds_to m d.word d.touch) earlier || holds_since m earlier)
 
--- the event is a load that found a task inside a read-side section
+-- the step is a load that found a task inside a read-side section
 abbrev pub says_inside : WordName → ℕ → Bool
 says_inside (Section u) found = found % 2 == 1
 says_inside word found = false
 
--- of an event
+-- of a step
 abbrev pub finds_inside : Event → Bool
 finds_inside e = is_load e.touch && says_inside e.word e.found
 
@@ -298,7 +298,7 @@ abbrev pub says_none_queued : ℕ → WordName → ℕ → Bool
 says_none_queued i (Sync j) found = (j == i) && none_queued (unpack found)
 says_none_queued i word found = false
 
--- of an event
+-- of a step
 abbrev pub finds_none_queued : ℕ → Event → Bool
 finds_none_queued i e = is_load e.touch && says_none_queued i e.word e.found
 
@@ -333,24 +333,24 @@ abbrev pub says_blocked : WordName → Touch → ℕ → Bool
 says_blocked (Block i) (Swap value) found = not (found == 0)
 says_blocked word touch found = false
 
--- The event is one after which a writer of a level looks again: it found a task inside a section, another writer that is entering, or the
+-- The step is one after which a writer of a level looks again: it found a task inside a section, another writer that is entering, or the
 -- level's `block` set.
 abbrev pub finds_readers : Event → Bool
 finds_readers e = finds_inside e || ((is_load e.touch && says_entering e.word e.found) || says_blocked e.word e.touch e.found)
 
--- the newest events are one load of each of so many processors' counts of a level, from 0 up
+-- the newest steps are one load of each of so many processors' counts of a level, from 0 up
 abbrev pub IsLevelSum : ℕ → ℕ → List Traced → Type 0
 IsLevelSum i zero trace = Unit {0}
 IsLevelSum i (suc n) [] = ⊥
 IsLevelSum i (suc n) (e ∷ earlier) = (e.event.word ≡ LevelCount i n) × (e.event.touch ≡ Load) × IsLevelSum i n earlier
 
--- the wrapping sum of what the newest events found, so many of them
+-- the wrapping sum of what the newest steps found, so many of them
 abbrev pub sum_of_newest : ℕ → List Traced → ℕ
 sum_of_newest zero trace = 0
 sum_of_newest (suc n) [] = 0
 sum_of_newest (suc n) (e ∷ earlier) = wrap_add (sum_of_newest n earlier) e.event.found
 
--- the newest events are loads of a level's counts, one of each processor, and their sum isn't 0
+-- the newest steps are loads of a level's counts, one of each processor, and their sum isn't 0
 abbrev pub FoundInside : ℕ → List Traced → Type 0
 FoundInside processors trace = (i : ℕ) × IsLevelSum i processors trace × (sum_of_newest processors trace ≢ 0)
 
@@ -367,6 +367,6 @@ finds_removed e = is_load e.touch && (is_removed_word e.word && not (e.found == 
 abbrev pub found_removed : List Traced → Bool
 found_removed trace = some_event finds_removed trace
 
--- some event was on `removed`: of a close, that it counts one removed file less
+-- some step was on `removed`: of a close, that it counts one removed file less
 abbrev pub found_dropped : List Traced → Bool
 found_dropped trace = some_event (λ e. is_removed_word e.word) trace

@@ -1,4 +1,4 @@
--- Snapshots: which event completes one, and what is noted of it.
+-- Snapshots: which step completes one, and what is noted of it.
 use Rattle.std.specs.Prelude.{ℕ, if◌then◌else◌, Option, Some, None, List, [], ◌∷◌, length, slice_index}
 use Rattle.access_model.specs.declared.actions.Action.{Action}
 use Rattle.cpu_words.specs.declared.names.WordName.TheVariants.{Kids}
@@ -34,13 +34,13 @@ abbrev pub tree_completes : TreePhase → List Traced → ℕ → Option TreeWor
 tree_completes (Snapshots x) trace found = snapshot_completes x.nodes x.step trace found
 tree_completes phase trace found = None
 
--- what the snapshot has loaded that the next event of a phase completes, after these events of its operation, where the event finds
+-- what the snapshot has loaded that the next step of a phase completes, after these steps of its operation, where the step finds
 -- this
 abbrev pub completes : Phase → List Traced → ℕ → Option TreeWords
 completes (Trees phase) trace found = tree_completes phase trace found
 completes phase trace found = None
 
--- a number's last snapshot after an event that completes this one, or none: until then the number had done these actions, and each
+-- a number's last snapshot after a step that completes this one, or none: until then the number had done these actions, and each
 -- other number of its task so many
 abbrev pub last_snapshot : Option TreeWords → List Action → List (ℕ × ℕ) → Option Snapshot → Option Snapshot
 last_snapshot None actions others last = last

@@ -1,4 +1,4 @@
--- Courses: how far an operation has come by its events, in the order of its phases. They speak of no other task.
+-- How far an operation has come by its steps, in the order of its phases. They speak of no other task.
 use Rattle.std.specs.Prelude.{◌≡◌, ℕ, false, Option, Some, None, List, [], ◌∷◌, ◌++◌, ◌<◌, is_some, ◌≤◌}
 use Rattle.access_model.specs.declared.{actions.Action.Action, replies.Next.{Next, TheVariants.{Go, Wait, Done}}}
 use Rattle.cpu_words.specs.{Hooks.HookAnswer, Touches.event_of, declared.names.WordName.{WordName, TheVariants.{Node, Sync}}}
@@ -17,17 +17,17 @@ pub record TraceState : Type 0 where
   pub comes : Next Phase
   pub added : List Action
 
--- the course after an event, after which this comes, and which added this
+-- where the operation is after a step, after which this comes, and which added this
 abbrev pub trace_state_with : List Action → Next Phase × Option Action → TraceState
 trace_state_with added after = record { comes = after.0; added = actions_after after.1 added }
 
--- the course after one event more; an operation that has ended has none
+-- where it is after one step more; an operation that has ended is nowhere
 abbrev pub trace_state_after : Next Phase → List Action → Traced → TraceState
 trace_state_after (Go phase) added e = trace_state_with added (after_of phase e.event.found e.hook)
 trace_state_after (Wait phase) added e = trace_state_with added (after_of phase e.event.found e.hook)
 trace_state_after (Done answer) added e = record { comes = Done answer; added = added }
 
--- the course of an operation of a task after these events, the newest first
+-- where an operation of a task is after these steps, the newest first
 abbrev pub state_of_trace : Config → ℕ → Op → List Traced → TraceState
 state_of_trace c t op [] = record { comes = Go (first_phase c t op); added = [] }
 state_of_trace c t op (e ∷ earlier) = trace_state_after (state_of_trace c t op earlier).comes (state_of_trace c t op earlier).added e
@@ -38,7 +38,7 @@ WordIsValid (Node n) value = is_some (unpacked value) ≡ true
 WordIsValid (Sync i) value = is_some (unpack value) ≡ true
 WordIsValid word value = Unit {0}
 
--- What the next event of a phase may find: at a close's file, that some task has it open; at that of a last close, that it is as it was
+-- What the next step of a phase may find: at a close's file, that some task has it open; at that of a last close, that it is as it was
 -- loaded; inside its start, what that one's word may hold; at a file to open, that fewer than 64 tasks have it open.
 abbrev pub CloseReadIsValid : ClosePhase → ℕ → Type 0
 CloseReadIsValid (CloseLoadsFile x) value = (is_some (unpacked value) ≡ true) × (1 ≤ opens_in value)
@@ -56,18 +56,18 @@ ReadIsValid (Closes x) word value = CloseReadIsValid x value
 ReadIsValid (Trees (OpensOne x)) word value = OpenReadIsValid x.step value
 ReadIsValid phase word value = WordIsValid word value
 
--- the event is the one of this phase, on a word that held some value which it may hold
+-- the step is the one of this phase, on a word that held some value which it may hold
 abbrev pub IsEventOf : Phase → Traced → Type 0
 IsEventOf phase e =
     (value : ℕ) × (e.event ≡ event_of (next_of phase e.hook).0 (next_of phase e.hook).1 value) × ReadIsValid phase (next_of phase e.hook).0 value
 
--- the event is the one that comes next; after the end there is none
+-- the step is the one that comes next; after the end there is none
 abbrev pub IsNext : Next Phase → Traced → Type 0
 IsNext (Go phase) e = IsEventOf phase e
 IsNext (Wait phase) e = IsEventOf phase e
 IsNext (Done answer) e = ⊥
 
--- each event is the one that comes where the operation stands
+-- each step is the one that comes where the operation stands
 abbrev pub IsTrace : Config → ℕ → Op → List Traced → Type 0
 IsTrace c t op [] = Unit {0}
 IsTrace c t op (e ∷ earlier) = IsNext (state_of_trace c t op earlier).comes e × IsTrace c t op earlier
@@ -85,7 +85,7 @@ abbrev pub IsTraced : Config → ℕ → View → Option Op → Type 0
 IsTraced c t v None = (v.phase ≡ None) × (v.actions ≡ []) × (v.trace ≡ [])
 IsTraced c t v (Some op) = FollowsOrder c t v op
 
--- the next event of each task is on a word that holds what it may
+-- the next step of each task is on a word that holds what it may
 abbrev pub EventsMayBe : Config → World → Type 0
 EventsMayBe c w = (t : ℕ) → t < c.tasks → (phase : Phase) (hook : HookAnswer) → (w.views t).phase ≡ Some phase →
     ReadIsValid phase (next_of phase hook).0 (value_at w.words phase hook)

@@ -15,21 +15,21 @@ IsHonest c op refusal trace = (claims op).IsHonest c refusal trace
 abbrev pub ReplyMatchesTrace : Op → Reply → List Traced → Type 0
 ReplyMatchesTrace op reply trace = (claims op).ReplyMatchesTrace reply trace
 
--- an answer is honest where it is a reply that says what was found, or a refusal that has its cause
+-- an answer is justified if it is a reply that says what was found, or a refusal that has its cause
 abbrev pub IsHonestAnswer : Config → Op → Result Reply GateError → List Traced → Type 0
 IsHonestAnswer c op (Ok reply) trace = ReplyMatchesTrace op reply trace
 IsHonestAnswer c op (Err refusal) trace = IsHonest c op refusal trace
 
--- the most events of an operation, where it waits for nobody
+-- the most steps of an operation, where it waits for nobody
 abbrev pub most_events : Config → Op → Option ℕ
 most_events c op = (claims op).most_events c
 
--- a trace has no more events than that, where there is a bound
+-- a trace has no more steps than that, where there is a bound
 abbrev pub IsShort : Option ℕ → List Traced → Type 0
 IsShort None trace = Unit {0}
 IsShort (Some most) trace = length trace ≤ most
 
--- an operation may report that it waits after these events
+-- an operation may report that it waits after these steps
 abbrev pub MayWait : Config → Op → List Traced → Type 0
 MayWait c op trace = (claims op).MayWait c trace
 

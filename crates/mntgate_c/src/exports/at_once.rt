@@ -27,7 +27,8 @@ pub extern "C" fn mntgate_want_write_at_once(
     begun(task.want_write_at_once(gates, mount, cpu), outcome)
 }
 
-/// Runs the callback of a level (`rcu_sync_func`), likewise.
+/// Runs the callback of a level (`rcu_sync_func`), up to a step that finds something in the way. Writes whether it is
+/// done or goes on; nothing, if it may not begin.
 #[unsafe(no_mangle)]
 pub extern "C" fn mntgate_callback_at_once(
     task: &mut TaskHandle,
@@ -43,7 +44,8 @@ pub extern "C" fn mntgate_callback_at_once(
     begun(task.callback_at_once(gates, level), outcome)
 }
 
-/// Remounts the superblock of a file system whose hooks answer 0 (`reconfigure_super`), likewise.
+/// Remounts the superblock of a file system whose hooks answer 0 (`reconfigure_super`), up to a step that finds something in the way. Writes whether it is
+/// done or goes on; nothing, if it may not begin.
 #[unsafe(no_mangle)]
 pub extern "C" fn mntgate_remount_sb_at_once(
     task: &mut TaskHandle,
@@ -59,7 +61,8 @@ pub extern "C" fn mntgate_remount_sb_at_once(
     begun(task.remount_sb_at_once(gates, read_only), outcome)
 }
 
-/// Freezes a file system whose hooks answer 0 (`freeze_super`), likewise.
+/// Freezes a file system whose hooks answer 0 (`freeze_super`), up to a step that finds something in the way. Writes whether it is
+/// done or goes on; nothing, if it may not begin.
 #[unsafe(no_mangle)]
 pub extern "C" fn mntgate_freeze_at_once(
     task: &mut TaskHandle,
@@ -75,7 +78,8 @@ pub extern "C" fn mntgate_freeze_at_once(
     begun(task.freeze_at_once(gates, holder(by_kernel)), outcome)
 }
 
-/// Thaws a file system whose hooks answer 0 (`thaw_super`), likewise.
+/// Thaws a file system whose hooks answer 0 (`thaw_super`), up to a step that finds something in the way. Writes whether it is
+/// done or goes on; nothing, if it may not begin.
 #[unsafe(no_mangle)]
 pub extern "C" fn mntgate_thaw_at_once(
     task: &mut TaskHandle,

@@ -69,7 +69,7 @@ pub extern "C" fn mntgate_join(alloc: Global, task: &mut TaskHandle, other: &mut
     code(task.join(alloc, other))
 }
 
-/// Brings two tasks of the same gates together: what either has done stands in one world, which both have seen from then on. Nothing else of them
+/// Brings two tasks of the same gates together: what either has done stands in one state, which both have seen from then on. Nothing else of them
 /// changes, and no word does.
 #[unsafe(no_mangle)]
 pub extern "C" fn mntgate_meet(task: &mut TaskHandle, other: &mut TaskHandle)

@@ -1,4 +1,4 @@
-//! Operations event by event, and so those that may have to wait: C begins one, does its steps, and pauses between them as it likes.
+//! Operations step by step, and so those that may have to wait: C begins one, does its steps, and pauses between them as it likes.
 
 ghost use Rattle.std.specs.Prelude.{◌≡◌, true, Some, None, Err, OnOk, OnErr};
 ghost use Rattle.access_model.specs.declared.errors.GateError.TheVariants.{Invalid};
@@ -34,7 +34,7 @@ pub extern "C" fn mntgate_begin(task: &mut TaskHandle, op: &OpRecord) -> u32
     code(task.begin(*op))
 }
 
-/// Does the next event of the operation under way, and writes what it was. `hook` is what the hook answers that it reads, if it reads one:
+/// Does the next step of the operation under way, and writes what it was. `hook` is what the hook answers that it reads, if it reads one:
 /// 0, or the code of a failure. A task with no operation under way does nothing.
 #[unsafe(no_mangle)]
 pub extern "C" fn mntgate_step(task: &mut TaskHandle, hook: u16, step: &mut StepRecord)
@@ -50,7 +50,7 @@ pub extern "C" fn mntgate_step(task: &mut TaskHandle, hook: u16, step: &mut Step
     *step = record(task.step(gates, answer(hook)));
 }
 
-/// Does the next event of the operation under way, and as long as it goes on and no hook is asked more, up to `most` in all; 1 where
+/// Does the next step of the operation under way, and as long as it goes on and no hook is asked more, up to `most` in all; 1 where
 /// `most` is 0. Writes how the operation stands then.
 #[unsafe(no_mangle)]
 pub extern "C" fn mntgate_run(task: &mut TaskHandle, hook: u16, most: u32, outcome: &mut Outcome)

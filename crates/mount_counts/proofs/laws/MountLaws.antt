@@ -1,4 +1,4 @@
--- Each event of the mounts keeps what holds at its mount.
+-- Each step of the mounts keeps what holds at its mount.
 use Rattle.std.proofs.{Common.{◌≡◌, ℕ, zero, suc, ◌+◌, ◌<◌, ◌≤◌, refl, sym, ap, ◌∙◌, subst, inl, inr, arith}, lemmas.Bool.Decides.eqb_tells}
 use Rattle.std.specs.Prelude.{◌⊎◌, bit_or}
 use Rattle.finite_sums.{proofs.Totals.{each_updated, total_at, total_none, update_map}, specs.Sums.{update, total}}
@@ -30,11 +30,11 @@ none_past _ = refl
 
 module _ {tasks processors flags remount sb : ℕ} {count : ℕ → ℕ} {at : ℕ → MountView}
     (good : MountHolds tasks processors flags remount sb count at) (t : ℕ) (lt : t < tasks) where
-  -- the mount after an event of a reader that makes this of the words and of the task's view
+  -- the mount after a step of a reader that makes this of the words and of the task's view
   abbrev HoldsAfter : (ℕ → ℕ) → MountView → Type 0
   HoldsAfter count' v = MountHolds tasks processors flags remount sb count' (update at t v)
 
-  -- an event of a reader keeps the mount where it keeps it as a gate
+  -- a step of a reader keeps the mount where it keeps it as a gate
   reads : (v : MountView) (count' : ℕ → ℕ) → skips v.role ≡ 0 →
       GateHolds tasks processors (hold_bit flags) 0 (mount_shut flags remount sb) count'
       (update (λ x. mount_as_gate (at x)) t (mount_as_gate v)) → HoldsAfter count' v
@@ -184,7 +184,7 @@ module _ {tasks processors flags remount sb : ℕ} {count : ℕ → ℕ} {at : �
     abbrev Becomes : Role → ℕ → Type 0
     Becomes r f = MountHolds tasks processors f remount sb count (update at t (record (at t) { role = r }))
 
-    -- An owner's event: no count word changes, and the owner seeks no access before and after it. It leaves these flags, and what
+    -- An owner's step: no count word changes, and the owner seeks no access before and after it. It leaves these flags, and what
     -- stands after it has nobody past its question.
     pub owner_event : (r : Role) (f : ℕ) → SeeksNone (at t).role → SeeksNone r → f < 4 →
         hold_bit f + has_hold (at t).role ≡ hold_bit flags + has_hold r →

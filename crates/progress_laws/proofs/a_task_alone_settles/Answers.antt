@@ -1,6 +1,5 @@
-use Rattle.gate_schedules.proofs.schedules.HeadlineProof.{whole_rule}
-use Rattle.gate_world.specs.Headline.{world_after}
-use Rattle.progress_laws.proofs.{Alone.{settles_alone}}
+use Rattle.progress_laws.proofs.Prelude.{whole_rule, world_after}
+use Rattle.progress_laws.proofs.Alone.{settles_alone}
 use Rattle.progress_laws.proofs.a_task_alone_settles.Goals as goal
 
 pub returns : goal.returns

@@ -1,6 +1,5 @@
-use Rattle.gate_schedules.proofs.schedules.HeadlineProof.{whole_rule}
-use Rattle.gate_world.specs.Headline.{world_after}
-use Rattle.progress_laws.proofs.{FairlyBlocked.{blocked_after}}
+use Rattle.progress_laws.proofs.Prelude.{whole_rule, world_after}
+use Rattle.progress_laws.proofs.FairlyBlocked.{blocked_after}
 use Rattle.progress_laws.proofs.fair_rounds_leave_the_blocked.Goals as goal
 
 pub returns : goal.returns

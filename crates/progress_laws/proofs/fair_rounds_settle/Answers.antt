@@ -1,5 +1,4 @@
-use Rattle.gate_schedules.proofs.schedules.HeadlineProof.{whole_rule}
-use Rattle.gate_world.specs.Headline.{world_after}
+use Rattle.progress_laws.proofs.Prelude.{whole_rule, world_after}
 use Rattle.progress_laws.proofs.Rounds.{settles_fairly, settles_once}
 use Rattle.progress_laws.proofs.fair_rounds_settle.Goals as goal
 

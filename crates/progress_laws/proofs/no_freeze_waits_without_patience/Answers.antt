@@ -1,5 +1,4 @@
-use Rattle.gate_schedules.proofs.schedules.HeadlineProof.{whole_rule}
-use Rattle.gate_world.specs.Headline.{world_after}
+use Rattle.progress_laws.proofs.Prelude.{whole_rule, world_after}
 use Rattle.progress_laws.proofs.GivingUp.{replies_or_thaw, settles_impatiently}
 use Rattle.progress_laws.proofs.no_freeze_waits_without_patience.Goals as goal
 

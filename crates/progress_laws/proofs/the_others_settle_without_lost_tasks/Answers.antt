@@ -1,6 +1,5 @@
-use Rattle.gate_schedules.proofs.schedules.HeadlineProof.{whole_rule}
-use Rattle.gate_world.specs.Headline.{world_after}
-use Rattle.progress_laws.proofs.{Settling.{settles_within}}
+use Rattle.progress_laws.proofs.Prelude.{whole_rule, world_after}
+use Rattle.progress_laws.proofs.Settling.{settles_within}
 use Rattle.progress_laws.proofs.the_others_settle_without_lost_tasks.Goals as goal
 
 pub returns : goal.returns

@@ -1,5 +1,4 @@
-use Rattle.gate_schedules.proofs.schedules.HeadlineProof.{whole_rule}
-use Rattle.gate_world.specs.Headline.{world_after}
+use Rattle.progress_laws.proofs.Prelude.{whole_rule, world_after}
 use Rattle.progress_laws.proofs.{GivingUp.turns_small, Settling.turns_few}
 use Rattle.progress_laws.proofs.turns_have_a_bound.Goals as goal
 

@@ -1,6 +1,5 @@
-use Rattle.gate_schedules.proofs.schedules.HeadlineProof.{whole_rule}
-use Rattle.gate_world.specs.Headline.{world_after}
-use Rattle.progress_laws.proofs.{NeverReplies.{never_replies}}
+use Rattle.progress_laws.proofs.Prelude.{whole_rule, world_after}
+use Rattle.progress_laws.proofs.NeverReplies.{never_replies}
 use Rattle.progress_laws.proofs.who_meets_it_never_replies.Goals as goal
 
 pub returns : goal.returns

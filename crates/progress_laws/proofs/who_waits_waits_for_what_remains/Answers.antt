@@ -1,6 +1,5 @@
-use Rattle.gate_schedules.proofs.schedules.HeadlineProof.{whole_rule}
-use Rattle.gate_world.specs.Headline.{world_after}
-use Rattle.progress_laws.proofs.{Remaining.{waits_for_remains}}
+use Rattle.progress_laws.proofs.Prelude.{whole_rule, world_after}
+use Rattle.progress_laws.proofs.Remaining.{waits_for_remains}
 use Rattle.progress_laws.proofs.who_waits_waits_for_what_remains.Goals as goal
 
 pub returns : goal.returns

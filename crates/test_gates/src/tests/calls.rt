@@ -237,7 +237,7 @@ used 0
 ";
 
 /// Each call goes by steps: a remount, which is to be what is so already, takes `umount` and finds nothing frozen; meanwhile its task isn't
-/// joined, and a snapshot waits twice for `umount`, and tells so after each event. The remount finds its state, asks no hook, and ends. The
+/// joined, and a snapshot waits twice for `umount`, and tells so after each step. The remount finds its state, asks no hook, and ends. The
 /// snapshot finds nothing frozen once it has `umount`, and still tells these two waits, and the next call none.
 pub const BY_STEPS: &str = "\
 config 2 2 1 2 8: agrees

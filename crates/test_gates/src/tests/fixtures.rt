@@ -50,7 +50,7 @@ impl Fixture {
         let _ = self.wrong.try_set(line);
     }
 
-    /// The same, unless it is so.
+    /// Notes that something was wrong at a line, unless it is so.
     pub fn expect(&self, is_so: bool, line: &'static str) {
         if !is_so {
             self.note_wrong(line);

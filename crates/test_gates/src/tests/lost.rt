@@ -21,7 +21,7 @@ close: Order
 close: Order
 ";
 
-/// It owns `umount` after one event. Changes of each mount and snapshots would wait, while others may want.
+/// It owns `umount` after one step. Changes of each mount and snapshots would wait, while others may want.
 pub const OWNER: &str = "\
 config 2 2 2 2 8: agrees
 split: done
@@ -42,7 +42,7 @@ close: Order
 close: Order
 ";
 
-/// Its fourth event is the one that sets HOLD. Wants of the first mount would wait, and those of the second don't, nor starts.
+/// Its fourth step is the one that sets HOLD. Wants of the first mount would wait, and those of the second don't, nor starts.
 pub const HOLDER: &str = "\
 config 2 2 2 2 8: agrees
 split: done

@@ -67,11 +67,11 @@ pub step_blocked : (phase : Phase) (hook : HookAnswer) (step : Step) (old left :
 step_blocked phase hook step old left stepped waits =
     blocked old.config old.begins phase hook step stepped.found old.seen left.seen old.items waits stepped.moves stepped.told
 
--- what an event says that it found, it finds again
+-- what a step says that it found, it finds again
 found_again : (touch : Touch) (n : ℕ) → found_by touch (found_by touch n) ≡ found_by touch n
 found_again touch n = grind arith
 
--- an event of a call that came to a wait
+-- a step of a call that came to a wait
 pub call_blocked : (op : Op) (old left : SeatedTask) (answer : Result Reply GateError) (called : Called op old left answer)
     (later earlier : List Traced) (e : Traced) → called.trace ≡ later ++ e ∷ earlier →
     is_wait (state_of_trace old.config (own_number old.items) op (e ∷ earlier)).comes ≡ 1 →

@@ -1,4 +1,4 @@
--- A freeze that a hook refused leaves nothing behind, as its last event is the step that answers so.
+-- A freeze that a hook refused leaves nothing behind, as its last step is the one that answers so.
 use Rattle.std.proofs.Common.{◌≡◌, ℕ, List, [], ◌∷◌, ◌++◌, refl, sym, ap, ◌∙◌, subst, arith, lt-ltb}
 use Rattle.std.specs.Prelude.{Option, Some, None, Result, Err, Ok, if◌then◌else◌}
 use Rattle.access_model.specs.declared.{actions.Holder.{Holder}, errors.GateError.{GateError, TheVariants.{Hook}}, replies.Reply.{Reply}}
@@ -13,7 +13,7 @@ use Rattle.progress_laws.proofs.Undone.{fails_undone}
 use Rattle.vfs_gates.specs.{TaskStates.{SeatedTask, own_number, refusal_at}, Undone.{LeavesNothing}}
 
 module _ (c : Config) (items : DealtNumbers) (holder : Holder) (code : ℕ) (seen gone : List (List Entry)) where
-  -- the last event is the step that answers so
+  -- the last step is the one that answers so
   leaves_by : (e : Traced) (earlier : List Traced) → IsCausedDuring c items (Freeze holder) earlier e (Hook code) seen gone →
       (entries : List Entry) × (gone ≡ entries ∷ []) × IsUndone (world_after c entries) (own_number items)
   leaves_by e earlier cause =

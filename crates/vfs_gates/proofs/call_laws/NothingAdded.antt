@@ -1,4 +1,4 @@
--- A call that was done and added nothing found at its last event that there was nothing to do.
+-- A call that was done and added nothing found at its last step that there was nothing to do.
 use Rattle.std.proofs.Common.{◌≡◌, ℕ, suc, ◌+◌, ◌<◌, Bool, true, false, List, [], ◌∷◌, refl, sym, ap, ◌∙◌, subst, inl, inr, arith}
 use Rattle.std.proofs.lemmas.{Bool.{and_parts, cases_Bool, eq-eqb, false≢true, Decides.eqb_tells}, List.append_cancel_right}
 use Rattle.std.specs.Prelude.{◌==◌, ◌⊎◌, ◌||◌, ◌&&◌, not, Some, is_some, Result, Ok, Err}
@@ -26,14 +26,14 @@ use Rattle.gate_steps.proofs.call_events.{Running.course_is, Spanning.last_event
 use Rattle.vfs_gates.specs.{FoundSo.{IsSo, WasSoDuring}, Held.own_actions, TaskStates.SeatedTask}
 use Rattle.vfs_gates.proofs.{several_tasks.Enclosed.read_only_found, several_tasks.FrozenUntilThawed.load_finds, Holding.adds}
 
--- What is kept of a trace: it holds at the beginning, and each event keeps it.
+-- What is kept of a trace: it holds at the beginning, and each step keeps it.
 module _ (At : List Traced → Phase → List Action → Type 0) (c : Config) (t : ℕ) (op : Op) where
   abbrev pub Says : List Traced → Next Phase → List Action → Type 0
   Says trace (Go phase) added = At trace phase added
   Says trace (Wait phase) added = At trace phase added
   Says trace (Done answer) added = Unit {0}
 
-  -- what is said after an event of a phase
+  -- what is said after a step of a phase
   abbrev pub SaysAfter : List Traced → List Action → Phase → Traced → Type 0
   SaysAfter earlier added phase e =
       Says (e ∷ earlier) (after_of phase e.event.found e.hook).0 (actions_after (after_of phase e.event.found e.hook).1 added)
@@ -72,7 +72,7 @@ module _ (At : List Traced → Phase → List Action → Type 0) (c : Config) (t
     holds_at trace phase follows is =
         at_phase (state_of_trace c t op trace).comes trace (state_of_trace c t op trace).added phase is (said trace follows)
 
--- the newest event on the flags of a mount, since `umount` was taken, found them so, and left them
+-- the newest step on the flags of a mount, since `umount` was taken, found them so, and left them
 abbrev pub KnowsFlag : ℕ → Bool → List Traced → Type 0
 KnowsFlag m set trace = (v : ℕ) × (last_left (MountFlags m) trace ≡ Some v) × (has_flag v 1 ≡ set)
 
@@ -133,7 +133,7 @@ change_kept c t m ro wait = record {
       (change_event c t m ro wait value hook earlier added here.0 here.2);
 }
 
--- a change that is done with its next event, and has added nothing, is at its release
+-- a change that is done with its next step, and has added nothing, is at its release
 change_ends : (c : Config) (t m : ℕ) (ro wait : Bool) (step : ChangeStep) (found : ℕ) (hook : HookAnswer) (trace : List Traced) (added : List Action)
     (reply : Reply) → (after_of (change c t m ro wait step) found hook).0 ≡ Done (Ok reply) →
     actions_after (after_of (change c t m ro wait step) found hook).1 added ≡ [] → ChangeKnows m ro step trace added →
@@ -237,7 +237,7 @@ snapshot_ends c t wait (SnapshotStep.LoadsNode node) found hook reply ends =
 snapshot_ends c t wait (SnapshotStep.LoadsKids node) found hook reply ends = absurd (let no : ⊥ = cc in no)
 snapshot_ends c t wait (SnapshotStep.Releases answer) found hook reply ends = let same : answer ≡ Ok reply = cc in ap SnapshotStep.Releases same
 
--- A world in which an event happens, of an operation that owns `umount` and has not set `remount`.
+-- A state in which a step happens, of an operation that owns `umount` and has not set `remount`.
 module _ (c : Config) (w : World) (good : IsGood c w) (t : ℕ) (lt : t < c.tasks) (trace : List Traced) (events : (w.views t).trace ≡ trace)
     (own : owns (w.views t).phase ≡ 1) (none : remounts (w.views t).phase ≡ 0) where
   still : (word : WordName) (v : ℕ) → last_left word trace ≡ Some v → read w.words word ≡ v
@@ -318,12 +318,12 @@ adds_some (Close file p wait) reply trace told none =
     elim (cases_Bool (found_dropped trace)) [ inl f ↦ some_first _ _ (rw f at none) | inr f ↦ some_first _ _ (rw f at none) ]
 adds_some op reply trace told none = some_first _ _ none
 
--- The last event of a call, with which it is done, having added nothing.
+-- The last step of a call, with which it is done, having added nothing.
 module _ (c : Config) (items : DealtNumbers) (earlier : List Traced) (e : Traced) (seen gone : List (List Entry)) (reply : Reply) where
   abbrev n : ℕ
   n = own_number items
 
-  -- the event ends the operation so, and no action is added until then
+  -- the step ends the operation so, and no action is added until then
   abbrev EndsSo : (op : Op) → IsEventDuring c items op earlier e seen gone → Type 0
   EndsSo op during =
       let after = after_of during.happens.phase e.event.found e.hook in
@@ -423,6 +423,6 @@ module _ (op : Op) (old left : SeatedTask) (reply : Reply) (called : Called op o
             (follows.1, sym (ap (λ (s : TraceState). s.comes) course) ∙ ends, sym (ap (λ (s : TraceState). s.added) course) ∙ (added ∙ none)) told none;
       }
 
-  -- so it was so at its last event
+  -- so it was so at its last step
   pub was_so : WasSoDuring old.config old.items op reply old.seen left.seen
   was_so = by_trace called.trace called.follows called.ends called.added called.moves called.honest none_added

@@ -29,7 +29,7 @@ only_since : (h : Holder) (n : ℕ) (later earlier : List Done) → OnlyThawsBy 
 only_since h n [] earlier only = tt
 only_since h n (a ∷ later) earlier only = (only.0, only_since h n later earlier only.1)
 
--- a world whose schedule goes on from another's has that one's history behind its own
+-- a state whose schedule goes on from another's has that one's history behind its own
 grown : (c : Config) (one two : DealtNumbers) (s r : List (List Entry)) (first : HaveHistory c one s) (last : HaveHistory c two r) → StaySeen s r →
     (more : List Done) × (last.history.log ≡ more ++ first.history.log)
 grown c one two s r first last stay =
@@ -44,7 +44,7 @@ grown c one two s r first last stay =
           (actions_append c a on.0 ∙ ap (λ (l : List Done). actions_since c a on.0 ++ l) first.history.reached.made)),
     )
 
--- Between two worlds, the second of which goes on from the first: a number has a freeze for this holder by its list in the first, and it has not
+-- Between two states, the second of which goes on from the first: a number has a freeze for this holder by its list in the first, and it has not
 -- left since, nor has any other.
 still_since : (h : Holder) (c : Config) (n : ℕ) (one two : DealtNumbers) (s r : List (List Entry)) (first : HaveHistory c one s)
     (last : HaveHistory c two r) (list added : List Action) → StaySeen s r → own_part n first.history.log ≡ list →
@@ -78,7 +78,7 @@ tree_stays h c n one two three s r q first last end list added on_last on_end at
     (ap (own_part n) (sym last.history.reached.made) ∙ done_there c two r last n (added ++ list) at_last) holds never
     (only_behind h n later last.history.log (subst (OnlyThawsBy h n) there only_end))
 
--- what closed gates leave has behind it the history of each world that their last task had seen
+-- what closed gates leave has behind it the history of each state that their last task had seen
 ended_on : (c : Config) (two : DealtNumbers) (r : List (List Entry)) (last : HaveHistory c two r) (ws : List ℕ) (items : DealtNumbers)
     (seen : List (List Entry)) (e : EndedWith c ws items seen) → StaySeen r seen →
     (more : List Done) × (e.ended.history.log ≡ more ++ last.history.log)

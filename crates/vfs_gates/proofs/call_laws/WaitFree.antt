@@ -18,7 +18,7 @@ use Rattle.gate_steps.specs.Seating.{DealtNumbers}
 use Rattle.gate_steps.specs.call_events.{Runs.{AreMoves, Called, OpUnderWay, ProgressMatches}, SeatedTasks.{SeatedTask, own_number}}
 use Rattle.gate_steps.proofs.call_events.Spanning.{last_event}
 
--- each word may hold some value, and so each event may find one
+-- each word may hold some value, and so each step may find one
 word_value : (word : WordName) → (v : ℕ) × WordIsValid word v
 word_value (Node n) = (0, refl)
 word_value (Sync i) = (0, refl)
@@ -47,16 +47,16 @@ next_at (Wait phase) q is = let v = some_value phase (next_of phase (Ok tt)).0 i
     (with_hook (event_of (next_of phase (Ok tt)).0 (next_of phase (Ok tt)).1 v.0) (Ok tt), (v.0, refl, v.1))
 next_at (Done answer) q is = absurd (let no : ⊥ = cc in no)
 
--- an operation that is still under way has room for one event more
+-- an operation that is still under way has room for one step more
 fewer : (c : Config) → IsWithin c → (t : ℕ) (op : Op) (trace : List Traced) (most : ℕ) (q : Phase) → most_events c op ≡ Some most →
     IsTrace c t op trace → phase_after (state_of_trace c t op trace).comes ≡ Some q → length trace < most
 fewer c lim t op trace most q bound follows at =
     let next = next_at (state_of_trace c t op trace).comes q at in
     let short : IsShort (Some most) (next.0 ∷ trace) =
-    subst (λ (o : Option ℕ). IsShort o (next.0 ∷ trace)) bound ((op_keeps c op).short lim t (next.0 ∷ trace) (next.1, follows)) in
+    subst (λ (o : Option ℕ). IsShort o (next.0 ∷ trace)) bound (((op_keeps c op).traces lim).short t (next.0 ∷ trace) (next.1, follows)) in
     omega (arith, short)
 
--- before the first event any operation has
+-- before the first step any operation has
 some_most : (c : Config) (op : Op) (most : ℕ) → most_events c op ≡ Some most → 1 ≤ most
 some_most c op most bound = grind arith
 

@@ -1,4 +1,4 @@
--- A call begins in a world in which its task's numbers stand as they did.
+-- A call begins in a state in which its task's numbers stand as they did.
 use Rattle.std.proofs.Common.{◌≡◌, ℕ, zero, suc, List, [], ◌∷◌, ◌++◌, refl, sym, ap, ◌∙◌, subst, arith}
 use Rattle.std.proofs.lemmas.List.{append_assoc}
 use Rattle.std.specs.Prelude.{Option, Some, None, Result}
@@ -15,7 +15,7 @@ use Rattle.gate_steps.specs.call_events.{Grown.{StaySeen}, Runs.{IsNextMove, Are
 use Rattle.gate_steps.proofs.call_events.Grown.{next_on, only, stays_seen_on}
 use Rattle.vfs_gates.specs.Meetings.{BeginsIn}
 
--- an event's schedule goes on from the one before it
+-- a step's schedule goes on from the one before it
 goes_on : (n : ℕ) (begins : Option Op) (hook : HookAnswer) (past : List Entry) → IsPrefix past (then_steps n hook (then_begins n begins past))
 goes_on n None hook past = (Steps n hook ∷ [], refl)
 goes_on n (Some op) hook past = (Begins n op ∷ (Steps n hook ∷ []), append_assoc past (Begins n op ∷ []) (Steps n hook ∷ []))

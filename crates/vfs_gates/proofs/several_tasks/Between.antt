@@ -85,7 +85,7 @@ writable_there c items seen h all none =
     let writable : (end_of (log ++ [])).sb_ro ≡ false = stays_writable log [] (by_parts Seals (model_limits c) log [] legal each) refl in
     ap (λ s. s.sb_ro) (sym (ap end_of (append-nil log) ∙ h.history.end)) ∙ writable
 
--- Two calls, and a world before the first, and one after the second: what neither call has added no number has since.
+-- Two calls, and a state before the first, and one after the second: what neither call has added no number has since.
 pub record AroundBoth (c other : Config) (before after : DealtNumbers) (s r old left begins ends : List (List Entry)) (made took : List Action) : Type 1 where
   pub first : HaveHistory c before s
   pub last : HaveHistory c after r
@@ -103,7 +103,7 @@ module _ (op next : Op) (one two begins beside left first second asks third four
   config_one : begins.config ≡ one.config
   config_one = ap (λ (s : SeatedTask). s.config) meets.first
 
-  -- the worlds of the first meeting and of the last
+  -- the states of the first meeting and of the last
   at_first : HaveHistory begins.config (one.items ++ two.items) meets.seen
   at_first = subst (λ (k : Config). HaveHistory k (one.items ++ two.items) meets.seen) (sym config_one) meets.stand.all
 

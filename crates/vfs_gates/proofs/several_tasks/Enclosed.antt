@@ -44,7 +44,7 @@ stood c n a b d list f g first last =
     (part_more n (actions_since c b g.0) (actions_so_far c b) ∙ ap (λ (l : List Action). p ++ l) there))) in
     there ∙ in_between p q list whole
 
--- in the schedule of a world each number has the list that it has there
+-- in the schedule of a state each number has the list that it has there
 pub done_there : (c : Config) (items : DealtNumbers) (seen : List (List Entry)) (h : HaveHistory c items seen) (n : ℕ) (list : List Action) →
     HasDone n list items → own_part n (actions_so_far c h.history.reached.entries) ≡ list
 done_there c items seen h n list has =
@@ -92,7 +92,7 @@ mount_there c lim n m es list is holds =
     (granted_there (model_limits c) n m (actions_so_far c es) (whole_run c lim es).legal
     (subst (λ (k : List Action). 1 ≤ mounts_of k m) (sym is) holds)).1
 
--- a load that says that a mount is read-only says so of the shown model
+-- a load that says that a mount is read-only says so of the shown state
 pub read_only_found : (c : Config) (w : World) → IsGood c w → (m : ℕ) → m < c.mounts → (word : WordName) (found : ℕ) →
     found ≡ read w.words word → says_read_only m word found ≡ true → IsReadOnly (shown c w) m
 read_only_found c w good m lm (MountFlags k) found is says =

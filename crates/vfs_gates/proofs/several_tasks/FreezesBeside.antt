@@ -104,7 +104,7 @@ no_held : (h : Holder) (words : Words) (word : WordName) (found : ℕ) → found
 no_held h words HoldersWord found is unheld says = false≢true (sym (ap (λ n. held_by (holders_in n) h) is ∙ unheld) ∙ says)
 no_held h words word found is unheld says = false≢true says
 
--- some event of a busy freeze says so
+-- some step of a busy freeze says so
 abbrev SaysBusy : Holder → Event → Type 0
 SaysBusy h e = (is_load e.touch ≡ true) × ((says_moving e.word e.found ≡ true) ⊎ (says_held h e.word e.found ≡ true))
 

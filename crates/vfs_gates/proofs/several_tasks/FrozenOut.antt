@@ -117,7 +117,7 @@ module _ (h : Holder) (c : Config) (lim : IsWithin c) (a d more : List Entry) (i
         own = part_more k at.2 before ∙ ap (λ (x : List Action). x ++ own_part k before) at.6;
       }
 
--- A call that lies between two worlds, in the first of which all is frozen for this holder. No number thaws for it in between.
+-- A call that lies between two states, in the first of which all is frozen for this holder. No number thaws for it in between.
 module _ (h : Holder) (op : Op) (old left : SeatedTask) (reply : Reply) (before after : DealtNumbers) (called : Called op old left (Ok reply))
     (around : Encloses before after old left) (frozen : IsFrozenFor (shown old.config around.first.world) h)
     (none : NoneSince (Thaws h) old.config around.first.world around.last.world) where

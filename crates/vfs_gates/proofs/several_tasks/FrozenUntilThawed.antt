@@ -111,7 +111,7 @@ no_unheld h words HoldersWord found is held says =
     false≢true (subst (λ b. not b ≡ true) (ap (λ n. held_by (holders_in n) h) is ∙ held) says)
 no_unheld h words word found is held says = false≢true says
 
--- some event of a refused call says otherwise
+-- some step of a refused call says otherwise
 abbrev SaysThawed : Holder → Event → Type 0
 SaysThawed h e = (is_load e.touch ≡ true) × ((says_incomplete e.word e.found ≡ true) ⊎ (says_unheld h e.word e.found ≡ true))
 
@@ -209,7 +209,7 @@ module _ (op : Op) (old left : SeatedTask) (refusal : GateError) (called : Calle
       (own ∙
       (adds op old left (Err refusal) called ∙ ap (λ (l : List Action). l ++ own_actions old) none))))
 
-  -- at each of its events it has done what it had done before the call
+  -- at each of its steps it has done what it had done before the call
   pub list_during : IsWithin c → (earlier : List Traced) (e : Traced) (during : IsEventDuring c old.items op earlier e old.seen left.seen) →
       own_part n (actions_so_far c during.entries) ≡ own_actions old
   list_during lim earlier e during =

@@ -8,7 +8,7 @@ use Rattle.gate_steps.specs.Seating.{DealtNumbers}
 use Rattle.gate_steps.proofs.call_events.Grown.{stays_seen_on}
 use Rattle.vfs_gates.specs.TaskStates.{SeatedTask, own_number}
 
--- after its first event
+-- after its first step
 moves_still : (c : Config) (op : Op) (items : DealtNumbers) (seen : List (List Entry)) (trace : List Traced) (now later : List (List Entry)) →
     begins_at op trace ≡ None → AreMovesSoFar c op items seen trace now → StaySeen now later → AreMovesSoFar c op items seen trace later
 moves_still c op items seen [] now later stepped moves stays = absurd (let no : ⊥ = cc in no)

@@ -47,7 +47,7 @@ freeze_held h c lim a d more is none k rest began since from to its =
     (frozen_still l h at.0 (at.1 ∷ before) (subst (IsLegal l) whole (whole_run c lim (began ++ since)).legal) held
     (never_leaves h at.0 (none_later (Thaws h) at.0 (at.1 ∷ at.2) (subst (NoneOfThese (Thaws h)) at.3 during)))).frozen.1
 
--- A freeze that was granted, and a later call by a task that had seen it. Between a world before the first and one after the second no number
+-- A freeze that was granted, and a later call by a task that had seen it. Between a state before the first and one after the second no number
 -- thaws for its holder.
 module _ (h : Holder) (op : Op) (old left begins ends : SeatedTask) (reply answer : Reply) (before after : DealtNumbers)
     (s r : List (List Entry)) (f : HaveHistory old.config before s) (g : HaveHistory old.config after r)

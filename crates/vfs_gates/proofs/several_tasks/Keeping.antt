@@ -65,7 +65,7 @@ module _ (l : Limits) (n m : ℕ) (list : List Action) (holds : 1 ≤ mounts_of 
         none_shuts more earlier legal.1 first same,
       )
 
--- A call that began after a world, and returned before another, in both of which a number has this list.
+-- A call that began after a state, and returned before another, in both of which a number has this list.
 module _ (op : Op) (old left : SeatedTask) (answer : Result Reply GateError) (called : Called op old left answer)
     (before after : DealtNumbers) (around : Encloses before after old left) (n : ℕ) (list : List Action) (at_first : HasDone n list before) (at_last : HasDone n list after) where
   abbrev c : Config

@@ -83,7 +83,7 @@ pub none_earlier : (Is : Action → Type 0) (later earlier : List Done) → None
 none_earlier Is [] earlier none = none
 none_earlier Is (a ∷ later) earlier none = none_earlier Is later earlier none.1
 
--- between two worlds, of which the second's schedule goes on from the first's
+-- between two states, of which the second's schedule goes on from the first's
 pub none_between : (Is : Action → Type 0) (c : Config) → IsWithin c → (one two : DealtNumbers) (s r : List (List Entry)) (f : HaveHistory c one s)
     (g : HaveHistory c two r) → (more : List Entry) → g.history.reached.entries ≡ f.history.reached.entries ++ more →
     NoneSince Is c f.world g.world → NoneOfThese Is (actions_since c f.history.reached.entries more)

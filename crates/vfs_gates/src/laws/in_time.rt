@@ -52,12 +52,12 @@ pub fn closed_gates_are_left_after_all_that_was_seen()
 {}
 
 /// A whole call takes effect between its call and its return. The schedule with which it returns is one that goes on from all that its task had
-/// seen when it called, with more entries, of which the task's are the beginning and the call's own events, each once and in their order. In the
+/// seen when it called, with more transitions, of which the task's are the beginning and the call's own steps, each once and in their order. In the
 /// history that it leaves, the actions that were added since the call began come after all that stood there when it did, and the task's own among
 /// them are exactly the call's.
 ///
 /// - `actions`: that, of each call.
-/// - `nothing`: a call that was done, and added no action to its task's list, has its instant too: in the world of its last event, with which it
+/// - `nothing`: a call that was done, and added no action to its task's list, has its instant too: in the state of its last step, with which it
 ///   returns, there was nothing to do. The mount that it was to make read-only or writable was so, and so the superblock; no
 ///   callback was queued; or all was frozen, of a snapshot. No other call is done without an action.
 pub fn a_call_takes_effect_between_call_and_return()
@@ -78,9 +78,9 @@ pub fn calls_take_effect_in_order()
         (own_number begins.items) (state_of_trace begins.config (own_number begins.items) two second.trace).added second.history.history.log }
 {}
 
-/// A refused call has its cause between its call and its return, whatever its operation: the worlds among which `every_schedule` finds it (clause
-/// `causes`) are those from the beginning of the operation to the event that brought the refusal, in a schedule that goes on from all that the
-/// task had seen when it called, and with that event it returns. So a want is ReadOnly only if the mount was read-only at a moment of the call, and
+/// A refused call has its cause between its call and its return, whatever its operation: the states among which `every_schedule` finds it (clause
+/// `causes`) are those from the beginning of the operation to the step that brought the refusal, in a schedule that goes on from all that the
+/// task had seen when it called, and with that step it returns. So a want is ReadOnly only if the mount was read-only at a moment of the call, and
 /// not for what had been undone before it.
 pub fn a_refused_call_has_its_cause_between_call_and_return()
     ensures { (op : Op) (old left : SeatedTask) (refusal : GateError) (called : Called op old left (Err refusal)) →
@@ -111,8 +111,8 @@ pub fn a_freeze_stands_until_it_is_thawed()
 ///
 /// - `calls`: in what a call leaves, since a freeze for that holder by the same task, if the task hasn't thawed for it since, and no other number thaws for
 ///   it. Closed gates tell, whose last task has seen what the call left.
-/// - `worlds`: in each world since one in which a number's list has a freeze for that holder, if that number hasn't thawed for it since, and no other
-///   has. A third world tells the latter, which goes on from both: it may be the second.
+/// - `worlds`: in each state since one in which a number's list has a freeze for that holder, if that number hasn't thawed for it since, and no other
+///   has. A third state tells the latter, which goes on from both: it may be the second.
 pub fn a_frozen_tree_stays_until_it_is_thawed()
     ensures calls { (h : Holder) (op : Op) (old frozen begins left : SeatedTask) (reply : Reply) (answer : Result Reply GateError)
         (added : List Action) (first : Called (Freeze h) old frozen (Ok reply)) (last : Called op begins left answer) →

@@ -1,4 +1,4 @@
-//! Laws of several tasks in one world. Where two tasks meet, one world has what both have done. What stands the same in a world before a call and in
+//! Laws of several tasks in one state. Where two tasks meet, one state has what both have done. What stands the same in a state before a call and in
 //! one after it stood so at each moment of the call. The functions do nothing: their contracts are the laws.
 
 ghost use Rattle.std.specs.Prelude.{◌≡◌, ◌≤◌, ◌<◌, ◌++◌, ◌⊎◌, ℕ, Bool, true, false, None, Some, Ok, Err, Result, List};
@@ -44,7 +44,7 @@ pub fn an_operation_goes_on_across_a_meeting()
         later ≡ record now { seen = later.seen } → OpUnderWay op (record start { seen = later.seen }) later }
 {}
 
-/// A call comes after all that its task was told: by a receipt, a meeting, a join or a split. If a number had this list in a world that the task had
+/// A call comes after all that its task was told: by a receipt, a meeting, a join or a split. If a number had this list in a state that the task had
 /// seen, then in the history that the call leaves all of that list stands before all that was added since the call began. A task has seen its own
 /// number's list after each call, and what was seen goes with what is sent.
 pub fn a_call_comes_after_what_its_task_was_told()
@@ -56,15 +56,15 @@ pub fn a_call_comes_after_what_its_task_was_told()
         SawList c n list now }
 {}
 
-/// A call begins in a world in which its task's numbers stand as they did, and which goes on from all that the task had seen. What the call leaves
-/// goes on from that world.
+/// A call begins in a state in which its task's numbers stand as they did, and which goes on from all that the task had seen. What the call leaves
+/// goes on from that state.
 pub fn a_call_begins_in_a_world()
     ensures { (op : Op) (old left : SeatedTask) (answer : Result Reply GateError) → Called op old left answer →
         BeginsIn old.config old.items old.seen left.seen }
 {}
 
 /// While a number holds an access at a mount, nobody makes that mount read-only: no change of it, and a remount is Busy. This is so of each call
-/// before which and after which that number has the same list, by which it holds one: in a world that the calling task had seen, and in one that
+/// before which and after which that number has the same list, by which it holds one: in a state that the calling task had seen, and in one that
 /// has seen what the call left.
 pub fn a_holder_keeps_the_mount_writable()
     ensures change { (m n : ℕ) (wait : Bool) (old left : SeatedTask) (reply : Reply) (list : List Action) (before after : DealtNumbers) →
@@ -100,7 +100,7 @@ pub fn a_task_beside_keeps_the_mount_writable()
 
 /// A mount that a call has made read-only, or found so, admits nobody until somebody makes it or the superblock writable. Of a call that comes
 /// later, as far as its task has seen the other, no access is granted there, if in no number's list an action that makes it writable was added
-/// meanwhile: from a world that the first call's task had seen to one that has seen what the second left.
+/// meanwhile: from a state that the first call's task had seen to one that has seen what the second left.
 pub fn a_mount_made_read_only_admits_nobody()
     ensures { (m : ℕ) (wait : Bool) (op : Op) (old left begins ends : SeatedTask) (reply answer : Reply) (before after : DealtNumbers)
         (s r : List (List Entry)) (first : HaveHistory old.config before s) (last : HaveHistory old.config after r) →
@@ -122,7 +122,7 @@ pub fn two_tasks_with_all_numbers_know_a_read_only_mount()
         p < second.config.processors → outcome ≡ Err ReadOnly }
 {}
 
-/// While all is frozen for a holder nobody goes inside, until that holder thaws. From a world in which all is frozen for it to a later one, if no
+/// While all is frozen for a holder nobody goes inside, until that holder thaws. From a state in which all is frozen for it to a later one, if no
 /// number's list has gained a thaw of it: no write access is granted, and no start at any level either, if the superblock was writable. (A freeze
 /// of a read-only superblock closes no level.)
 pub fn what_is_frozen_admits_nobody()
@@ -136,7 +136,7 @@ pub fn what_is_frozen_admits_nobody()
 {}
 
 /// A freeze that a call was granted keeps everybody out until its holder thaws. Of a call that comes later, as far as its task has seen the freeze,
-/// no write access is granted, if no number's list has gained a thaw of that holder meanwhile: from a world that the freezing task had seen to one
+/// no write access is granted, if no number's list has gained a thaw of that holder meanwhile: from a state that the freezing task had seen to one
 /// that has seen what the later call left. Nor is a start at any level, if the superblock was writable and nobody has made it read-only meanwhile.
 pub fn a_granted_freeze_keeps_others_out()
     ensures writes { (h : Holder) (m p : ℕ) (old left begins ends : SeatedTask) (reply answer : Reply) (before after : DealtNumbers)

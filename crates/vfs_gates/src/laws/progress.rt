@@ -38,8 +38,8 @@ pub fn calls_that_wait_for_nobody_are_wait_free()
 /// HOLD set at its mount there, has `umount`, or is inside a section; or the level was closed when the task last looked, or something was counted there
 /// while a freeze summed it, always since its operation began.
 ///
-/// - `steps`: that state is one of a schedule that goes on from all that the task had seen, and the step is the next entry.
-/// - `calls`: so it is of each event of a whole call that came to a wait, between call and return.
+/// - `steps`: that state is one of a schedule that goes on from all that the task had seen, and the step is the next transition.
+/// - `calls`: so it is of each step of a whole call that came to a wait, between call and return.
 pub fn a_step_that_waits_is_blocked()
     ensures steps { (phase : Phase) (hook : HookAnswer) (step : Step) (old left : SeatedTask) → Stepped phase hook old step left →
         step.progress ≡ Waiting → WasBlocked old.config old.items phase hook old.seen left.seen }

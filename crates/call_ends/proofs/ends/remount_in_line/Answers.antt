@@ -1,7 +1,7 @@
 -- the remount stands where its line goes on
 use Rattle.mount_counts.specs.declared.remounts.RemountStep.TheVariants.{LoadsStage}
 use Rattle.gate_steps.proofs.call_events.Leading.{asking_from, stands_from}
-use Rattle.call_lines.proofs.Remounting.{remount_stands}
+use Rattle.call_ends.proofs.Remounting.{remount_stands}
 use Rattle.call_ends.proofs.ends.remount_in_line.Goals as goal
 
 pub remount_locked-requires : goal.remount_locked-requires

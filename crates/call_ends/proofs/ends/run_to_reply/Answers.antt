@@ -1,4 +1,4 @@
--- each event goes on from what the one before it left, and fewer are left
+-- each step goes on from what the one before it left, and fewer are left
 use Rattle.std.proofs.Common.{refl, ap, ◌∙◌}
 use Rattle.std.specs.Prelude.{None}
 use Rattle.access_model.specs.Replies.{map_next}

@@ -1,4 +1,4 @@
--- Each event goes on from what the one before it left, and fewer are left.
+-- Each step goes on from what the one before it left, and fewer are left.
 use Rattle.std.proofs.Common.{◌≡◌, ℕ, Bool, List}
 use Rattle.std.specs.Prelude.{Some}
 use Rattle.gate_world.specs.declared.operations.Op.{Op}

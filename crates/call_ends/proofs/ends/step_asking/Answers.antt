@@ -1,4 +1,4 @@
--- the hook that the event reads was asked right before it
+-- the hook that the step reads was asked right before it
 use Rattle.std.proofs.Common.{sym, ◌∙◌}
 use Rattle.gate_steps.specs.call_events.Asking.{call_at, asks_with}
 use Rattle.gate_steps.proofs.call_events.Asking.{AskedFor, asks_more, was_asked, was_not}

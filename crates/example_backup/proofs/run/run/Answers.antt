@@ -1,4 +1,4 @@
--- Each task ends in the closed gates' world with the list that it brought back, which it had begun with none.
+-- Each task ends in the closed gates' state with the list that it brought back, which it had begun with none.
 use Rattle.std.proofs.{Common.{◌≡◌, ◌+◌, ◌<◌, ◌++◌, length, refl, arith, ap, sym, subst, suc, zero, ◌∙◌}, lemmas.Result.{err_from_is_err_and}}
 use Rattle.std.specs.{Prelude.{Bool, Result, Ok, Err, Option, None, IfSome, OnOk}, Result.{result_ok}}
 use Rattle.vfs_gates.proofs.Rounds.{Config, IsWithin, TableId, first_known, task_state}

@@ -1,4 +1,4 @@
--- Each event of the line goes on from what the one before it left.
+-- Each step of the line goes on from what the one before it left.
 use Rattle.std.specs.Prelude.{None}
 use Rattle.gate_steps.specs.call_events.{Led.{Led}, Turns.{of_change}}
 use Rattle.fast_paths.proofs.changes.add_counts.Given as goal

@@ -1,4 +1,4 @@
--- an operation that the line goes on with has one event more
+-- an operation that the line goes on with has one step more
 use Rattle.std.proofs.Common.{sym, ap}
 use Rattle.std.specs.Prelude.{Ok}
 use Rattle.access_model.specs.Replies.{map_next}

@@ -1,4 +1,4 @@
--- the second event goes on from what the first one left
+-- the second step goes on from what the first one left
 use Rattle.std.proofs.Common.{refl}
 use Rattle.std.specs.Prelude.{Ok}
 use Rattle.gate_steps.proofs.call_events.Leading.{led_on, led_once, seated_stands}

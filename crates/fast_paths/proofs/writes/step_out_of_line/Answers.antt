@@ -1,4 +1,4 @@
--- one event, which reads no answer of a hook
+-- one step, which reads no answer of a hook
 use Rattle.std.proofs.Common.{refl}
 use Rattle.std.specs.Prelude.{Ok}
 use Rattle.gate_steps.proofs.call_events.Leading.{led_once}

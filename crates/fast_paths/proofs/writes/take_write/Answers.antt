@@ -1,4 +1,4 @@
--- each event of the line goes on from what the one before it left
+-- each step of the line goes on from what the one before it left
 use Rattle.std.proofs.Common.{refl, sym, ap, arith}
 use Rattle.std.specs.Prelude.{Ok}
 use Rattle.access_model.specs.declared.replies.Next.TheVariants.{Go}

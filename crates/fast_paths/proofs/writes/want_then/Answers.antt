@@ -1,4 +1,4 @@
--- each event of the line goes on from what the one before it left
+-- each step of the line goes on from what the one before it left
 use Rattle.gate_steps.proofs.call_events.Leading.{led_on, still_stands}
 use Rattle.fast_paths.proofs.writes.want_then.Goals as goal
 

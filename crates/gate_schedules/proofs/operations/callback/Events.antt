@@ -1,26 +1,19 @@
--- Events of a callback: each keeps the rule, and leaves the shown model.
-use Rattle.std.proofs.lemmas.Grind.{common_steps}
-use Rattle.access_model.specs.{Histories.{levels_of}, Replies.{map_next}, declared.replies.Next.{Next}}
-use Rattle.cpu_words.specs.{Hooks.{HookAnswer}, Touches.{found_by, left}, Words.{Words, put, read}, declared.events.Touch.{Touch}}
-use Rattle.cpu_words.specs.{declared.names.WordName.{WordName}, gate_counts.Levels.{Out as CountsNot}}
-use Rattle.finite_sums.proofs.Totals.{update_same}
-use Rattle.finite_sums.specs.Sums.{update}
-use Rattle.gate_schedules.proofs.frames.Frames.{left_alone, level_view_as}
-use Rattle.gate_schedules.proofs.levels.Parts.{IsAtLevels, SameOffLevels, SameAtMounts, level_parts, level_still, whole_same}
-use Rattle.gate_schedules.proofs.levels.Worlds.{IsEventAt, IsOfLevel, found_level, level_there, sync_elsewhere, sync_off, sync_on}
-use Rattle.gate_world.specs.{Configs.{IsWithin}, Fits.{Fits, GraceFits, PhaseFits}, Holdings.{Holdings}, LevelRuns.{level_in}}
-use Rattle.gate_world.specs.Levels.{inside, level_added_after, level_added_by, level_role_of, level_taken_after, level_taken_by, sync_role_of}
-use Rattle.gate_world.specs.{Rules.{AtLevel, Fitting, Holds, IsGood, Moves, StepKeeps, SyncAt, ViewFits}, Shown.{shown}}
-use Rattle.gate_world.specs.{Views.{actions_after, held_of, phase_after, view_after}, Worlds.{World}}
-use Rattle.gate_world.specs.declared.{config.Config.{Config}, views.View.{View}, work.Phase.{Phase}}
-use Rattle.freeze_laws.proofs.levels.Operations.{callbacks_are_there}
-use Rattle.freeze_laws.specs.levels.Events.{SyncLevel, SyncLevelHolds, SyncStep}
-use Rattle.freeze_laws.specs.levels.Operations.{CallbackIsThere, HoldsOfNext, KnowsCallback, by_next, callback_role, left_by, put_at, value_at}
-use Rattle.freeze_laws.specs.levels.Roles.{Out as IsApart}
-use Rattle.percpu_rwsem.specs.{Callbacks.{at_callback, callback_after, callback_next}, declared.callbacks.Callback.{Callback}}
-use Rattle.percpu_rwsem.specs.declared.{callbacks.CallbackStep.{CallbackStep}}
-use Rattle.std.proofs.{Common.{ap, arith, inl, inr, subst, sym, ℕ, ◌<◌, ◌∙◌, ◌≡◌, ◌≤◌}, lemmas.Bool.Decides.{eqb_tells}}
-use Rattle.std.specs.Prelude.{None, Some, if◌then◌else◌}
+-- Steps of a callback: each keeps the invariant, and leaves the shown state.
+use Rattle.gate_schedules.proofs.Prelude.{AtLevel, Config, Fits, Fitting, Holdings, Holds, HookAnswer, IsGood, IsWithin, Next, None, Phase, PhaseFits}
+use Rattle.gate_schedules.proofs.Prelude.{Some, StepKeeps, SyncAt, SyncStep, Touch, View, WordName, Words, World, ap, arith, common_steps, eqb_tells}
+use Rattle.gate_schedules.proofs.Prelude.{found_by, held_of, if◌then◌else◌, inl, inr, inside, left, level_in, map_next, phase_after, put, read, shown}
+use Rattle.gate_schedules.proofs.Prelude.{subst, sym, sync_role_of, update, update_same, ℕ, ◌<◌, ◌∙◌, ◌≡◌, ◌≤◌}
+use Rattle.access_model.specs.Histories.{levels_of}
+use Rattle.cpu_words.specs.gate_counts.Levels.{Out as CountsNot}
+use Rattle.gate_schedules.proofs.{frames.Frames.{left_alone, level_view_as}, levels.Parts.{IsAtLevels, SameOffLevels, SameAtMounts, level_parts}}
+use Rattle.gate_schedules.proofs.levels.{Parts.{level_still, whole_same}, Worlds.{IsEventAt, IsOfLevel, found_level, level_there, sync_elsewhere}}
+use Rattle.gate_schedules.proofs.levels.Worlds.{sync_off, sync_on}
+use Rattle.gate_world.specs.{Fits.GraceFits, Levels.{level_added_after, level_added_by, level_role_of, level_taken_after, level_taken_by}}
+use Rattle.gate_world.specs.{Rules.{Moves, ViewFits}, Views.{actions_after, view_after}}
+use Rattle.freeze_laws.{proofs.levels.Operations.callbacks_are_there, specs.levels.{Events.{SyncLevel, SyncLevelHolds}, Operations.CallbackIsThere}}
+use Rattle.freeze_laws.specs.levels.{Operations.{HoldsOfNext, KnowsCallback, by_next, callback_role, left_by, put_at, value_at}, Roles.Out as IsApart}
+use Rattle.percpu_rwsem.specs.{Callbacks.{at_callback, callback_after, callback_next}, declared.callbacks.Callback.Callback}
+use Rattle.percpu_rwsem.specs.declared.callbacks.CallbackStep.{CallbackStep}
 
 pub event_of_level : (b : Callback) (s : CallbackStep) → IsEventAt b.level (callback_next b s).0 (callback_next b s).1
 event_of_level b s = grind arith
@@ -40,7 +33,7 @@ counts_same w b s n = grind arith
 inside_same : (l : SyncLevel) (b : Callback) (s : CallbackStep) (n : ℕ) → (put_at l (callback_next b s).0 n).inside ≡ l.inside
 inside_same l b s n = grind arith
 
--- its event counts nowhere
+-- its step counts nowhere
 module _ (b : Callback) (counted : ℕ → ℕ → ℕ) where
   level_added_same : (s : CallbackStep) → level_added_after (callback_next b s).0 (callback_next b s).1 counted ≡ counted
   level_added_same s = grind arith
@@ -60,16 +53,16 @@ after_counts i n = grind arith
 after_outside : (n : Next Callback) → inside (phase_after (map_next Phase.Callbacks n)) ≡ 0
 after_outside n = grind arith
 
--- what stays of a callback from event to event: its level, and that its grace period is among all tasks
+-- what stays of a callback from step to step: its level, and that its grace period is among all tasks
 abbrev SameCallback : ℕ → ℕ → Callback → Type 0
 SameCallback level tasks x = (x.level ≡ level) × (x.tasks ≡ tasks) × GraceFits tasks x.step
 
--- so each event leaves it
+-- so each step leaves it
 stays_after : (b : Callback) → 0 < b.tasks → (s : CallbackStep) → GraceFits b.tasks s → (found : ℕ) →
     HoldsOfNext (SameCallback b.level b.tasks) (callback_after b s found).0
 stays_after b some s f found = grind arith
 
--- at its level, the role of what comes after an event is the one of its step
+-- at its level, the role of what comes after a step is the one of its program point
 role_next : (i tasks : ℕ) (n : Next Callback) → HoldsOfNext (SameCallback i tasks) n →
     by_next (λ (x : Callback). callback_role x.step) IsApart n ≡ sync_role_of i (phase_after (map_next Phase.Callbacks n))
 role_next i tasks n h = grind arith
@@ -79,7 +72,7 @@ role_elsewhere : (i j tasks : ℕ) → (j ≡ i → ⊥) → (n : Next Callback)
     sync_role_of j (phase_after (map_next Phase.Callbacks n)) ≡ IsApart
 role_elsewhere i j tasks ne n h = grind arith
 
--- so what comes after an event does
+-- so what comes after a step does
 next_fits : (c : Config) (t level tasks : ℕ) (held : Holdings) → 1 ≤ level → level ≤ 3 → tasks ≡ c.tasks →
     (n : Next Callback) → HoldsOfNext (SameCallback level tasks) n →
     HoldsOfNext (λ (x : Callback). (x.tasks ≡ tasks) × KnowsCallback x.step) n →
@@ -88,7 +81,7 @@ next_fits c t level tasks held one three all n stays knows = grind arith
 
 module _ (c : Config) (w : World) (good : IsGood c w) (t : ℕ) (lt : t < c.tasks) (hook : HookAnswer) (b : Callback) (s : CallbackStep)
     (e : (w.views t).phase ≡ Some (Phase.Callbacks (at_callback b s))) where
-  -- the word of its event
+  -- the word of its step
   abbrev pub name : WordName
   name = (callback_next b s).0
 
@@ -110,7 +103,7 @@ module _ (c : Config) (w : World) (good : IsGood c w) (t : ℕ) (lt : t < c.task
   abbrev then_world : World
   then_world = record { words = then_words; views = update w.views t seen_after }
 
-  -- what its phase says before the event
+  -- what its phase says before the step
   here_fits : PhaseFits c t (held_of (w.views t)) (Phase.Callbacks (at_callback b s))
   here_fits = subst (Fits c t (held_of (w.views t))) e (good Fitting t lt)
 
@@ -126,7 +119,7 @@ module _ (c : Config) (w : World) (good : IsGood c w) (t : ℕ) (lt : t < c.task
       callbacks_are_there t (read w.words name) (level_in w b.level) (at_callback b s) (omega (arith, lt, here_fits.2))
       (ap (sync_role_of b.level) e ∙ sync_on b.level (callback_role s)) here_fits.4
 
-  -- on the value that the world has in its word
+  -- on the value that the state has in its word
   found : value_at (level_in w b.level) (read w.words name) name ≡ read w.words name
   found = found_level w b.level name (word_of_level b s)
 
@@ -134,11 +127,11 @@ module _ (c : Config) (w : World) (good : IsGood c w) (t : ℕ) (lt : t < c.task
   knows_next : HoldsOfNext (λ (x : Callback). (x.tasks ≡ b.tasks) × KnowsCallback x.step) coming
   knows_next = grind (arith, common_steps)
 
-  -- it is inside no section before its event and after it
+  -- it is inside no section before its step and after it
   pub stays_outside : inside seen_after.phase ≡ inside (w.views t).phase
   stays_outside = after_outside coming ∙ sym (ap inside e)
 
-  -- the event is one of its level
+  -- the step is one of its level
   pub steps_there : SyncStep c.tasks (level_in w b.level)
       (record (left_by (level_in w b.level) t (name, touch) (read w.words name) (sync_role_of b.level seen_after.phase)) {
         inside = update (level_in w b.level).inside t (inside seen_after.phase);
@@ -207,7 +200,7 @@ module _ (c : Config) (w : World) (good : IsGood c w) (t : ℕ) (lt : t < c.task
             (level_still c w good t lt then_words seen_after words was now same_at_mounts (ap levels_of same_actions)),
       )
 
--- each event of a callback keeps the rule, and leaves the shown model
+-- each step of a callback keeps the invariant, and leaves the shown state
 pub callback_keeps : (c : Config) → IsWithin c → (w : World) → IsGood c w → (t : ℕ) → t < c.tasks → (hook : HookAnswer) (b : Callback) →
     (w.views t).phase ≡ Some (Phase.Callbacks b) → StepKeeps c w t hook (Phase.Callbacks b)
 callback_keeps c lim w good t lt hook b e = keeps_at c w good t lt hook b b.step e

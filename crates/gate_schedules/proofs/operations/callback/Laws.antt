@@ -1,16 +1,14 @@
 -- All that is proved of a callback.
-use Rattle.access_model.specs.{Replies.map_next, declared.{actions.Action.Action, replies.Next.Next}}
+use Rattle.gate_schedules.proofs.Prelude.{Action, Config, Fits, Fitting, List, Next, Op, Option, Phase, Some, World, after_step, arith, found_at}
+use Rattle.gate_schedules.proofs.Prelude.{held_after, held_of, map_next, phase_after, refl, subst, sym, ℕ, ◌∷◌, ◌≤◌}
 use Rattle.gate_schedules.proofs.frames.{Frames.sync_none, OperationLaws.{OpLaws, PhaseLaws, word_among}, Snapshots.completes_none}
 use Rattle.gate_schedules.proofs.operations.callback.{Events.callback_keeps, Trace.{CallbackAt, callback_inductive}}
 use Rattle.gate_schedules.proofs.operations.readers.{Fits.{callback_acts_none, callback_goes, callback_there, level_there}, Runs.callback_runs}
-use Rattle.gate_schedules.proofs.{operations.readers.Waits.callback_waits, traces.TraceInvariant.{is_short, tells}}
-use Rattle.gate_world.specs.{SameRoles.no_roles, Fits.{ActionFits, Fits}, Holdings.held_after, refusals.KeptCauses.CauseOf, Rules.Fitting, Views.{held_of, phase_after}}
-use Rattle.gate_world.specs.{Worlds.{World, after_step, found_at}, declared.{config.Config.Config, operations.Op.Op, work.Phase.Phase}}
+use Rattle.gate_schedules.proofs.{operations.readers.Waits.callback_waits, traces.TraceInvariant.traces_tell}
+use Rattle.gate_world.specs.{Fits.ActionFits, SameRoles.no_roles, refusals.KeptCauses.CauseOf}
 use Rattle.percpu_rwsem.specs.{Callbacks.callback_after, declared.callbacks.Callback.Callback}
-use Rattle.std.proofs.Common.{refl, subst, sym, ℕ, ◌≤◌, arith}
-use Rattle.std.specs.Prelude.{List, Option, Some, ◌∷◌}
 
--- what comes after an event of a callback has no cause
+-- what comes after a step of a callback has no cause
 callback_cause : (c : Config) (t : ℕ) (w : World) (earlier : List World) (n : Next Callback) →
     CauseOf c t w earlier (phase_after (map_next Phase.Callbacks n))
 callback_cause c t w earlier n = grind arith
@@ -49,7 +47,6 @@ callback_op c i = record {
   room_agrees = λ held seen same there. refl;
   restores = λ refusal trace before order. refl;
   file = λ t held order room. tt;
-  tells = λ within t trace h. tells (CallbackAt i c.tasks) c t (Op.Callback i) (callback_inductive c t i) trace h;
-  short = λ within t trace h. is_short (CallbackAt i c.tasks) c t (Op.Callback i) (callback_inductive c t i) trace h;
+  traces = λ within. traces_tell (λ t. CallbackAt i c.tasks) c (Op.Callback i) (λ t. callback_inductive c t i);
   most_small = λ within. tt;
 }

@@ -1,18 +1,17 @@
 -- A callback runs out where nobody is inside a section.
-use Rattle.cpu_words.specs.{Touches.{found_by, left}, Words.{Words, read}, declared.names.WordName.WordName}
-use Rattle.finite_sums.proofs.Totals.{update_at}
+use Rattle.gate_schedules.proofs.Prelude.{Config, Fits, Fitting, IsGood, None, Phase, PhaseFits, SyncAt, WordName, Words, World, ap, arith, eq-eqb}
+use Rattle.gate_schedules.proofs.Prelude.{found_at, found_by, held_of, is_frozen_whole, left, read, refl, subst, sym, sync_role_of, update_at}
+use Rattle.gate_schedules.proofs.Prelude.{words_after, ℕ, ◌+◌, ◌<◌, ◌==◌, ◌∙◌, ◌≡◌, ◌≤◌}
 use Rattle.gate_schedules.proofs.{frames.Words.load_same, levels.Facts.{ExchangeFalls, callback_called, defined_falls, exchange_falls}}
-use Rattle.gate_schedules.proofs.operations.deadlocks.RankDecreases.{after_event, falls_as}
-use Rattle.gate_world.specs.{Fits.{Fits, GraceFits, PhaseFits}, Levels.{is_frozen_whole, sync_role_of}, Roles.sync_role_if, Rules.{Fitting, IsGood, SyncAt}}
-use Rattle.gate_world.specs.{Rules.SyncHoldsIn, Views.held_of, Worlds.{World, found_at, words_after}, declared.{config.Config.Config, work.Phase.Phase}}
+use Rattle.gate_schedules.{proofs.operations.deadlocks.RankDecreases.{after_event, falls_as}, specs.operations.Ranks.{callback_rank, exchange_rank}}
+use Rattle.gate_schedules.specs.operations.{Ranks.{grace_rank, rank}, Unblocked.{RankDecreases, IsUnblocked, NobodyInside, PhaseEnds}}
+use Rattle.gate_world.specs.{Fits.GraceFits, Roles.sync_role_if, Rules.SyncHoldsIn}
 use Rattle.freeze_laws.specs.levels.{Operations.callback_role, Roles.{Ready, claimed as has_claimed}}
 use Rattle.percpu_rwsem.specs.{Callbacks.{callback_after, callback_looked, callback_next, called_back, claimed}, Graces.looked, SyncWords.on_callback}
 use Rattle.percpu_rwsem.specs.{SyncWords.on_claim, Transitions.{transition_after, transition_next}, declared.callbacks.Callback.Callback}
-use Rattle.percpu_rwsem.specs.declared.{callbacks.CallbackStep.CallbackStep, grace.{Grace.Grace, GraceNext.GraceNext}, transitions.Transition.Transition}
-use Rattle.percpu_rwsem.specs.declared.transitions.TransitionNext.{TransitionNext}
-use Rattle.gate_schedules.specs.operations.{Ranks.{callback_rank, exchange_rank, grace_rank, rank}, Unblocked.{RankDecreases, IsUnblocked, NobodyInside, PhaseEnds}}
-use Rattle.std.proofs.{Common.{ap, arith, refl, subst, sym, ℕ, ◌+◌, ◌<◌, ◌∙◌, ◌≡◌, ◌≤◌}, lemmas.Bool.{eq-eqb}}
-use Rattle.std.specs.Prelude.{None, ◌%◌, ◌==◌}
+use Rattle.percpu_rwsem.specs.declared.{callbacks.CallbackStep.CallbackStep, grace.{Grace.Grace, GraceNext.GraceNext}}
+use Rattle.percpu_rwsem.specs.declared.transitions.{Transition.Transition, TransitionNext.TransitionNext}
+use Rattle.std.specs.Prelude.{◌%◌}
 
 -- what comes after a look at a section word that is even
 abbrev pub GraceFalls : ℕ → GraceNext → Type 0

@@ -1,10 +1,7 @@
 -- Traces of a callback.
-use Rattle.std.proofs.lemmas.Grind.{common_steps}
-use Rattle.std.proofs.Common.{◌≡◌, ℕ, arith}
-use Rattle.std.specs.Prelude.{List, []}
-use Rattle.access_model.specs.{declared.{actions.Action.Action}}
-use Rattle.percpu_rwsem.specs.declared.{callbacks.{Callback.Callback, CallbackStep.CallbackStep}}
-use Rattle.gate_world.specs.{traces.Found.transitions_made, declared.{config.Config.Config, operations.Op.Op, views.Traced.Traced, work.Phase.Phase}}
+use Rattle.gate_schedules.proofs.Prelude.{Action, Config, List, Op, Phase, Traced, [], arith, common_steps, ℕ, ◌≡◌}
+use Rattle.percpu_rwsem.specs.declared.callbacks.{Callback.Callback, CallbackStep.CallbackStep}
+use Rattle.gate_world.specs.traces.Found.{transitions_made}
 use Rattle.gate_schedules.proofs.traces.TraceInvariant.{IsInductive}
 
 -- a callback of this level over so many tasks, at a step

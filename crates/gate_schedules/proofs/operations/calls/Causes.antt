@@ -1,20 +1,17 @@
--- The causes of the refusals of the calls at the tree, along a schedule: a snapshot keeps one, as a thaw does, and no other call does.
-use Rattle.std.proofs.{Common.{◌≡◌, ℕ, arith}, lemmas.Grind.{common_steps}}
-use Rattle.std.specs.Prelude.{Option, Some, List, ◌∷◌}
-use Rattle.access_model.specs.{Replies.map_next, declared.{replies.Next.Next}}
-use Rattle.cpu_words.specs.Hooks.{HookAnswer}
+-- The causes of the refusals of the calls at the tree, along an execution: a snapshot keeps one, as a thaw does, and no other call does.
+use Rattle.gate_schedules.proofs.Prelude.{Config, HookAnswer, List, Next, Option, Phase, Some, TreePhase, World, after_of, arith, common_steps}
+use Rattle.gate_schedules.proofs.Prelude.{found_at, map_next, phase_after, ℕ, ◌∷◌, ◌≡◌}
 use Rattle.node_words.specs.Phases.{clear_after}
 use Rattle.gated_tree.specs.Phases.{create_after, remove_after, grow_after, move_after, mark_after, open_after, at_snapshot}
-use Rattle.gated_tree.specs.declared.{phases.TreePhase.TreePhase, snapshots.{Snapshot.Snapshot, SnapshotStep.SnapshotStep}}
-use Rattle.gate_world.specs.{refusals.KeptCauses.{TreeCause, CauseOf}, Views.phase_after, Work.after_of}
-use Rattle.gate_world.specs.{Worlds.{World, found_at}, declared.{config.Config.Config, work.Phase.Phase}}
+use Rattle.gated_tree.specs.declared.snapshots.{Snapshot.Snapshot, SnapshotStep.SnapshotStep}
+use Rattle.gate_world.specs.refusals.KeptCauses.{TreeCause, CauseOf}
 
 -- so it is of each call at the tree
 pub tree_stays : (c : Config) (t : ℕ) (w next : World) (earlier : List World) (x : TreePhase) →
     (next.views t).phase ≡ Some (Phase.Trees x) → TreeCause c t w earlier x → TreeCause c t next (w ∷ earlier) x
 tree_stays c t w next earlier x e h = grind arith
 
--- the task that steps: what its next phase says, in the world after the event
+-- the task that steps: what its next phase says, in the state after the step
 module _ (c : Config) (t : ℕ) (w next : World) (earlier : List World) where
   -- a call that keeps no cause keeps none
   no_cause : {P : Type 0} (to : P → TreePhase) → ((p : P) → TreeCause c t next (w ∷ earlier) (to p)) → (n : Next P) →

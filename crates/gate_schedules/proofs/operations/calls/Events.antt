@@ -1,8 +1,6 @@
--- The events of all calls at the tree: each keeps the rule, and a snapshot that one completes is of the present tree.
-use Rattle.std.{proofs.Common.{◌≡◌, ℕ, ◌<◌, refl}, specs.Prelude.Some}
-use Rattle.cpu_words.specs.Hooks.{HookAnswer}
-use Rattle.gated_tree.specs.declared.phases.TreePhase.{TreePhase}
-use Rattle.gate_world.specs.{Configs.IsWithin, Moments.CompletesNow, Rules.{IsGood, StepKeeps}, Worlds.World, declared.{config.Config.Config, work.Phase.Phase}}
+-- The steps of all calls at the tree: each keeps the invariant, and a snapshot that one completes is of the present tree.
+use Rattle.gate_schedules.proofs.Prelude.{Config, HookAnswer, IsGood, IsWithin, Phase, Some, StepKeeps, TreePhase, World, refl, ℕ, ◌<◌, ◌≡◌}
+use Rattle.gate_world.specs.Moments.{CompletesNow}
 use Rattle.gate_schedules.proofs.{frames.Snapshots.completes_none, operations.snapshot.{Completes.snapshot_completes_now, Events.snapshot_step}}
 use Rattle.gate_schedules.proofs.trees.worlds.Events.{tree_step}
 

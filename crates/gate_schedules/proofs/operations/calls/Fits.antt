@@ -1,9 +1,6 @@
--- The action of each event of a call at the tree can be done.
-use Rattle.std.proofs.Common.{ℕ, arith}
-use Rattle.cpu_words.specs.Hooks.{HookAnswer}
-use Rattle.gated_tree.specs.declared.{phases.TreePhase.TreePhase}
-use Rattle.gate_world.specs.{Holdings.Holdings, Configs.IsWithin, Fits.{ActionFits, PhaseFits}}
-use Rattle.gate_world.specs.{Work.after_of, declared.{config.Config.Config, work.Phase.Phase}}
+-- The action of each step of a call at the tree can be done.
+use Rattle.gate_schedules.proofs.Prelude.{Config, Holdings, HookAnswer, IsWithin, Phase, PhaseFits, TreePhase, after_of, arith, ℕ}
+use Rattle.gate_world.specs.Fits.{ActionFits}
 
 module _ (held : Holdings) where
   pub tree_acts : (c : Config) → IsWithin c → (t : ℕ) (x : TreePhase) (found : ℕ) (hook : HookAnswer) →

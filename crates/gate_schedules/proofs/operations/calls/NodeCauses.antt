@@ -1,20 +1,15 @@
--- A call at the tree that its next event refuses for what a node is: the event loads that node, and the shown model has it so.
-use Rattle.std.proofs.lemmas.Grind.{common_steps}
-use Rattle.std.proofs.Common.{◌≡◌, ℕ, refl, arith}
-use Rattle.std.specs.Prelude.{Some, Err, List, Option, Result, ◌==◌, ◌+◌, ◌∷◌, if◌then◌else◌, Bool, true, false, nat_lt}
-use Rattle.access_model.specs.{Replies.map_next, declared.{errors.GateError.GateError, replies.{Next.Next, Reply.Reply}}}
-use Rattle.cpu_words.specs.Hooks.{HookAnswer}
-use Rattle.gated_tree.specs.Calls.{IsMoveAnswer, MoveStepFits}
-use Rattle.gated_tree.specs.Phases.{create_after, create_looked, remove_after, grow_after, move_after, mark_after, open_after}
-use Rattle.gated_tree.specs.Phases.{at_open, at_create, at_remove, at_grow, at_move, at_mark}
-use Rattle.gated_tree.specs.declared.changes.{Create.Create, CreateStep.CreateStep, MoveStep.MoveStep, MoveTo.MoveTo, Remove.Remove, RemoveStep.RemoveStep}
-use Rattle.gated_tree.specs.declared.{growth.{Grow.{Grow}, GrowStep.{GrowStep}}, marks.{Mark.{Mark}, MarkStep.{MarkStep}}}
-use Rattle.gated_tree.specs.declared.{opens.{OpenFile.{OpenFile}, OpenStep.{OpenStep}}, phases.TreePhase.{TreePhase}}
-use Rattle.node_words.specs.Nodes.{word_of, unpacked, file_in, directory_in, node_after, node_shown}
-use Rattle.node_words.specs.{Phases.{clear_after, after_look, clears_at}, declared.marks.ClearMarks.{ClearMarks}}
-use Rattle.node_words.specs.declared.nodes.NodeWord.{NodeWord}
-use Rattle.gate_world.specs.{refusals.Causes.{TellsOf, CallRefused, tree_sees}, Shown.shown, Work.after_of, Worlds.{World, found_at}}
-use Rattle.gate_world.specs.declared.{config.Config.Config, work.Phase.Phase}
+-- A call at the tree that its next step refuses for what a node is: the step loads that node, and the shown state has it so.
+use Rattle.gate_schedules.proofs.Prelude.{Config, Err, GateError, HookAnswer, List, Next, Option, Phase, Reply, Result, Some, TreePhase, World}
+use Rattle.gate_schedules.proofs.Prelude.{after_of, arith, common_steps, found_at, if◌then◌else◌, map_next, nat_lt, refl, shown, ℕ, ◌==◌, ◌∷◌, ◌≡◌}
+use Rattle.std.specs.Prelude.{◌+◌, Bool, true, false}
+use Rattle.gated_tree.specs.{Calls.{IsMoveAnswer, MoveStepFits}, Phases.{create_after, create_looked, remove_after, grow_after, move_after}}
+use Rattle.gated_tree.specs.Phases.{mark_after, open_after, at_open, at_create, at_remove, at_grow, at_move, at_mark}
+use Rattle.gated_tree.specs.declared.changes.{Create.Create, CreateStep.CreateStep, MoveStep.MoveStep, MoveTo.MoveTo, Remove.Remove}
+use Rattle.gated_tree.specs.declared.{changes.RemoveStep.RemoveStep, growth.{Grow.Grow, GrowStep.GrowStep}, marks.{Mark.Mark, MarkStep.MarkStep}}
+use Rattle.gated_tree.specs.declared.opens.{OpenFile.OpenFile, OpenStep.OpenStep}
+use Rattle.node_words.specs.{Nodes.{word_of, unpacked, file_in, directory_in, node_after, node_shown}, Phases.{clear_after, after_look, clears_at}}
+use Rattle.node_words.specs.declared.{marks.ClearMarks.ClearMarks, nodes.NodeWord.NodeWord}
+use Rattle.gate_world.specs.refusals.Causes.{TellsOf, CallRefused, tree_sees}
 
 pub some_is : {A : Type 0} (a b : A) → Some a ≡ Some b → a ≡ b
 some_is a b e = cc
@@ -37,7 +32,7 @@ is_of_node GateError.NotDir = true
 is_of_node GateError.IsDir = true
 is_of_node refusal = false
 
--- A call at the tree that its next event refuses so loads a node with that event, and the shown model has the node so.
+-- A call at the tree that its next step refuses so loads a node with that step, and the shown state has the node so.
 abbrev pub NodeHasCause : Config → World → TreePhase → Type 0
 NodeHasCause c w phase = (hook : HookAnswer) (refusal : GateError) →
     (after_of (Phase.Trees phase) (found_at w.words (Phase.Trees phase) hook) hook).0 ≡ Next.Done (Err refusal) → is_of_node refusal ≡ true →

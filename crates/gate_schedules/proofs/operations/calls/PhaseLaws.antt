@@ -1,7 +1,5 @@
--- All that is proved of each event of a call at the tree.
-use Rattle.std.proofs.Common.{subst}
-use Rattle.gated_tree.specs.declared.phases.TreePhase.{TreePhase}
-use Rattle.gate_world.specs.{Fits.Fits, Rules.Fitting, Views.held_of, Worlds.after_step, declared.{config.Config.Config, work.Phase.Phase}}
+-- All that is proved of each step of a call at the tree.
+use Rattle.gate_schedules.proofs.Prelude.{Config, Fits, Fitting, Phase, TreePhase, after_step, held_of, subst}
 use Rattle.gate_schedules.proofs.{frames.{Agreeing.access_agrees, OperationLaws.PhaseLaws}, operations.calls.Causes.{tree_stays, tree_own}}
 use Rattle.gate_schedules.proofs.operations.calls.{Events.{call_step, call_completes}, Fits.tree_acts, Waits.tree_waits, Words.tree_there}
 use Rattle.gate_schedules.proofs.trees.worlds.{Events.tree_run, Parts.{call_goes, call_at}}

@@ -1,19 +1,15 @@
 -- The calls at the tree run out, a snapshot where it finds `umount` free.
-use Rattle.std.proofs.{Common.{ℕ, arith}, lemmas.Grind.{common_steps}}
+use Rattle.gate_schedules.proofs.Prelude.{Config, HookAnswer, Phase, TreePhase, Words, arith, common_steps, found_at, found_by, read, words_after, ℕ}
 use Rattle.std.specs.Prelude.{◌-◌}
-use Rattle.cpu_words.specs.{Hooks.HookAnswer, Touches.found_by, Words.{Words, read}}
-use Rattle.node_words.specs.{Phases.{clear_after}}
-use Rattle.node_words.specs.declared.{marks.ClearMarks.{ClearMarks}}
-use Rattle.gated_tree.specs.Phases.{next as tree_next, after as tree_after, create_next, create_after}
-use Rattle.gated_tree.specs.Phases.{remove_next, remove_after, grow_next, grow_after, move_next, move_after, mark_next, mark_after, open_next, open_after}
-use Rattle.gated_tree.specs.Phases.{snapshot_next, snapshot_after}
-use Rattle.gated_tree.specs.declared.changes.{Create.Create, CreateStep.CreateStep, MoveStep.MoveStep, MoveTo.MoveTo, Remove.Remove, RemoveStep.RemoveStep}
-use Rattle.gated_tree.specs.declared.{growth.{Grow.{Grow}, GrowStep.{GrowStep}}, marks.{Mark.{Mark}, MarkStep.{MarkStep}}}
-use Rattle.gated_tree.specs.declared.{opens.{OpenFile.{OpenFile}, OpenStep.{OpenStep}}, phases.TreePhase.{TreePhase}}
-use Rattle.gated_tree.specs.declared.snapshots.{Snapshot.Snapshot, SnapshotStep.SnapshotStep}
-use Rattle.gate_world.specs.{traces.TraceStates.{WordIsValid, ReadIsValid, OpenReadIsValid}, Worlds.{words_after, found_at}, declared.{config.Config.Config, work.Phase.Phase}}
-use Rattle.gate_schedules.proofs.{frames.ValidWords.events_may_be, operations.deadlocks.RankDecreases.falls_as}
-use Rattle.gate_schedules.specs.operations.Ranks.{rank, create_rank, remove_rank, grow_rank, move_rank, mark_rank, open_rank, snapshot_rank, tree_rank}
+use Rattle.node_words.specs.{Phases.clear_after, declared.marks.ClearMarks.ClearMarks}
+use Rattle.gated_tree.specs.Phases.{next as tree_next, after as tree_after, create_next, create_after, remove_next, remove_after, grow_next}
+use Rattle.gated_tree.specs.Phases.{grow_after, move_next, move_after, mark_next, mark_after, open_next, open_after, snapshot_next, snapshot_after}
+use Rattle.gated_tree.specs.declared.changes.{Create.Create, CreateStep.CreateStep, MoveStep.MoveStep, MoveTo.MoveTo, Remove.Remove}
+use Rattle.gated_tree.specs.declared.{changes.RemoveStep.RemoveStep, growth.{Grow.Grow, GrowStep.GrowStep}, marks.{Mark.Mark, MarkStep.MarkStep}}
+use Rattle.gated_tree.specs.declared.{opens.{OpenFile.OpenFile, OpenStep.OpenStep}, snapshots.{Snapshot.Snapshot, SnapshotStep.SnapshotStep}}
+use Rattle.gate_world.specs.traces.TraceStates.{WordIsValid, ReadIsValid, OpenReadIsValid}
+use Rattle.gate_schedules.{proofs.{frames.ValidWords.events_may_be, operations.deadlocks.RankDecreases.falls_as}, specs.operations.Ranks.rank}
+use Rattle.gate_schedules.specs.operations.Ranks.{create_rank, remove_rank, grow_rank, move_rank, mark_rank, open_rank, snapshot_rank, tree_rank}
 use Rattle.gate_schedules.specs.operations.Unblocked.{IsUnblocked, SnapshotIsUnblocked, TreeIsUnblocked, RankDecreases, PhaseEnds}
 
 module _ (w : Words) where
@@ -58,7 +54,7 @@ module _ (w : Words) where
       RankDecreases (λ (y : ClearMarks). y.nodes - y.node) (λ (y : ClearMarks). Unit {0}) (x.nodes - x.node) (clear_after x found).0
   clear_falls x found = grind arith
 
-  -- each event of a call
+  -- each step of a call
   tree_falls : (after : Words) (hook : HookAnswer) (x : TreePhase) → TreeIsUnblocked w x →
       ReadIsValid (Phase.Trees x) (tree_next x hook).0 (read w (tree_next x hook).0) →
       RankDecreases tree_rank (TreeIsUnblocked after) (tree_rank x)

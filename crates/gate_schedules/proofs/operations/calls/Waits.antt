@@ -1,22 +1,18 @@
 -- Of the calls at the tree only a snapshot waits, and only where another task has `umount`; each is refused only for its cause.
-use Rattle.std.proofs.{Common.{◌≡◌, ℕ, ◌<◌, ap, inl, inr, refl, arith}, lemmas.{Bool.Decides.{eqb_tells}, Grind.{common_steps}}}
-use Rattle.std.specs.Prelude.{Some, Ok, Err, List, Option, ◌==◌, if◌then◌else◌, Bool, true, false, is_some, ◌∷◌}
-use Rattle.access_model.specs.{Replies.map_next, declared.{errors.GateError.GateError, replies.Next.Next}}
-use Rattle.cpu_words.specs.Hooks.{HookAnswer}
-use Rattle.node_words.specs.{Nodes.{unpacked, node_after}, Phases.{clear_after, clears_at}}
-use Rattle.node_words.specs.declared.{marks.ClearMarks.{ClearMarks}}
-use Rattle.gated_tree.specs.Phases.{create_after, remove_after, grow_after, move_after, mark_after, open_after}
-use Rattle.gated_tree.specs.Phases.{snapshot_locked_out, at_snapshot, node_step}
-use Rattle.gated_tree.specs.declared.changes.{Create.Create, CreateStep.CreateStep, MoveStep.MoveStep, MoveTo.MoveTo, Remove.Remove, RemoveStep.RemoveStep}
-use Rattle.gated_tree.specs.declared.{growth.{Grow.{Grow}, GrowStep.{GrowStep}}, marks.{Mark.{Mark}, MarkStep.{MarkStep}}}
-use Rattle.gated_tree.specs.declared.{opens.{OpenFile.{OpenFile}, OpenStep.{OpenStep}}, phases.TreePhase.{TreePhase}}
-use Rattle.gated_tree.specs.declared.snapshots.{Snapshot.Snapshot, SnapshotStep.SnapshotStep}
-use Rattle.gate_world.specs.{refusals.Causes.{CallRefused, TreeRefused, IsTaken, TellsOf, tree_sees}, Fits.PhaseFits, refusals.KeptCauses.{SnapshotCause, TreeCause}}
-use Rattle.gate_world.specs.{Rules.{owns, IsGood}, Shown.shown, Views.held_of, refusals.Waits.{HasReason, HasCulprit}, Work.after_of}
-use Rattle.gate_world.specs.{Worlds.{World, found_at}, declared.{config.Config.Config, work.Phase.Phase}}
-use Rattle.gate_schedules.proofs.frames.Owners.{umount_taken}
-use Rattle.gate_schedules.proofs.operations.calls.NodeCauses.{is_of_node, call_refused, create_node, remove_node, grow_node, move_node, mark_node, open_node}
-use Rattle.gate_schedules.proofs.operations.calls.NodeCauses.{clear_node}
+use Rattle.gate_schedules.proofs.Prelude.{Config, Err, GateError, HookAnswer, IsGood, List, Next, Ok, Option, Phase, PhaseFits, Some, TreePhase}
+use Rattle.gate_schedules.proofs.Prelude.{World, after_of, ap, arith, common_steps, eqb_tells, found_at, held_of, if◌then◌else◌, inl, inr, map_next}
+use Rattle.gate_schedules.proofs.Prelude.{owns, shown, ℕ, ◌<◌, ◌==◌, ◌∷◌, ◌≡◌}
+use Rattle.std.specs.Prelude.{Bool, true, false, is_some}
+use Rattle.node_words.specs.{Nodes.{unpacked, node_after}, Phases.{clear_after, clears_at}, declared.marks.ClearMarks.ClearMarks}
+use Rattle.gated_tree.specs.Phases.{create_after, remove_after, grow_after, move_after, mark_after, open_after, snapshot_locked_out, at_snapshot}
+use Rattle.gated_tree.specs.{Phases.node_step, declared.changes.{Create.Create, CreateStep.CreateStep, MoveStep.MoveStep, MoveTo.MoveTo}}
+use Rattle.gated_tree.specs.declared.{changes.{Remove.Remove, RemoveStep.RemoveStep}, growth.{Grow.Grow, GrowStep.GrowStep}, marks.Mark.Mark}
+use Rattle.gated_tree.specs.declared.{marks.MarkStep.MarkStep, opens.{OpenFile.OpenFile, OpenStep.OpenStep}, snapshots.Snapshot.Snapshot}
+use Rattle.gated_tree.specs.declared.snapshots.SnapshotStep.{SnapshotStep}
+use Rattle.gate_world.specs.refusals.{Causes.{CallRefused, TreeRefused, IsTaken, TellsOf, tree_sees}, KeptCauses.{SnapshotCause, TreeCause}}
+use Rattle.gate_world.specs.refusals.Waits.{HasReason, HasCulprit}
+use Rattle.gate_schedules.proofs.{frames.Owners.umount_taken, operations.calls.NodeCauses.{is_of_node, call_refused, create_node, remove_node}}
+use Rattle.gate_schedules.proofs.operations.calls.NodeCauses.{grow_node, move_node, mark_node, open_node, clear_node}
 
 -- what comes is no wait
 abbrev IsNoWait : {P : Type 0} → Next P → Type 0
@@ -47,16 +43,13 @@ clear_goes_on : (x : ClearMarks) (o : Option ℕ) → IsNoWait (clears_at x o)
 clear_goes_on x o = grind arith
 
 module _ (c : Config) (w : World) (earlier : List World) (t : ℕ) where
-  -- what is no wait waits for nobody, and a refusal of a call that is no snapshot has its cause at its own event
+  -- what is no wait waits for nobody, and a refusal of a call that is no snapshot has its cause at its own step
   no_wait : {P : Type 0} (to : P → TreePhase) (x : TreePhase) (n : Next P) → IsNoWait n →
       ((refusal : GateError) → CallRefused c (w ∷ earlier) x refusal → TreeRefused c t (w ∷ earlier) x refusal) →
       ((refusal : GateError) → map_next Phase.Trees (map_next to n) ≡ Next.Done (Err refusal) → is_of_node refusal ≡ true →
       (m : ℕ) × (tree_sees x ≡ Some m) × TellsOf ((shown c w).tree m) refusal) →
       HasReason c w earlier t (Phase.Trees x) (map_next Phase.Trees (map_next to n))
-  no_wait to x (Next.Go p) h call node = tt
-  no_wait to x (Next.Wait p) h call node = absurd h
-  no_wait to x (Next.Done (Ok reply)) h call node = tt
-  no_wait to x (Next.Done (Err refusal)) h call node = call refusal (call_refused c w earlier x refusal (node refusal refl))
+  no_wait to x n h call node = grind (arith, call_refused)
 
   goes_on : (x : Snapshot) (b : Bool) (s s' : SnapshotStep) →
       HasReason c w earlier t (Phase.Trees (TreePhase.Snapshot x))
@@ -71,7 +64,7 @@ module _ (c : Config) (w : World) (earlier : List World) (t : ℕ) where
   locked_out_waits x false h taken = taken
 
   module _ (good : IsGood c w) (lt : t < c.tasks) where
-    -- each event of a snapshot
+    -- each step of a snapshot
     snapshot_waits : (hook : HookAnswer) (x : Snapshot) (s : SnapshotStep) →
         (w.views t).phase ≡ Some (Phase.Trees (TreePhase.Snapshot (at_snapshot x s))) → SnapshotCause c t w earlier s →
         HasReason c w earlier t (Phase.Trees (TreePhase.Snapshot (at_snapshot x s)))
@@ -94,7 +87,7 @@ module _ (c : Config) (w : World) (earlier : List World) (t : ℕ) where
     snapshot_waits hook x (SnapshotStep.Releases (Err GateError.Again)) e cause = absurd cause
     snapshot_waits hook x (SnapshotStep.Releases (Err refusal)) e cause = cause
 
-    -- so it is of each event at the tree
+    -- so it is of each step at the tree
     pub tree_waits : (hook : HookAnswer) (x : TreePhase) → (w.views t).phase ≡ Some (Phase.Trees x) →
         PhaseFits c t (held_of (w.views t)) (Phase.Trees x) → TreeCause c t w earlier x →
         HasReason c w earlier t (Phase.Trees x) (after_of (Phase.Trees x) (found_at w.words (Phase.Trees x) hook) hook).0

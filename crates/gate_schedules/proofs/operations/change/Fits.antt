@@ -1,11 +1,8 @@
--- What fits after an event of a change.
-use Rattle.std.proofs.{Common.{ℕ, ◌<◌, arith}}
-use Rattle.access_model.specs.{Replies.map_next}
-use Rattle.cpu_words.specs.{Names.IsWord}
-use Rattle.mount_counts.specs.Phases.{change_next, change_after}
-use Rattle.mount_counts.specs.declared.phases.{Change.Change, ChangeStep.ChangeStep, MountPhase.MountPhase}
-use Rattle.gate_world.specs.{Configs.{IsWithin, extents_of}, Fits.{SumFits, MountFits, Fits, ActionFits}, Holdings.{Holdings, held_after}, Views.phase_after}
-use Rattle.gate_world.specs.declared.{config.Config.Config, work.Phase.Phase}
+-- What fits after a step of a change.
+use Rattle.gate_schedules.proofs.Prelude.{Config, Fits, Holdings, IsWithin, MountPhase, Phase, arith, held_after, map_next, phase_after, ℕ, ◌<◌}
+use Rattle.cpu_words.specs.Names.{IsWord}
+use Rattle.mount_counts.specs.{Phases.{change_next, change_after}, declared.phases.{Change.Change, ChangeStep.ChangeStep}}
+use Rattle.gate_world.specs.{Configs.extents_of, Fits.{SumFits, MountFits, ActionFits}}
 
 pub change_there : (c : Config) (x : Change) (step : ChangeStep) → x.mount < c.mounts → SumFits c step → IsWord (extents_of c) (change_next x step).0
 change_there c x step m f = grind arith
@@ -14,7 +11,7 @@ module _ (c : Config) (within : IsWithin c) (t : ℕ) (held : Holdings) where
   pub change_acts : (x : Change) (step : ChangeStep) (found : ℕ) → ActionFits held (change_after x step found).1
   change_acts x step found = grind arith
 
-  -- what comes after each event of a change fits
+  -- what comes after each step of a change fits
   pub change_goes : (x : Change) (step : ChangeStep) (found : ℕ) → MountFits c t held (MountPhase.Change record x { step = step }) →
       Fits c t (held_after (change_after x step found).1 held)
       (phase_after (map_next Phase.Mounts (map_next MountPhase.Change (change_after x step found).0)))

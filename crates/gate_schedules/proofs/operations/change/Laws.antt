@@ -1,13 +1,12 @@
 -- All that is proved of a change.
+use Rattle.gate_schedules.proofs.Prelude.{Bool, Config, Fits, Fitting, MountPhase, Op, Phase, Some, after_step, arith, held_of, refl, subst, ℕ}
 use Rattle.gate_schedules.proofs.frames.{Agreeing.none_agree, Frames.role_none, OperationLaws.{IsSmall, OpLaws, PhaseLaws, by_bool, word_among}}
 use Rattle.gate_schedules.proofs.{frames.Snapshots.completes_none, mounts.Runs.mounts_run, operations.change.Causes.{change_cause_stays, change_own}}
-use Rattle.gate_schedules.proofs.operations.change.{Events.change_keeps, Fits.{change_acts, change_goes, change_there}}
-use Rattle.gate_schedules.proofs.{operations.change.{Trace.{ChangeAt, change_inductive as change_traced}, Waits.change_waits}, traces.TraceInvariant.{is_short, tells}}
-use Rattle.gate_world.specs.{SameRoles.no_roles, Fits.Fits, Rules.Fitting, traces.Traces.most_events, Views.held_of, Worlds.after_step, declared.config.Config.Config}
-use Rattle.gate_world.specs.declared.{operations.Op.Op, work.Phase.Phase}
-use Rattle.mount_counts.specs.declared.phases.{Change.Change, MountPhase.MountPhase}
-use Rattle.std.proofs.{Common.{Bool, arith, refl, subst, ℕ}, lemmas.Bool.ltb-true}
-use Rattle.std.specs.Prelude.{Some}
+use Rattle.gate_schedules.proofs.operations.change.{Events.change_keeps, Fits.{change_acts, change_goes, change_there}, Trace.ChangeAt}
+use Rattle.gate_schedules.proofs.{operations.change.{Trace.change_inductive as change_traced, Waits.change_waits}, traces.TraceInvariant.traces_tell}
+use Rattle.gate_world.specs.{SameRoles.no_roles, traces.Traces.most_events}
+use Rattle.mount_counts.specs.declared.phases.Change.{Change}
+use Rattle.std.proofs.lemmas.Bool.{ltb-true}
 
 pub change_phase : (c : Config) (x : Change) → PhaseLaws c (Phase.Mounts (MountPhase.Change x))
 change_phase c x = record {
@@ -38,7 +37,6 @@ change_op c m ro wait = record {
   room_agrees = λ held seen same there. refl;
   restores = λ refusal trace before order. refl;
   file = λ t held order room. tt;
-  tells = λ lim t trace h. tells (ChangeAt c t m ro wait) c t (Op.ChangeMount m ro wait) (change_traced c lim t m ro wait) trace h;
-  short = λ lim t trace h. is_short (ChangeAt c t m ro wait) c t (Op.ChangeMount m ro wait) (change_traced c lim t m ro wait) trace h;
+  traces = λ lim. traces_tell (λ t. ChangeAt c t m ro wait) c (Op.ChangeMount m ro wait) (λ t. change_traced c lim t m ro wait);
   most_small = λ lim. by_bool wait (λ w. IsSmall (most_events c (Op.ChangeMount m ro w))) tt (omega (arith, lim.processors));
 }

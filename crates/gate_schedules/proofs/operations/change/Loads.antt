@@ -1,10 +1,10 @@
 -- Loads of a change that has not set HOLD: of the present state, under the lock.
-use Rattle.std.{proofs.{Common.{◌≡◌, ℕ, ◌<◌, Bool, true, false, refl, sym, ap, ◌∙◌, inl, inr}, lemmas.Bool.cases_Bool}, specs.Prelude.{◌==◌, not, Option, Some}}
-use Rattle.access_model.specs.declared.replies.Next.{Next}
-use Rattle.cpu_words.specs.{Hooks.HookAnswer, declared.names.WordName.WordName}
-use Rattle.mount_counts.specs.{Phases.{has_flag, step_between}, Roles.Out, declared.phases.{ChangeStep.ChangeStep, MountPhase.MountPhase}}
-use Rattle.gate_world.specs.{Fits.SumFits, Operations.holds_none, Roles.{change_role, role_if, change_owns}, Rules.{role_of, IsGood, GateStepKeeps}}
-use Rattle.gate_world.specs.{Rules.GatesHold, Shown.shown, Views.holds_level, Worlds.World, declared.{config.Config.Config, work.Phase.Phase}}
+use Rattle.gate_schedules.proofs.Prelude.{Bool, Config, HookAnswer, IsGood, MountPhase, Next, Option, Phase, Some, WordName, World, ap, cases_Bool}
+use Rattle.gate_schedules.proofs.Prelude.{false, inl, inr, refl, shown, sym, true, ℕ, ◌<◌, ◌==◌, ◌∙◌, ◌≡◌}
+use Rattle.std.specs.Prelude.{not}
+use Rattle.mount_counts.specs.{Phases.{has_flag, step_between}, Roles.Out, declared.phases.ChangeStep.ChangeStep}
+use Rattle.gate_world.specs.{Fits.SumFits, Operations.holds_none, Roles.{change_role, role_if, change_owns}, Rules.{role_of, GateStepKeeps}}
+use Rattle.gate_world.specs.{Rules.GatesHold, Views.holds_level}
 use Rattle.gate_schedules.proofs.{frames.Frames.{role_on, role_off, role_none}, mounts.Loads.{as_owner, after_load, still_load, fits_now}}
 
 abbrev pub change : ℕ → Bool → Bool → ℕ → ℕ → ChangeStep → MountPhase

@@ -1,23 +1,22 @@
--- Events of a change that hold, sum, set, clear, lock and release.
-use Rattle.access_model.specs.declared.{actions.Action.Action, errors.GateError.GateError, replies.{Next.Next, Reply.Reply}}
-use Rattle.cpu_words.specs.{Hooks.HookAnswer, Touches.wrap_add, declared.{events.{Event.Event, Touch.Touch}, names.WordName.WordName, sums.Sum.Sum}}
+-- Steps of a change that hold, sum, set, clear, lock and release.
+use Rattle.gate_schedules.proofs.Prelude.{Action, AtMount, Bool, Config, Err, GateError, HookAnswer, IsGood, IsWithin, MountPhase, Next, None, Ok}
+use Rattle.gate_schedules.proofs.Prelude.{Option, Phase, Reply, Result, Some, Touch, View, WordName, World, ap, arith, cases_Bool, eq-eqb, eqb_tells}
+use Rattle.gate_schedules.proofs.Prelude.{false, held_of, inl, inr, nat_lt, owns, refl, shown, subst, suc, sym, total, true, update, ℕ, ◌+◌, ◌<◌}
+use Rattle.gate_schedules.proofs.Prelude.{◌==◌, ◌∙◌, ◌∷◌, ◌≡◌}
+use Rattle.cpu_words.specs.{Touches.wrap_add, declared.{events.Event.Event, sums.Sum.Sum}}
 use Rattle.finite_sums.proofs.Totals.{total_at}
-use Rattle.finite_sums.specs.Sums.{total, update}
-use Rattle.gate_schedules.proofs.frames.Frames.{MountHoldsAfter, holds_as, owner_same, role_none, role_off, role_on, view_as}
-use Rattle.gate_schedules.proofs.frames.Owners.{flag_law, flags_after, flags_show_same, flags_shown, locks_umount, no_hold, no_remount, no_skip}
+use Rattle.gate_schedules.proofs.frames.{Frames.{MountHoldsAfter, holds_as, owner_same, role_none, role_off, role_on, view_as}, Owners.flag_law}
+use Rattle.gate_schedules.proofs.frames.Owners.{flags_after, flags_show_same, flags_shown, locks_umount, no_hold, no_remount, no_skip}
 use Rattle.gate_schedules.proofs.{frames.Owners.{releases_umount, umount_law}, mounts.Loads.{after_load, as_owner, load_law}}
 use Rattle.gate_schedules.proofs.operations.change.Loads.{FitsHere, IsAt, change, change_here, change_off, fits_here}
-use Rattle.gate_world.specs.{Configs.IsWithin, Fits.SumFits, Roles.{change_owns, change_role}, Rules.{AtMount, GateStepKeeps, GatesHold, IsGood, IsSteady}}
-use Rattle.gate_world.specs.{Rules.{MountHoldsIn, ViewFits, at_mount, owns, remounts, role_of}, Shown.{closing, shown}, Views.{added_by, held_of, taken_by}}
-use Rattle.gate_world.specs.{Views.view_with, Worlds.World, declared.{config.Config.Config, views.View.View, work.Phase.Phase}}
-use Rattle.mount_counts.specs.{Roles.{Summing, admitted, has_hold, hold_bit}, declared.phases.{ChangeStep.ChangeStep, MountPhase.MountPhase}}
-use Rattle.mount_counts.proofs.laws.Bits.{IsWithHold, IsWithReadOnly, IsWithoutHold, IsWithoutReadOnly, and_not_hold, and_not_read_only, or_hold, or_read_only}
-use Rattle.mount_counts.proofs.laws.{Bits.{without_hold, without_read_only}, MountLaws.{SeeksNone, clears_hold as mount_clears_hold}}
+use Rattle.gate_world.specs.{Fits.SumFits, Roles.{change_owns, change_role}, Rules.{GateStepKeeps, GatesHold, IsSteady, MountHoldsIn, ViewFits}}
+use Rattle.gate_world.specs.{Rules.{at_mount, remounts, role_of}, Shown.closing, Views.{added_by, taken_by, view_with}}
+use Rattle.mount_counts.proofs.laws.Bits.{IsWithHold, IsWithReadOnly, IsWithoutHold, IsWithoutReadOnly, and_not_hold, and_not_read_only, or_hold}
+use Rattle.mount_counts.proofs.laws.{Bits.{or_read_only, without_hold, without_read_only}, MountLaws.{SeeksNone, clears_hold as mount_clears_hold}}
 use Rattle.mount_counts.proofs.laws.MountLaws.{clears_read_only as mount_clears_read_only, empties, sets_hold as mount_sets_hold}
-use Rattle.mount_counts.proofs.laws.MountLaws.{sets_read_only as mount_sets_read_only, sums_on, sums_to_none, sums_to_some}
-use Rattle.std.proofs.{Common.{Bool, add-one, ap, arith, false, inl, inr, refl, subst, suc, sym, true, ℕ, ◌+◌, ◌<◌, ◌∙◌, ◌≡◌}, lemmas.Bool.cases_Bool}
-use Rattle.std.proofs.lemmas.Bool.{eq-eqb, ltb-false, ltb-true, ne_eqb, Decides.eqb_tells}
-use Rattle.std.specs.Prelude.{Err, None, Ok, Option, Result, Some, bit_or, nat_lt, ◌==◌, ◌∷◌}
+use Rattle.mount_counts.{proofs.laws.MountLaws.{sets_read_only as mount_sets_read_only, sums_on, sums_to_none, sums_to_some}, specs.Roles.Summing}
+use Rattle.mount_counts.specs.{Roles.{admitted, has_hold, hold_bit}, declared.phases.ChangeStep.ChangeStep}
+use Rattle.std.{proofs.{Common.add-one, lemmas.Bool.{ltb-false, ltb-true, ne_eqb}}, specs.Prelude.bit_or}
 
 -- who is to clear HOLD has it set, and seeks no access
 to_clear : (answer : Result Reply GateError) →

@@ -1,14 +1,13 @@
 -- Traces of a change of a mount's read-only flag.
-use Rattle.std.proofs.Common.{◌≡◌, ℕ, suc, ◌+◌, ◌<◌, ◌≤◌, Bool, true, false, refl, sym, ◌∙◌, subst, inl, inr, add-one, arith}
-use Rattle.std.proofs.lemmas.Bool.{eq-eqb, ltb-true, ltb-false, cases_Bool, Decides.eqb_tells}
-use Rattle.std.specs.Prelude.{nat_lt, Result, Err, List, [], ◌∷◌, length}
-use Rattle.access_model.specs.declared.{actions.Action.Action, errors.GateError.GateError, replies.Reply.Reply}
-use Rattle.cpu_words.specs.{Hooks.HookAnswer, Touches.wrap_add, declared.sums.Sum.Sum}
-use Rattle.mount_counts.specs.{declared.phases.{ChangeStep.ChangeStep, MountPhase.MountPhase}}
-use Rattle.gate_world.specs.{Configs.IsWithin, traces.Found.{found_read_only, counts_loaded, sum_loaded, IsEachCount, each_event, finds_taken}}
-use Rattle.gate_world.specs.{traces.Traces.{actions_of, IsHonestAnswer, most_events, IsShort}, Views.with_hook}
-use Rattle.gate_world.specs.declared.{config.Config.Config, operations.Op.Op, views.Traced.Traced, work.Phase.Phase}
-use Rattle.gate_schedules.proofs.{operations.remount.Trace.{sum_more}, traces.TraceInvariant.{InvariantAfterStep, IsInductive, event_at}}
+use Rattle.gate_schedules.proofs.Prelude.{Action, Bool, Config, Err, GateError, HookAnswer, IsWithin, List, MountPhase, Op, Phase, Reply, Result}
+use Rattle.gate_schedules.proofs.Prelude.{Traced, [], arith, cases_Bool, eq-eqb, eqb_tells, false, inl, inr, nat_lt, refl, subst, suc, sym, true, ℕ}
+use Rattle.gate_schedules.proofs.Prelude.{◌+◌, ◌<◌, ◌∙◌, ◌∷◌, ◌≡◌, ◌≤◌}
+use Rattle.std.{proofs.{Common.add-one, lemmas.Bool.{ltb-true, ltb-false}}, specs.Prelude.length}
+use Rattle.cpu_words.specs.{Touches.wrap_add, declared.sums.Sum.Sum}
+use Rattle.mount_counts.specs.declared.phases.ChangeStep.{ChangeStep}
+use Rattle.gate_world.specs.{Views.with_hook, traces.Found.{found_read_only, counts_loaded, sum_loaded, IsEachCount, each_event, finds_taken}}
+use Rattle.gate_world.specs.traces.Traces.{actions_of, IsHonestAnswer, most_events, IsShort}
+use Rattle.gate_schedules.proofs.{operations.remount.Trace.sum_more, traces.TraceInvariant.{InvariantAfterStep, IsInductive, event_at}}
 
 abbrev pub change : Config → ℕ → ℕ → Bool → Bool → ChangeStep → Phase
 change c t m ro wait step = Phase.Mounts (MountPhase.Change (record {
@@ -21,7 +20,7 @@ change c t m ro wait step = Phase.Mounts (MountPhase.Change (record {
       step;
 }))
 
--- how many events a change that waits for nobody has done before a step, at most
+-- how many steps a change that waits for nobody has done before a program point, at most
 abbrev events_before : Config → ChangeStep → ℕ
 events_before c ChangeStep.Locks = 0
 events_before c ChangeStep.LoadsFlags = 1
@@ -73,7 +72,7 @@ change_short : (c : Config) (m : ℕ) (ro wait : Bool) (trace : List Traced) →
 change_short c m ro true trace h = tt
 change_short c m ro false trace h = h refl
 
--- a step comes after that many events at most
+-- a program point comes after that many steps at most
 within_most : (c : Config) (m : ℕ) (ro wait : Bool) (step : ChangeStep) (trace : List Traced) (added : List Action) →
     StepSays c m ro wait step trace added →
     length trace ≤ events_before c step → length trace ≤ c.processors + 7
@@ -81,15 +80,15 @@ within_most c m ro wait step trace added h k = grind arith
 
 module _ (c : Config) (lim : IsWithin c) (t m : ℕ) (ro : Bool) (value : ℕ) (hook : HookAnswer) (earlier : List Traced)
     (added : List Action) where
-  -- the trace after the event of a step
+  -- the trace after the step at a program point
   abbrev longer : Bool → ChangeStep → List Traced
   longer wait step = with_hook (event_at (change c t m ro wait step) value hook) hook ∷ earlier
 
-  -- what the trace says after the event of a step
+  -- what the trace says after the step at a program point
   abbrev TraceAfterStep : Bool → ChangeStep → Type 0
   TraceAfterStep wait step = InvariantAfterStep (ChangeAt c t m ro wait) c (Op.ChangeMount m ro wait) (change c t m ro wait step) value hook earlier added
 
-  -- an event that clears HOLD leaves what is told
+  -- a step that clears HOLD leaves what is told
   hold_leaves : (wait : Bool) (answer : Result Reply GateError) → Answers c m ro wait answer earlier added →
       Answers c m ro wait answer (longer wait (ChangeStep.ClearsHold answer)) added
   hold_leaves wait answer h = grind arith

@@ -1,10 +1,8 @@
 -- A change waits only where another task has `umount`, and is refused only for its cause.
-use Rattle.std.{proofs.{Common.{ℕ, ◌<◌, Bool, true, false, ap, inl, inr, ◌≡◌}, lemmas.Bool.{cases_Bool, Decides.eqb_tells}}, specs.Prelude.{List, Ok, Err, ◌∷◌}}
-use Rattle.access_model.specs.declared.errors.GateError.{GateError}
-use Rattle.cpu_words.specs.Hooks.{HookAnswer}
+use Rattle.gate_schedules.proofs.Prelude.{Bool, Config, Err, GateError, HookAnswer, IsGood, List, Ok, Phase, World, after_of, ap, cases_Bool}
+use Rattle.gate_schedules.proofs.Prelude.{eqb_tells, false, found_at, inl, inr, owns, true, ℕ, ◌<◌, ◌∷◌, ◌≡◌}
 use Rattle.mount_counts.specs.{Phases.has_flag, declared.phases.ChangeStep.ChangeStep}
-use Rattle.gate_world.specs.{refusals.Causes.IsTaken, refusals.KeptCauses.ChangeCause, Rules.{owns, IsGood}, refusals.Waits.HasReason, Work.after_of, Worlds.{World, found_at}}
-use Rattle.gate_world.specs.declared.{config.Config.Config, work.Phase.Phase}
+use Rattle.gate_world.specs.refusals.{Causes.IsTaken, KeptCauses.ChangeCause, Waits.HasReason}
 use Rattle.gate_schedules.proofs.{frames.Owners.umount_taken, operations.change.Loads.{change, IsAt}}
 
 module _ (c : Config) (w : World) (earlier : List World) (good : IsGood c w) (t : ℕ) (lt : t < c.tasks)

@@ -1,16 +1,13 @@
 -- The causes and the waits of a close: those of a down-read of level 3, where it is a last one.
-use Rattle.std.proofs.{Common.{◌≡◌, ℕ, arith}}
-use Rattle.std.specs.Prelude.{Option, Result, List, ◌∷◌}
-use Rattle.access_model.specs.{Replies.map_next, declared.{errors.GateError.GateError, replies.Next.Next}}
-use Rattle.node_words.specs.{Phases.{after_look}, declared.nodes.NodeWord.{NodeWord}}
-use Rattle.percpu_rwsem.specs.declared.readers.DownRead.{DownRead}
-use Rattle.composite_ops.specs.{file_closes.Phases.{then_frees, closed_from}, declared.file_closes.phases.{ClosePhase.ClosePhase, Closing.Closing}}
-use Rattle.gate_world.specs.{refusals.KeptCauses.CauseOf, Views.phase_after, Worlds.World}
-use Rattle.gate_world.specs.declared.{config.Config.Config, work.Phase.Phase}
-use Rattle.gate_schedules.proofs.operations.readers.{Causes.{AsksNext, HasNextCause}}
+use Rattle.gate_schedules.proofs.Prelude.{Config, DownRead, GateError, List, Next, Option, Phase, Result, World, arith, map_next, phase_after, ℕ, ◌∷◌}
+use Rattle.gate_schedules.proofs.Prelude.{◌≡◌}
+use Rattle.node_words.specs.{Phases.after_look, declared.nodes.NodeWord.NodeWord}
+use Rattle.composite_ops.specs.{declared.file_closes.phases.{ClosePhase.ClosePhase, Closing.Closing}, file_closes.Phases.{then_frees, closed_from}}
+use Rattle.gate_world.specs.refusals.KeptCauses.{CauseOf}
+use Rattle.gate_schedules.proofs.operations.readers.Causes.{AsksNext, HasNextCause}
 
 module _ (c : Config) (t : ℕ) (w next : World) (earlier : List World) (file p : ℕ) (node : NodeWord) where
-  -- after an event at level 3 the task asks where a down-read does
+  -- after a step at level 3 the task asks where a down-read does
   pub enters_asks : (n : Next DownRead) → (next.views t).phase ≡ phase_after (map_next Phase.Closes (then_frees file node p n)) →
       AsksNext c t w next earlier n
   enters_asks n e = grind arith

@@ -1,28 +1,26 @@
--- A close at the tree: each of its events there is one of the tree's, and nobody is in the way of a last close inside level 3.
-use Rattle.std.proofs.Common.{◌≡◌, ℕ, ◌<◌, ◌≤◌, Bool, true, false, refl, sym, ap, ◌∙◌, subst, inl, inr, arith}
-use Rattle.std.proofs.lemmas.Bool.{cases_Bool, true≢false, Decides.eqb_tells}
-use Rattle.std.specs.Prelude.{◌==◌, ◌&&◌, Option, Some, None, Result, Ok, Err, if◌then◌else◌, List}
-use Rattle.finite_sums.{proofs.Totals.{total_at, total_updated, update_off}, specs.Sums.{update, total}}
-use Rattle.access_model.specs.{States.{one_if, is_removed, most_tasks, openers}, declared.errors.GateError.GateError}
-use Rattle.gate_schedules.proofs.{frames.Openers.{most_tasks_is}, trees.worlds.{Holders.{level_thawed}, Trees.{nobody_reads}}}
-use Rattle.gate_schedules.proofs.trees.{Counts.{finds_last}, Each.each_event, Laws.{role_says}, Steps.{leaves_word, as_event, stays_at}}
-use Rattle.cpu_words.specs.{Words.Words, declared.names.WordName.WordName}
-use Rattle.node_words.proofs.Words.{word_opens, word_shows}
-use Rattle.node_words.specs.{Nodes.{word_of, any_file_in, opens_in, node_shown, info_of}, Phases.{after_look}}
+-- A close at the tree: each of its steps there is one of the tree's, and nobody is in the way of a last close inside level 3.
+use Rattle.gate_schedules.proofs.Prelude.{Bool, Config, Err, GateError, IsGood, IsWithin, List, None, Ok, Option, Phase, Result, Some, Stages, Traced}
+use Rattle.gate_schedules.proofs.Prelude.{Tree, WordName, Words, World, ap, arith, cases_Bool, eqb_tells, false, if◌then◌else◌, inl, inr, refl, subst}
+use Rattle.gate_schedules.proofs.Prelude.{sym, total, tree_bounds, tree_role_of, true, update, ℕ, ◌<◌, ◌==◌, ◌∙◌, ◌≡◌, ◌≤◌}
+use Rattle.std.{proofs.lemmas.Bool.true≢false, specs.Prelude.◌&&◌}
+use Rattle.finite_sums.proofs.Totals.{total_at, total_updated, update_off}
+use Rattle.access_model.specs.States.{one_if, is_removed, most_tasks, openers}
+use Rattle.gate_schedules.proofs.{frames.Openers.most_tasks_is, trees.{Counts.finds_last, Each.each_event, Laws.role_says, Steps.leaves_word}}
+use Rattle.gate_schedules.{proofs.trees.{Steps.{as_event, stays_at}, worlds.{Holders.level_thawed, Trees.nobody_reads}}, specs.trees.Events.turned}
+use Rattle.gate_schedules.specs.trees.{Events.{ClosesFile, FreesFile, DropsBlocks, Uncounts}, Steps.{tree_in, EventKeeps}}
+use Rattle.node_words.{proofs.Words.{word_opens, word_shows}, specs.{Nodes.{word_of, any_file_in, opens_in, node_shown, info_of}, Phases.after_look}}
 use Rattle.node_words.specs.declared.nodes.NodeWord.{NodeWord}
-use Rattle.gated_tree.specs.Calls.{role_after}
-use Rattle.gated_tree.specs.Roles.{Role, Out, Freeing, Dropped, Uncounting, frees, removal, Bounds, TreeState, AreWithin, TreeHolds, RoleHolds, NobodyReads}
-use Rattle.gated_tree.specs.Roles.{NobodyElseFrees, IsLastOpen}
-use Rattle.gate_schedules.specs.trees.{Events.{turned, ClosesFile, FreesFile, DropsBlocks, Uncounts}, Steps.{tree_in, EventKeeps}}
-use Rattle.composite_ops.specs.{file_closes.Phases.{next, after, enters, closed_from}, declared.file_closes.phases.{ClosePhase.ClosePhase, Closing.Closing}}
-use Rattle.gate_world.specs.{Configs.IsWithin, Fits.{MayLower, HasFile, file_of}, Roles.{close_tree_role}, Rules.{IsGood, Tree, Files, Stages}}
-use Rattle.gate_world.specs.{Trees.{tree_bounds, tree_of, tree_roles, tree_role_of, is_bare_at}, Views.{has_open, holds_level}}
-use Rattle.gate_world.specs.{Worlds.World, declared.{config.Config.Config, views.Traced.Traced, work.Phase.Phase}}
+use Rattle.gated_tree.specs.{Calls.role_after, Roles.{Role, Out, Freeing, Dropped, Uncounting, frees, removal, Bounds, TreeState, AreWithin}}
+use Rattle.gated_tree.specs.Roles.{TreeHolds, RoleHolds, NobodyReads, NobodyElseFrees, IsLastOpen}
+use Rattle.composite_ops.specs.{declared.file_closes.phases.{ClosePhase.ClosePhase, Closing.Closing}, file_closes.Phases.{next, after, enters}}
+use Rattle.composite_ops.specs.file_closes.Phases.{closed_from}
+use Rattle.gate_world.specs.{Fits.{MayLower, HasFile, file_of}, Roles.close_tree_role, Rules.Files, Trees.{tree_of, tree_roles, is_bare_at}}
+use Rattle.gate_world.specs.Views.{has_open, holds_level}
 
--- each event of a close on a word of the tree, where its task holds what it may
+-- each step of a close on a word of the tree, where its task holds what it may
 module _ (c : Bounds) (within : AreWithin c) (sealed bare : ℕ) (w : Words) (at : ℕ → Role) (good : TreeHolds c (tree_in sealed bare w at))
     (t : ℕ) (lt : t < c.tasks) where
-  -- the tree before the event
+  -- the tree before the step
   abbrev here : TreeState
   here = tree_in sealed bare w at
 

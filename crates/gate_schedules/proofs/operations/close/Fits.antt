@@ -1,26 +1,24 @@
--- What fits after an event of a close.
-use Rattle.std.proofs.Common.{ℕ, ◌<◌, ◌≤◌, arith}
-use Rattle.std.proofs.lemmas.{Grind.{common_steps}}
-use Rattle.access_model.specs.{Replies.map_next}
-use Rattle.cpu_words.specs.{Hooks.HookAnswer, Names.IsWord}
-use Rattle.node_words.specs.{declared.nodes.NodeWord.{NodeWord}}
-use Rattle.percpu_rwsem.specs.{Readers.down_read_after, declared.readers.DownRead.DownRead}
-use Rattle.composite_ops.specs.{file_closes.Phases.{next, after, then_frees}, declared.file_closes.phases.{ClosePhase.ClosePhase}}
-use Rattle.gate_world.specs.{Holdings.{Holdings, held_after, Agree}, Configs.IsWithin, Fits.{Fits, CloseFits, ActionFits}, Views.phase_after}
-use Rattle.gate_world.specs.declared.{config.Config.Config, work.Phase.Phase}
-use Rattle.gate_schedules.proofs.{frames.OperationLaws.{extents_touched}}
+-- What fits after a step of a close.
+use Rattle.gate_schedules.proofs.Prelude.{Config, DownRead, Fits, Holdings, HookAnswer, IsWithin, Phase, arith, common_steps, held_after, map_next}
+use Rattle.gate_schedules.proofs.Prelude.{phase_after, ℕ, ◌<◌, ◌≤◌}
+use Rattle.cpu_words.specs.Names.{IsWord}
+use Rattle.node_words.specs.declared.nodes.NodeWord.{NodeWord}
+use Rattle.percpu_rwsem.specs.Readers.{down_read_after}
+use Rattle.composite_ops.specs.{declared.file_closes.phases.ClosePhase.ClosePhase, file_closes.Phases.{next, after, then_frees}}
+use Rattle.gate_world.specs.{Fits.{CloseFits, ActionFits}, Holdings.Agree}
+use Rattle.gate_schedules.proofs.frames.OperationLaws.{extents_touched}
 
 pub enters_fits : (c : Config) (t : ℕ) (held : Holdings) (file : ℕ) (node : NodeWord) (r : DownRead) (found : ℕ) →
     CloseFits c t held (ClosePhase.Enters file node r) → Fits c t (held_after (down_read_after r r.step found).1 held)
     (phase_after (map_next Phase.Closes (then_frees file node r.cpu (down_read_after r r.step found).0)))
 enters_fits c t held file node r found f = grind arith
 
--- what comes after each event fits
+-- what comes after each step fits
 pub close_goes : (c : Config) (t : ℕ) (held : Holdings) (x : ClosePhase) (found : ℕ) → CloseFits c t held x →
     Fits c t (held_after (after x found).1 held) (phase_after (map_next Phase.Closes (after x found).0))
 close_goes c t held x found f = grind (arith, common_steps)
 
--- the word of each event is there
+-- the word of each step is there
 pub close_there : (c : Config) (n : ℕ) → c.tasks ≤ n → (t : ℕ) → t < n → (held : Holdings) (hook : HookAnswer)
     (x : ClosePhase) → CloseFits c t held x → IsWord (extents_touched n c) (next x).0
 close_there c n le t lt held hook x f = grind arith

@@ -1,25 +1,21 @@
--- All that is proved of a close, from what is proved of its events at the tree and at level 3.
-use Rattle.std.proofs.lemmas.Grind.{common_steps}
-use Rattle.std.proofs.Common.{arith}
-use Rattle.std.{proofs.{Common.{◌≡◌, ℕ, ◌<◌, ◌≤◌, ◌∙◌, refl, ap, inl, inr}, lemmas.Bool.cases_Bool}, specs.Prelude.{◌==◌, Some, Ok, List, ◌∷◌}}
-use Rattle.access_model.specs.{Replies.map_next, declared.replies.{Next.Next, Reply.Reply}}
-use Rattle.cpu_words.specs.Hooks.{HookAnswer}
+-- All that is proved of a close, from what is proved of its steps at the tree and at level 3.
+use Rattle.gate_schedules.proofs.Prelude.{Config, DownRead, HookAnswer, IsGood, IsWithin, List, Next, Ok, Phase, Reply, Some, StepKeeps, SyncStep}
+use Rattle.gate_schedules.proofs.Prelude.{World, after_step, ap, arith, cases_Bool, common_steps, found_at, held_of, inl, inr, level_in, map_next}
+use Rattle.gate_schedules.proofs.Prelude.{phase_after, refl, sync_role_of, ℕ, ◌<◌, ◌==◌, ◌∙◌, ◌∷◌, ◌≡◌, ◌≤◌}
 use Rattle.node_words.specs.Nodes.{any_file_in, word_of}
-use Rattle.percpu_rwsem.specs.{Readers.down_read_after, declared.readers.DownRead.DownRead}
-use Rattle.freeze_laws.specs.levels.{Events.SyncStep, Roles.closed}
-use Rattle.composite_ops.specs.{file_closes.Phases.{after, then_frees, leaves_on}, declared.file_closes.phases.ClosePhase.ClosePhase}
-use Rattle.gate_world.specs.{SameRoles.{rephased, SameRolesOffTree}, refusals.Causes.asks_level, Configs.IsWithin, traces.TraceStates.CloseReadIsValid, Fits.CloseFits, refusals.KeptCauses.CauseOf, LevelRuns.level_in}
-use Rattle.gate_world.specs.{Levels.sync_role_of, Rules.{IsGood, StepKeeps}, Views.{phase_after, held_of}, refusals.Waits.HasReason}
-use Rattle.gate_world.specs.{Worlds.{World, after_step, found_at, value_at}, declared.{config.Config.Config, work.Phase.Phase}}
-use Rattle.gate_schedules.proofs.frames.{OperationLaws.PhaseLaws, ValidWords.events_may_be, Snapshots.completes_none}
-use Rattle.gate_schedules.proofs.operations.close.Causes.{enters_asks, enters_cause, looked_cause}
-use Rattle.gate_schedules.proofs.operations.close.Fits.{close_goes, close_there, close_acts, close_agrees}
-use Rattle.gate_schedules.proofs.operations.close.LevelEvents.{close_fits_now, enters_level, leaves_level, beside_reads, beside_ends, beside_runs}
-use Rattle.gate_schedules.proofs.operations.close.LevelEvents.{beside_enters}
-use Rattle.gate_schedules.proofs.operations.close.Parts.{loads_file, lowers_count, frees_node, refunds_blocks, uncounts, close_run}
-use Rattle.gate_schedules.proofs.operations.readers.{Causes.{read_own, read_not_closed}, Laws.{read_phase, end_phase}}
+use Rattle.percpu_rwsem.specs.Readers.{down_read_after}
+use Rattle.freeze_laws.specs.levels.Roles.{closed}
+use Rattle.composite_ops.specs.{declared.file_closes.phases.ClosePhase.ClosePhase, file_closes.Phases.{after, then_frees, leaves_on}}
+use Rattle.gate_world.specs.{Fits.CloseFits, SameRoles.{rephased, SameRolesOffTree}, Worlds.value_at, refusals.Causes.asks_level}
+use Rattle.gate_world.specs.{refusals.{KeptCauses.CauseOf, Waits.HasReason}, traces.TraceStates.CloseReadIsValid}
+use Rattle.gate_schedules.proofs.frames.{OperationLaws.PhaseLaws, Snapshots.completes_none, ValidWords.events_may_be}
+use Rattle.gate_schedules.proofs.operations.close.{Causes.{enters_asks, enters_cause, looked_cause}, Fits.{close_goes, close_there, close_acts}}
+use Rattle.gate_schedules.proofs.operations.close.{Fits.close_agrees, LevelEvents.{close_fits_now, enters_level, leaves_level, beside_reads}}
+use Rattle.gate_schedules.proofs.operations.close.{LevelEvents.{beside_ends, beside_runs, beside_enters}, Parts.{loads_file, lowers_count}}
+use Rattle.gate_schedules.proofs.operations.{close.Parts.{frees_node, refunds_blocks, uncounts, close_run}, readers.Causes.read_own}
+use Rattle.gate_schedules.proofs.operations.readers.{Causes.read_not_closed, Laws.{read_phase, end_phase}}
 
--- each event keeps the rule, and moves the shown model by its action or not at all
+-- each step keeps the invariant, and moves the shown state by its action or not at all
 pub close_keeps : (c : Config) → IsWithin c → (w : World) → IsGood c w → (t : ℕ) → t < c.tasks → (hook : HookAnswer) → (x : ClosePhase) →
     (w.views t).phase ≡ Some (Phase.Closes x) → StepKeeps c w t hook (Phase.Closes x)
 close_keeps c lim w good t lt hook (ClosePhase.LoadsFile x) e = loads_file c lim w good t lt hook x e
@@ -30,7 +26,7 @@ close_keeps c lim w good t lt hook (ClosePhase.RefundsBlocks p blocks) e = refun
 close_keeps c lim w good t lt hook (ClosePhase.Uncounts p) e = uncounts c lim w good t lt hook p e
 close_keeps c lim w good t lt hook (ClosePhase.Leaves p) e = leaves_level c lim w good t lt hook p e
 
--- each event is one of each level's kinds of event
+-- each step is one of each level's kinds of step
 close_runs : (c : Config) → IsWithin c → (w : World) → IsGood c w → (t : ℕ) → t < c.tasks → (hook : HookAnswer) → (x : ClosePhase) →
     (w.views t).phase ≡ Some (Phase.Closes x) → (i : ℕ) → 1 ≤ i → i ≤ 3 →
     SyncStep c.tasks (level_in w i) (level_in (after_step w t (Phase.Closes x) hook) i)
@@ -56,7 +52,7 @@ close_stays : (c : Config) (t : ℕ) (w next : World) (earlier : List World) (x 
     CauseOf c t w earlier (Some (Phase.Closes x)) → CauseOf c t next (w ∷ earlier) (Some (Phase.Closes x))
 close_stays c t w next earlier x e h = grind arith
 
--- and what comes after its event has its cause
+-- and what comes after its step has its cause
 close_causes : (c : Config) → (w : World) (earlier : List World) → IsGood c w → (t : ℕ) (hook : HookAnswer) (x : ClosePhase) →
     CloseFits c t (held_of (w.views t)) x → (w.views t).phase ≡ Some (Phase.Closes x) →
     let comes : Next ClosePhase = (after x (found_at w.words (Phase.Closes x) hook)).0 in

@@ -1,31 +1,28 @@
--- The events of a close at level 3: the law of each is that of the level's own event, but for the tree and the open files, which the event
+-- The steps of a close at level 3: the law of each is that of the level's own step, but for the tree and the open files, which the step
 -- leaves alone.
-use Rattle.access_model.specs.{Replies.map_next, States.openers, declared.{actions.Action.Action, replies.{Next.Next, Reply.Reply}}}
-use Rattle.cpu_words.specs.{Hooks.HookAnswer, Words.{Words, read}}
-use Rattle.composite_ops.specs.{file_closes.Phases.{leaves_on, then_frees}, declared.file_closes.phases.ClosePhase.ClosePhase}
-use Rattle.finite_sums.proofs.Totals.{each_updated, update_at}
-use Rattle.finite_sums.specs.Sums.{update}
-use Rattle.gate_schedules.proofs.frames.{Accesses.holdings_of_after, SameRolesOffTree.{roles_off_tree, made, made_keeps_off_tree, made_runs_off_tree, rephased_off_tree}}
-use Rattle.gate_schedules.proofs.{frames.Frames.{left_alone, opens_left}, operations.{close.Fits.enters_fits, readers.Laws.{end_phase, read_phase}}}
-use Rattle.gate_schedules.proofs.trees.{worlds.Trees.{tree_holds}, Counts.{leaves}}
-use Rattle.gate_world.specs.{SameRoles.{SameRolesOffTree, at_phase, rephased}, Configs.IsWithin, Fits.{CloseFits, Fits, HasFile, file_of}, Holdings.Holdings}
-use Rattle.gate_world.specs.{Holdings.held_after, LevelRuns.level_in, Rules.{Files, Fitting, Holds, IsGood, Moves, SameWords, StepKeeps, Tree}, Shown.shown}
-use Rattle.gate_world.specs.{Trees.{tree_bounds, tree_of, tree_role_of, tree_roles}, Views.{has_open, held_of, phase_after, view_with}, Work.after_of}
-use Rattle.gate_world.specs.{Work.next_of, Worlds.{World, found_at, words_after}, declared.{config.Config.Config, views.{Traced.Traced, View.View}}}
-use Rattle.gate_world.specs.declared.work.Phase.{Phase}
-use Rattle.node_words.specs.{Nodes.{opens_in}, declared.nodes.NodeWord.{NodeWord}}
+use Rattle.gate_schedules.proofs.Prelude.{Action, Bool, Config, DownRead, Fits, Fitting, Holdings, Holds, HookAnswer, IsGood, IsWithin, List, Next}
+use Rattle.gate_schedules.proofs.Prelude.{Ok, Option, Phase, Reply, Some, StepKeeps, SyncStep, Traced, Tree, View, Words, World, after_of, ap, arith}
+use Rattle.gate_schedules.proofs.Prelude.{each_updated, found_at, held_after, held_of, inl, inr, level_in, map_next, phase_after, read, refl, shown}
+use Rattle.gate_schedules.proofs.Prelude.{subst, sym, tree_bounds, tree_role_of, true, update, update_at, words_after, ℕ, ◌<◌, ◌∙◌, ◌≡◌}
+use Rattle.access_model.specs.States.{openers}
+use Rattle.composite_ops.specs.{declared.file_closes.phases.ClosePhase.ClosePhase, file_closes.Phases.{leaves_on, then_frees}}
+use Rattle.gate_schedules.proofs.frames.{Accesses.holdings_of_after, Frames.{left_alone, opens_left}, SameRolesOffTree.{roles_off_tree, made}}
+use Rattle.gate_schedules.proofs.frames.SameRolesOffTree.{made_keeps_off_tree, made_runs_off_tree, rephased_off_tree}
+use Rattle.gate_schedules.proofs.{operations.{close.Fits.enters_fits, readers.Laws.{end_phase, read_phase}}, trees.Counts.leaves}
+use Rattle.gate_schedules.proofs.trees.worlds.Trees.{tree_holds}
+use Rattle.gate_world.specs.{Fits.{CloseFits, HasFile, file_of}, Rules.{Files, Moves, SameWords}, SameRoles.{SameRolesOffTree, at_phase, rephased}}
+use Rattle.gate_world.specs.{Trees.{tree_of, tree_roles}, Views.{has_open, view_with}, Work.next_of}
+use Rattle.node_words.specs.{Nodes.opens_in, declared.nodes.NodeWord.NodeWord}
 use Rattle.gated_tree.specs.Roles.{Freeing, Out as OffTree, TreeHolds, charge, child_charge, removal}
-use Rattle.freeze_laws.specs.levels.Events.{SyncStep}
-use Rattle.percpu_rwsem.specs.{Readers.{at_down_read, down_read_after}, declared.readers.{DownRead.DownRead, DownReadStep.DownReadStep}}
-use Rattle.std.proofs.{Common.{Bool, ap, arith, inl, inr, refl, subst, sym, true, ℕ, ◌<◌, ◌∙◌, ◌≡◌, ◌⊎◌}}
-use Rattle.std.specs.Prelude.{List, Ok, Option, Some}
+use Rattle.percpu_rwsem.specs.{Readers.{at_down_read, down_read_after}, declared.readers.DownReadStep.DownReadStep}
+use Rattle.std.proofs.Common.{◌⊎◌}
 
--- what comes after an event at level 3 is beside what comes in its own operation
+-- what comes after a step at level 3 is beside what comes in its own operation
 pub beside_enters : (file p : ℕ) (node : NodeWord) (n : Next DownRead) →
     SameRolesOffTree (phase_after (map_next Phase.DownReads n)) (phase_after (map_next Phase.Closes (then_frees file node p n)))
 beside_enters file p node n = grind arith
 
--- no event of a down-read touches a word of the tree
+-- no step of a down-read touches a word of the tree
 read_tree : (w : Words) (r : DownRead) (s : DownReadStep) (hook : HookAnswer) → SameWords w (words_after w (Phase.DownReads (at_down_read r s)) hook) Tree
 read_tree w r s hook = grind arith
 
@@ -44,7 +41,7 @@ then_has : (files : ℕ → Bool) (file p : ℕ) (node : NodeWord) (n : Next Dow
 then_has files file p node n own = grind arith
 
 module _ (c : Config) (w : World) (good : IsGood c w) (t : ℕ) (lt : t < c.tasks) where
-  -- the open files, where no event has opened or closed one
+  -- the open files, where no step has opened or closed one
   files_still : (ws : Words) (v : View) → ws.node ≡ w.words.node → has_open v ≡ has_open (w.views t) → HasFile (has_open v) (file_of v.phase) →
       Holds c (record { words = ws; views = update w.views t v }) Files
   files_still ws v node same own = record {
@@ -74,14 +71,14 @@ module _ (c : Config) (w : World) (good : IsGood c w) (t : ℕ) (lt : t < c.task
   module _ (hook : HookAnswer) (q : Phase) (before : SameRolesOffTree (w.views t).phase (Some q))
       (fits : Fits c t (held_of (w.views t)) (Some q)) (tree : Holds c (rephased w t (Some q)) Tree)
       (files : Holds c (rephased w t (Some q)) Files) where
-    -- what comes after the level's event in its own operation, and the action that it adds
+    -- what comes after the level's step in its own operation, and the action that it adds
     abbrev plain_after : Next Phase
     plain_after = (after_of q (found_at w.words q hook) hook).0
 
     abbrev plain_action : Option Action
     plain_action = (after_of q (found_at w.words q hook) hook).1
 
-    -- the same event in a world with these words, after which this comes
+    -- the same step in a state with these words, after which this comes
     abbrev made_in : World → Next Phase → World
     made_in first coming = made first t (next_of q hook) hook coming plain_action
 
@@ -89,7 +86,7 @@ module _ (c : Config) (w : World) (good : IsGood c w) (t : ℕ) (lt : t < c.task
     abbrev first_world : World
     first_world = rephased w t (Some q)
 
-    -- where the rule holds of that world, the law of the level's event is the law of the event after which the longer operation goes on
+    -- where the invariant holds of that state, the law of the level's step is the law of the step after which the longer operation goes on
     abbrev PlainLaw : Type 0
     PlainLaw = IsGood c first_world → (first_world.views t).phase ≡ Some q →
         IsGood c (made_in first_world plain_after) ×
@@ -109,7 +106,7 @@ pub close_fits_now : (c : Config) (w : World) → IsGood c w → (t : ℕ) → t
 close_fits_now c w good t lt hook x e = subst (Fits c t (held_of (w.views t))) e (good Fitting t lt)
 
 module _ (c : Config) (lim : IsWithin c) (w : World) (good : IsGood c w) (t : ℕ) (lt : t < c.tasks) (hook : HookAnswer) where
-  -- an event at level 3, with the node to be freed
+  -- a step at level 3, with the node to be freed
   pub enters_level : (file : ℕ) (node : NodeWord) (r : DownRead) → (w.views t).phase ≡ Some (Phase.Closes (ClosePhase.Enters file node r)) →
       StepKeeps c w t hook (Phase.Closes (ClosePhase.Enters file node r))
   enters_level file node r e =
@@ -157,11 +154,11 @@ module _ (c : Config) (lim : IsWithin c) (w : World) (good : IsGood c w) (t : �
       (left_alone c w t lt Tree ws v (refl, refl, refl, refl, refl, refl) (sym is) (good Tree))
       (files_still c w good t lt ws v refl refl tt)
 
--- an event at level 3 of a task that stands at the level's phase, and after which another phase comes that is beside the level's own
+-- a step at level 3 of a task that stands at the level's phase, and after which another phase comes that is beside the level's own
 module _ (c : Config) (w : World) (t : ℕ) (lt : t < c.tasks) (hook : HookAnswer) (q : Phase)
     (before : SameRolesOffTree (w.views t).phase (Some q)) (good : IsGood c (rephased w t (Some q))) (coming : Next Phase)
     (after : SameRolesOffTree (phase_after (after_of q (found_at w.words q hook) hook).0) (phase_after coming)) where
-  -- what comes after the event in its own operation, and its action
+  -- what comes after the step in its own operation, and its action
   abbrev own_next : Next Phase
   own_next = (after_of q (found_at w.words q hook) hook).0
 
@@ -175,14 +172,14 @@ module _ (c : Config) (w : World) (t : ℕ) (lt : t < c.tasks) (hook : HookAnswe
   stands_there : ((rephased w t (Some q)).views t).phase ≡ Some q
   stands_there = ap (λ (u : View). u.phase) (update_at w.views t (at_phase (w.views t) (Some q)))
 
-  -- so the event is the same kind of event of each level
+  -- so the step is the same kind of step of each level
   pub beside_runs : (i : ℕ) → (IsGood c (rephased w t (Some q)) → ((rephased w t (Some q)).views t).phase ≡ Some q →
       SyncStep c.tasks (level_in (rephased w t (Some q)) i) (level_in (then_in (rephased w t (Some q)) own_next) i)) →
       SyncStep c.tasks (level_in w i) (level_in (then_in w coming) i)
   beside_runs i runs =
       made_runs_off_tree c w t lt (Some q) (next_of q hook) hook own_next coming own_action i before (runs good stands_there) after
 
--- the worlds in which a close at level 3 stands at the level's phase: the rule holds there
+-- the states in which a close at level 3 stands at the level's phase: the invariant holds there
 module _ (c : Config) (w : World) (good : IsGood c w) (t : ℕ) (lt : t < c.tasks) where
   pub beside_reads : (file : ℕ) (node : NodeWord) (r : DownRead) → (w.views t).phase ≡ Some (Phase.Closes (ClosePhase.Enters file node r)) →
       SameRolesOffTree (w.views t).phase (Some (Phase.DownReads r)) × IsGood c (rephased w t (Some (Phase.DownReads r)))

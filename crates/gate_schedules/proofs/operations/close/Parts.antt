@@ -1,30 +1,23 @@
--- An event of a close at the tree: it leaves the mounts, the levels and the sections alone, and all of the shown model but the tree and its
+-- A step of a close at the tree: it leaves the mounts, the levels and the sections alone, and all of the shown state but the tree and its
 -- task's open files.
-use Rattle.access_model.specs.{Replies.map_next, States.is_removed, declared.{actions.Action.Action, errors.GateError.GateError, replies.Next.Next}}
-use Rattle.std.proofs.lemmas.Grind.{common_steps}
-use Rattle.std.proofs.{Common.{Bool, ap, arith, false, inl, inr, refl, subst, sym, true, true≢false, ℕ, ◌<◌, ◌∙◌, ◌≡◌}, lemmas.Bool.cases_Bool}
-use Rattle.std.proofs.lemmas.Bool.Decides.{eqb_tells}
-use Rattle.cpu_words.specs.Hooks.{HookAnswer}
-use Rattle.composite_ops.specs.{file_closes.Phases.{after, closed_from, next}, declared.file_closes.phases.{ClosePhase.ClosePhase, Closing.Closing}}
-use Rattle.gate_schedules.proofs.operations.close.Events.{close_drops, close_frees, close_loads, close_lowers, close_uncounts, closer_unread, dropped_removed}
-use Rattle.gate_schedules.proofs.operations.close.Events.{freeing_removed, frees_alone}
-use Rattle.gate_schedules.proofs.{operations.close.Fits.close_goes, trees.worlds.{Events.{IsPlain, plain_parts, tree_run}, MayTree.LeaveFor}}
-use Rattle.gate_schedules.proofs.trees.worlds.Parts.{IsAtTree, IsOffGates, LeavesAccesses, files_then, fitting_then, idle_off, is_node_word}
-use Rattle.gate_schedules.proofs.trees.worlds.{Parts.{node_call, shown_moves, tree_then}, Trees.{tree_within}}
-use Rattle.gate_world.specs.{Configs.{IsWithin, model_limits}, Fits.{CloseFits, Fits, HasFile, MayLower, file_of}, Holdings.{Holdings, held_after}}
-use Rattle.gate_world.specs.{LevelRuns.level_in, Roles.close_tree_role, Rules.{Files, Fitting, IsGood, StepKeeps, Tree}, Shown.shown}
-use Rattle.gate_world.specs.{Trees.{is_bare_at, is_sealed, tree_bounds, tree_role_of, tree_roles}, Views.{has_open, held_of, phase_after, view_after}}
-use Rattle.gate_world.specs.{Worlds.{World, after_step, found_at, value_at}, declared.{config.Config.Config, views.{Traced.Traced, View.View}}}
-use Rattle.gate_world.specs.declared.work.Phase.{Phase}
-use Rattle.node_words.proofs.Words.{word_opens, word_shows}
-use Rattle.node_words.specs.{Nodes.{any_file_in, info_of, node_shown, opens_in, word_of}, Phases.{after_look}}
+use Rattle.gate_schedules.proofs.Prelude.{Action, Bool, Config, Fits, Fitting, GateError, Holdings, HookAnswer, IsGood, IsWithin, List, Next, Option}
+use Rattle.gate_schedules.proofs.Prelude.{Phase, Result, Some, StepKeeps, SyncStep, Traced, Tree, View, World, after_step, ap, arith, cases_Bool}
+use Rattle.gate_schedules.proofs.Prelude.{common_steps, eqb_tells, false, found_at, held_after, held_of, inl, inr, level_in, map_next, phase_after}
+use Rattle.gate_schedules.proofs.Prelude.{refl, shown, subst, sym, tree_bounds, tree_role_of, true, true≢false, ℕ, ◌<◌, ◌==◌, ◌∙◌, ◌≡◌}
+use Rattle.access_model.specs.States.{is_removed}
+use Rattle.composite_ops.specs.{declared.file_closes.phases.{ClosePhase.ClosePhase, Closing.Closing}, file_closes.Phases.{after, closed_from, next}}
+use Rattle.gate_schedules.proofs.operations.close.Events.{close_drops, close_frees, close_loads, close_lowers, close_uncounts, closer_unread}
+use Rattle.gate_schedules.proofs.operations.close.{Events.{dropped_removed, freeing_removed, frees_alone}, Fits.close_goes}
+use Rattle.gate_schedules.proofs.trees.worlds.{Events.{IsPlain, plain_parts, tree_run}, MayTree.LeaveFor, Parts.{IsAtTree, IsOffGates}}
+use Rattle.gate_schedules.proofs.trees.worlds.Parts.{LeavesAccesses, files_then, fitting_then, idle_off, is_node_word, node_call, shown_moves}
+use Rattle.gate_schedules.{proofs.trees.worlds.{Parts.tree_then, Trees.tree_within}, specs.trees.{Events.HasLeave, Steps.EventKeeps}}
+use Rattle.gate_world.specs.{Configs.model_limits, Fits.{CloseFits, HasFile, MayLower, file_of}, Roles.close_tree_role, Rules.Files, Trees.is_bare_at}
+use Rattle.gate_world.specs.{Trees.{is_sealed, tree_roles}, Views.{has_open, view_after}, Worlds.value_at}
+use Rattle.node_words.{proofs.Words.{word_opens, word_shows}, specs.{Nodes.{info_of, node_shown, opens_in, word_of}, Phases.after_look}}
 use Rattle.node_words.specs.declared.nodes.NodeWord.{NodeWord}
-use Rattle.gated_tree.specs.{Calls.{role_after}, Roles.{Dropped, Freeing}}
-use Rattle.freeze_laws.specs.levels.Events.{SyncStep}
-use Rattle.std.specs.Prelude.{List, Option, Result, Some, ◌==◌}
-use Rattle.gate_schedules.specs.trees.{Events.HasLeave, Steps.EventKeeps}
+use Rattle.gated_tree.specs.{Calls.role_after, Roles.{Dropped, Freeing}}
 
--- the events at the tree
+-- the steps at the tree
 abbrev pub is_at_tree : ClosePhase → Bool
 is_at_tree (ClosePhase.Enters file node r) = false
 is_at_tree (ClosePhase.Leaves p) = false
@@ -47,19 +40,7 @@ off_looked : (x : Closing) (r : Option (Result NodeWord GateError)) →
 off_looked x r = grind arith
 
 off_next : (x : ClosePhase) → is_at_tree x ≡ true → (found : ℕ) → IsOffGates (phase_after (map_next Phase.Closes (after x found).0))
-off_next (ClosePhase.LoadsFile x) h found = off_looked x (any_file_in found)
-off_next (ClosePhase.LowersCount x node) h found =
-    elim (cases_Bool (found == word_of node)) [ inl e ↦ rw e idle_off | inr e ↦ rw e idle_off ]
-off_next (ClosePhase.FreesNode file p node) h found =
-    elim (cases_Bool (found == word_of node)) [
-      | inl e ↦ rw e (off_close (ClosePhase.RefundsBlocks p node.size) refl)
-      | inr e ↦ rw e
-          (off_close (ClosePhase.FreesNode file p node) refl)
-    ]
-off_next (ClosePhase.RefundsBlocks p blocks) h found = off_close (ClosePhase.Uncounts p) refl
-off_next (ClosePhase.Uncounts p) h found = off_leaves p
-off_next (ClosePhase.Enters file node r) h found = absurd (true≢false (sym h))
-off_next (ClosePhase.Leaves p) h found = absurd (true≢false (sym h))
+off_next x h found = grind (arith, off_looked, idle_off, off_close, off_leaves)
 
 -- a close has to do with no stage and owns nothing, and so has what comes after one
 plain_next : (n : Next ClosePhase) → IsPlain (phase_after (map_next Phase.Closes n))
@@ -104,7 +85,7 @@ module _ (c : Config) (within : IsWithin c) (w : World) (good : IsGood c w) (t :
   role_now : tree_roles w t ≡ close_tree_role x
   role_now = ap (tree_role_of (w.views t).trace) e
 
-  -- what the tree's own law says of the event
+  -- what the tree's own law says of the step
   abbrev TreeLaw : Type 0
   TreeLaw = EventKeeps (tree_bounds c) (is_sealed w.words) (is_bare_at w.words) w.words (tree_roles w) t (next x)
       (role_after close_tree_role close_next) close_action

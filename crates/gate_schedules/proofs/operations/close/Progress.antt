@@ -1,14 +1,11 @@
 -- A close runs out, a last one where level 3 is open.
-use Rattle.std.proofs.lemmas.Grind.{common_steps}
-use Rattle.std.proofs.{Common.{arith}}
-use Rattle.cpu_words.specs.{Touches.{left, found_by}, Words.{Words, read, put}}
-use Rattle.composite_ops.specs.file_closes.Phases.{next as close_next, after as close_after}
-use Rattle.composite_ops.specs.declared.file_closes.phases.{ClosePhase.ClosePhase}
-use Rattle.gate_world.specs.{traces.TraceStates.CloseReadIsValid, Worlds.{words_after, found_at}, declared.{config.Config.Config, work.Phase.Phase}}
-use Rattle.gate_schedules.proofs.{frames.ValidWords.events_may_be, operations.{deadlocks.RankDecreases.falls_as}}
-use Rattle.gate_schedules.specs.operations.{Ranks.{rank, close_rank}, Unblocked.{IsUnblocked, CloseIsUnblocked, RankDecreases, PhaseEnds}}
+use Rattle.gate_schedules.proofs.Prelude.{Config, Phase, Words, arith, common_steps, found_at, found_by, left, put, read, words_after}
+use Rattle.composite_ops.specs.{declared.file_closes.phases.ClosePhase.ClosePhase, file_closes.Phases.{next as close_next, after as close_after}}
+use Rattle.gate_world.specs.traces.TraceStates.{CloseReadIsValid}
+use Rattle.gate_schedules.{proofs.{frames.ValidWords.events_may_be, operations.deadlocks.RankDecreases.falls_as}, specs.operations.Ranks.rank}
+use Rattle.gate_schedules.specs.operations.{Ranks.close_rank, Unblocked.{IsUnblocked, CloseIsUnblocked, RankDecreases, PhaseEnds}}
 
--- each event of a close
+-- each step of a close
 close_falls : (w : Words) (x : ClosePhase) → CloseIsUnblocked w x → CloseReadIsValid x (read w (close_next x).0) →
     let after : Words = put w (close_next x).0 (left (close_next x).1 (read w (close_next x).0)) in
     RankDecreases close_rank (CloseIsUnblocked after) (close_rank x) (close_after x (found_by (close_next x).1 (read w (close_next x).0))).0

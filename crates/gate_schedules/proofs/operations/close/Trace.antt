@@ -1,15 +1,12 @@
--- Traces of a close: that of its down-read of level 3, where it is a last one, between its own events.
-use Rattle.std.proofs.{Common.{◌≡◌, ℕ, ◌≤◌, Bool, true, false, arith}}
-use Rattle.std.proofs.lemmas.Grind.{common_steps}
-use Rattle.std.specs.Prelude.{List, [], ◌∷◌, length}
-use Rattle.access_model.specs.{declared.{actions.{Action.Action, Gate.Gate}}}
-use Rattle.percpu_rwsem.specs.{declared.readers.{DownReadStep.DownReadStep}}
-use Rattle.composite_ops.specs.{declared.file_closes.phases.ClosePhase.ClosePhase}
-use Rattle.gate_world.specs.{traces.Found.found_dropped, Operations.first_close}
-use Rattle.gate_world.specs.declared.{config.Config.Config, operations.Op.Op, views.Traced.Traced, work.Phase.Phase}
-use Rattle.gate_schedules.proofs.{frames.OperationLaws.OpLaws, operations.{close.{Beginning.close_op_from}}}
-use Rattle.gate_schedules.proofs.operations.{readers.Trace.{read_at, ReadSays}}
-use Rattle.gate_schedules.proofs.traces.TraceInvariant.{IsInductiveGivenReads, tells_well, is_short_well}
+-- Traces of a close: that of its down-read of level 3, where it is a last one, between its own steps.
+use Rattle.gate_schedules.proofs.Prelude.{Action, Bool, Config, List, Op, Phase, Traced, [], arith, common_steps, false, true, ℕ, ◌∷◌, ◌≡◌, ◌≤◌}
+use Rattle.std.specs.Prelude.{length}
+use Rattle.access_model.specs.declared.actions.Gate.{Gate}
+use Rattle.percpu_rwsem.specs.declared.readers.DownReadStep.{DownReadStep}
+use Rattle.composite_ops.specs.declared.file_closes.phases.ClosePhase.{ClosePhase}
+use Rattle.gate_world.specs.{Operations.first_close, traces.Found.found_dropped}
+use Rattle.gate_schedules.proofs.{frames.OperationLaws.OpLaws, operations.{close.Beginning.close_op_from, readers.Trace.{read_at, ReadSays}}}
+use Rattle.gate_schedules.proofs.traces.TraceInvariant.{IsInductiveGivenReads, traces_given_reads}
 
 -- what a last close has added inside level 3: its grant, and then its action, too
 abbrev entered : List Action
@@ -19,13 +16,13 @@ abbrev freed : ℕ → List Action
 freed file = Action.Close file ∷ entered
 
 module _ (file p t : ℕ) (wait : Bool) where
-  -- What a trace says of what was added, whether an event was on `removed`, and how many events there are at most, where the close doesn't
+  -- What a trace says of what was added, whether a step was on `removed`, and how many steps there are at most, where the close doesn't
   -- wait.
   abbrev HasAdded : List Action → Bool → ℕ → List Traced → List Action → Type 0
   HasAdded actions dropped most trace added =
       (added ≡ actions) × (found_dropped trace ≡ dropped) × (wait ≡ false → length trace ≤ most)
 
-  -- What a trace says, by where the close stands. Inside level 3 it has one event and those of a down-read, at most five, before it frees
+  -- What a trace says, by where the close stands. Inside level 3 it has one step and those of a down-read, at most five, before it frees
   -- its file.
   abbrev CloseSays : ClosePhase → List Traced → List Action → Type 0
   CloseSays (ClosePhase.LoadsFile x) trace added = (x ≡ first_close file p t wait) × (trace ≡ []) × (added ≡ [])
@@ -47,5 +44,4 @@ close_inductive c file p t wait = grind (arith, common_steps)
 pub close_op : (c : Config) (file p : ℕ) (wait : Bool) → OpLaws c (Op.Close file p wait)
 close_op c file p wait =
     close_op_from c file p wait
-    (λ lim t trace h. tells_well (CloseAt file p t wait) c t (Op.Close file p wait) (close_inductive c file p t wait) trace h)
-    (λ lim t trace h. is_short_well (CloseAt file p t wait) c t (Op.Close file p wait) (close_inductive c file p t wait) trace h)
+    (traces_given_reads (λ t. CloseAt file p t wait) c (Op.Close file p wait) (λ t. close_inductive c file p t wait))

@@ -1,44 +1,44 @@
--- Where each operation under way is blocked, no event of one of them is a reply, and all stay blocked.
-use Rattle.gate_world.specs.Roles.{freeze_owns}
-use Rattle.gate_world.specs.{Fits.{FreezeFits, PhaseFits}, Levels.{is_frozen_whole, sync_role_of}, Roles.freeze_stage_role, Rules.{IsGood, Moves as MovesModel}}
-use Rattle.gate_world.specs.{Rules.{Owner, Stages, SyncAt, SyncHoldsIn, Tree, owns, stage_role_of}, Shown.shown, Views.held_of}
-use Rattle.gate_world.specs.{Views.{holds_level, phase_after, view_after}, Work.after_of, Worlds.{World, after_step, found_at, phase_action, value_at}}
-use Rattle.gate_world.specs.{Worlds.words_after, declared.{config.Config.Config, views.View.View, work.Phase.{Phase, TheVariants.Closes as FileCloses}}}
-use Rattle.gate_world.specs.declared.work.Phase.TheVariants.{DownReads, Freezes, Mounts, Remounts, Thaws, Trees, Writes}
-use Rattle.access_model.specs.{Replies.map_next, declared.{actions.Action.{Action, TheVariants.Pass}, replies.Next.{Next, TheVariants.{Done, Go, Wait}}}}
-use Rattle.cpu_words.specs.{Hooks.HookAnswer, Touches.{found_by, left}, Words.{Words, put, read}, declared.events.Touch.TheVariants.Cas}
-use Rattle.cpu_words.specs.declared.names.WordName.TheVariants.{Node, Umount}
-use Rattle.composite_ops.specs.{file_closes.Phases.{after as close_after, enters, then_frees}, declared.file_closes.phases.ClosePhase.TheVariants.Enters as EntersLevel}
-use Rattle.composite_ops.specs.declared.file_closes.phases.{ClosePhase.TheVariants.LoadsFile as CloseLoadsFile, Closing.Closing}
-use Rattle.composite_ops.specs.{write_access.Phases.then_wants, declared.write_access.phases.WritePhase.TheVariants.Takes}
-use Rattle.finite_sums.proofs.Totals.{each_updated, update_off}
-use Rattle.freeze_levels.specs.{Freezes.{after_closing, at_freeze, closing_waits, freeze_closes, level_closed}, Thaws.at_thaw, declared.freezes.Freeze.Freeze}
-use Rattle.freeze_levels.specs.declared.freezes.FreezeStep.{FreezeStep, TheVariants.{Cleans, Closes, LoadsStage, LoadsSuperblock, Locks as FreezeLocks, Waits}}
-use Rattle.freeze_levels.specs.declared.{freezes.FreezeStep.TheVariants.{LocksAgain, SetsFs, SetsPageFault, SetsWrite, Unlocks}, thaws.Thaw.Thaw}
-use Rattle.freeze_levels.specs.declared.thaws.ThawStep.{ThawStep, TheVariants.Locks as ThawLocks}
+-- Where each operation under way is blocked, no step of one of them is a reply, and all stay blocked.
+use Rattle.gate_schedules.proofs.Prelude.{Action, Bool, Config, DownRead, FreezeStep, HookAnswer, IsGood, Next, Ok, Option, Owner, Phase, PhaseFits}
+use Rattle.gate_schedules.proofs.Prelude.{Some, Stages, SyncAt, Tree, View, Words, World, after_of, after_step, ap, arith, cases_Bool, each_updated}
+use Rattle.gate_schedules.proofs.Prelude.{eqb_tells, false, found_at, found_by, held_of, if◌then◌else◌, inl, inr, is_frozen_whole, left, map_next}
+use Rattle.gate_schedules.proofs.Prelude.{nat_lt, owns, phase_after, put, read, refl, shown, stage_role_of, subst, sym, sync_role_of, true}
+use Rattle.gate_schedules.proofs.Prelude.{true≢false, words_after, ℕ, ◌<◌, ◌==◌, ◌∙◌, ◌≡◌, ◌≤◌}
+use Rattle.gate_world.specs.{Fits.FreezeFits, Roles.{freeze_owns, freeze_stage_role}, Rules.{Moves as MovesModel, SyncHoldsIn}, Views.holds_level}
+use Rattle.gate_world.specs.{Views.view_after, Worlds.{phase_action, value_at}, declared.work.Phase.TheVariants.{Closes as FileCloses, DownReads}}
+use Rattle.gate_world.specs.declared.work.Phase.TheVariants.{Freezes, Mounts, Remounts, Thaws, Trees, Writes}
+use Rattle.access_model.specs.declared.{actions.Action.TheVariants.Pass, replies.Next.TheVariants.{Done, Go, Wait}}
+use Rattle.cpu_words.specs.declared.{events.Touch.TheVariants.Cas, names.WordName.TheVariants.{Node, Umount}}
+use Rattle.composite_ops.specs.declared.file_closes.phases.ClosePhase.TheVariants.{Enters as EntersLevel, LoadsFile as CloseLoadsFile}
+use Rattle.composite_ops.specs.declared.{file_closes.phases.Closing.Closing, write_access.phases.WritePhase.TheVariants.Takes}
+use Rattle.composite_ops.specs.{file_closes.Phases.{after as close_after, enters, then_frees}, write_access.Phases.then_wants}
+use Rattle.finite_sums.proofs.Totals.{update_off}
+use Rattle.freeze_levels.specs.{Freezes.{after_closing, at_freeze, closing_waits, freeze_closes, level_closed}, Thaws.at_thaw}
+use Rattle.freeze_levels.specs.declared.freezes.{Freeze.Freeze, FreezeStep.TheVariants.{Cleans, Closes, LoadsStage, LoadsSuperblock}}
+use Rattle.freeze_levels.specs.declared.freezes.FreezeStep.TheVariants.{Locks as FreezeLocks, Waits, LocksAgain, SetsFs, SetsPageFault, SetsWrite}
+use Rattle.freeze_levels.specs.declared.{freezes.FreezeStep.TheVariants.Unlocks, thaws.{Thaw.Thaw, ThawStep.ThawStep}}
+use Rattle.freeze_levels.specs.declared.thaws.ThawStep.TheVariants.{Locks as ThawLocks}
 use Rattle.gate_schedules.proofs.{frames.{Owners.owns_le, Words.load_same}, levels.Facts.blocked_slow}
-use Rattle.gate_schedules.proofs.operations.deadlocks.{RankDecreases.{after_event, happens_is, stands_after}, FreezeProgress.{next_same, not_none}}
-use Rattle.gate_schedules.proofs.operations.deadlocks.BlockedCloses.{StaysAtLevel, down_stays}
-use Rattle.gate_schedules.proofs.operations.deadlocks.{BlockedStarts.{StaysKept, start_stays}, WhoCanStep.fits_at}
-use Rattle.gate_schedules.proofs.operations.{deadlocks.BlockedOrProgress.{first_finds, first_is, or_phase}}
-use Rattle.node_words.proofs.{ClearedMarks.{IsCleared, clears_mark, without_mark}}
-use Rattle.node_words.specs.{Nodes.{IsPacked, node_of, opens_in, removed_in}, declared.marks.ClearMarks.{ClearMarks}}
+use Rattle.gate_schedules.proofs.operations.deadlocks.{BlockedCloses.{StaysAtLevel, down_stays}, BlockedOrProgress.{first_finds, first_is, or_phase}}
+use Rattle.gate_schedules.proofs.operations.deadlocks.{BlockedStarts.{StaysKept, start_stays}, FreezeProgress.{next_same, not_none}}
+use Rattle.gate_schedules.proofs.operations.deadlocks.{RankDecreases.{after_event, happens_is, stands_after}, WhoCanStep.fits_at}
+use Rattle.gate_schedules.specs.operations.Progress.{AllAreBlocked, ChangeIsBlocked, EventsMoveModel, FreezeIsBlocked, HasReply, IsAgreed, IsHeldIdle}
+use Rattle.gate_schedules.specs.operations.Progress.{HeldLevelAhead, IsBlockedAt, BlockedIfFreeze, BlockedIsStable, LockIsBlocked, RemountIsBlocked}
+use Rattle.gate_schedules.specs.operations.Progress.{SnapshotIsBlocked, StartIsBlocked, ThawIsBlocked, begins_freeze, is_admitted, is_first_lock}
+use Rattle.gate_schedules.specs.operations.Progress.{is_last_close, next_level}
+use Rattle.node_words.{proofs.ClearedMarks.{IsCleared, clears_mark, without_mark}, specs.Nodes.{IsPacked, node_of, opens_in, removed_in}}
+use Rattle.node_words.specs.declared.marks.ClearMarks.{ClearMarks}
 use Rattle.gated_tree.specs.declared.{phases.TreePhase.TheVariants.Snapshot as Snapshots, snapshots.{Snapshot.Snapshot, SnapshotStep.SnapshotStep}}
 use Rattle.gated_tree.specs.declared.snapshots.SnapshotStep.TheVariants.{Locks as SnapshotLocks}
-use Rattle.mount_counts.specs.{Remounts.at_remount, declared.phases.{Change.Change, ChangeStep.{ChangeStep, TheVariants.Locks as ChangeLocks}}}
+use Rattle.mount_counts.specs.{Remounts.at_remount, declared.phases.{Change.Change, ChangeStep.{TheVariants.Locks as ChangeLocks, ChangeStep}}}
 use Rattle.mount_counts.specs.declared.{phases.MountPhase.TheVariants.Change as Changes, remounts.{Remount.Remount, RemountStep.RemountStep}}
 use Rattle.mount_counts.specs.declared.remounts.RemountStep.TheVariants.{Locks as RemountLocks}
-use Rattle.percpu_rwsem.specs.{Readers.{down_read_after, down_read_next, step_found}, Writers.{down_write_after, down_write_next}, declared.readers.DownRead.DownRead}
+use Rattle.percpu_rwsem.specs.{Readers.{down_read_after, down_read_next, step_found}, Writers.{down_write_after, down_write_next}}
 use Rattle.percpu_rwsem.specs.declared.writers.{DownWrite.DownWrite, DownWriteStep.DownWriteStep}
-use Rattle.gate_schedules.specs.operations.Progress.{AllAreBlocked, ChangeIsBlocked, EventsMoveModel, FreezeIsBlocked, HasReply, IsAgreed, IsHeldIdle, HeldLevelAhead, IsBlockedAt}
-use Rattle.gate_schedules.specs.operations.Progress.{BlockedIfFreeze, BlockedIsStable, LockIsBlocked, RemountIsBlocked, SnapshotIsBlocked, StartIsBlocked, ThawIsBlocked, begins_freeze}
-use Rattle.gate_schedules.specs.operations.Progress.{is_admitted, is_first_lock, is_last_close, next_level}
 use Rattle.freeze_laws.specs.stages.Roles.{KnowsStage, bit}
-use Rattle.std.proofs.{Common.{Bool, ap, arith, false, inl, inr, refl, subst, sym, true, true≢false, ℕ, ◌<◌, ◌∙◌, ◌≡◌, ◌≤◌}}
-use Rattle.std.proofs.lemmas.Bool.{cases_Bool, eqb-true, ne_eqb, Decides.eqb_tells}
-use Rattle.std.specs.Prelude.{Ok, Option, Some, if◌then◌else◌, nat_lt, ◌&&◌, ◌+◌, ◌==◌}
+use Rattle.std.{proofs.lemmas.Bool.{eqb-true, ne_eqb}, specs.Prelude.{◌&&◌, ◌+◌}}
 
--- an event of a down-write leaves a closed level closed, the nodes, the stage and the superblock's flag
+-- a step of a down-write leaves a closed level closed, the nodes, the stage and the superblock's flag
 down_blocks : (w : Words) (d : DownWrite) (s : DownWriteStep) (i : ℕ) → w.block i ≡ 1 → (after_event w (down_write_next d s)).block i ≡ 1
 down_blocks w d s i h = grind arith
 
@@ -66,7 +66,7 @@ later_kept c v s later h = grind arith
 kept_later : (c : Config) (v : World) (s : FreezeStep) → is_first_lock s ≡ false → HeldLevelAhead c v s → FreezeIsBlocked c v s
 kept_later c v s later h = grind arith
 
--- what an event of a task that is blocked, from this phase to that one, leaves to others that are blocked
+-- what a step of a task that is blocked, from this phase to that one, leaves to others that are blocked
 pub record LeavesKept (c : Config) (w next : World) (t : ℕ) (p q : Phase) : Type 0 where
   pub here : (next.views t).phase ≡ Some q
   -- closed levels stay closed, and last closes the last
@@ -222,7 +222,7 @@ module _ (c : Config) (w : World) (good : IsGood c w) (t : ℕ) (lt : t < c.task
   abbrev after : Phase → World
   after p = after_step w t p hook
 
-  -- what the event of a blocked operation comes to
+  -- what the step of a blocked operation comes to
   record Goes (p : Phase) : Type 0 where
     then_at : Phase
     leaves : LeavesKept c w (after p) t p then_at
@@ -238,7 +238,7 @@ module _ (c : Config) (w : World) (good : IsGood c w) (t : ℕ) (lt : t < c.task
       (λ y. sync_role_of r.level (w.views y).phase) s.holds h.2) r.step h.1
 
   module _ (r : DownRead) (h : StartIsBlocked w r) (one : 1 ≤ r.level) (three : r.level ≤ 3) where
-    -- what it comes to in a phase that goes through its events, as a start, a write access and a close do
+    -- what it comes to in a phase that goes through its steps, as a start, a write access and a close do
     module _ (p : Phase) (at : (w.views t).phase ≡ Some p) (to : DownRead → Phase)
         (words : (after p).words ≡ after_event w.words (down_read_next r r.step)) (none : owns (Some p) ≡ 0)
         (later : (x : DownRead) → begins_freeze (Some (to x)) ≡ false)
@@ -263,20 +263,26 @@ module _ (c : Config) (w : World) (good : IsGood c w) (t : ℕ) (lt : t < c.task
     tried_locks : LockIsBlocked c w → LockIsBlocked c (after p)
     tried_locks l = locks_stay c w good t lt p at hook q tried_leaves l
 
+  -- so one that waits for a freeze that is blocked leaves its operation so
+  try_goes : (p : Phase) (n : ℕ) → (w.views t).phase ≡ Some p → ((w.words.umount == 0) ≡ false → ((after p).views t).phase ≡ Some p) →
+      (after p).words ≡ put w.words Umount (left (Cas 0 n) w.words.umount) → owns (Some p) ≡ 0 →
+      (LockIsBlocked c (after p) → IsBlockedAt c (after p) p) → LockIsBlocked c w → Goes p
+  try_goes p n at again words none blocked l =
+      let taken : w.words.umount ≡ 0 → ⊥ = lock_taken c w good l in
+      let here : ((after p).views t).phase ≡ Some p = again (ne_eqb w.words.umount 0 taken) in
+      let same : (after p).words ≡ w.words = words ∙ tried w.words n taken in
+      record {
+        then_at = p;
+        leaves = tried_leaves p p at here same none (λ b. b);
+        kept = blocked (tried_locks p p at here same none (λ b. b) l);
+      }
+
   change_goes : (x : Change) (s : ChangeStep) (wait : Bool) →
       (w.views t).phase ≡ Some (Mounts (Changes (record x { step = s; wait = wait }))) → ChangeIsBlocked c w s wait →
       Goes (Mounts (Changes (record x { step = s; wait = wait })))
   change_goes x ChangeLocks true at h =
       let p : Phase = Mounts (Changes (record x { step = ChangeLocks; wait = true })) in
-      let taken : w.words.umount ≡ 0 → ⊥ = lock_taken c w good h.1 in
-      let e : (w.words.umount == 0) ≡ false = ne_eqb w.words.umount 0 taken in
-      let here : ((after p).views t).phase ≡ Some p = stands_after c w t lt hook p at ∙ rw e refl in
-      let same : (after p).words ≡ w.words = tried w.words (x.task + 1) taken in
-      record {
-        then_at = p;
-        leaves = tried_leaves p p at here same refl (λ b. b);
-        kept = (refl, tried_locks p p at here same refl (λ b. b) h.1);
-      }
+      try_goes p (x.task + 1) at (λ e. stands_after c w t lt hook p at ∙ rw e refl) refl refl (λ l. (refl, l)) h.1
   change_goes x ChangeLocks false at h = absurd (true≢false (sym h.0))
   change_goes x s wait at h = absurd h
 
@@ -284,29 +290,13 @@ module _ (c : Config) (w : World) (good : IsGood c w) (t : ℕ) (lt : t < c.task
       Goes (Remounts (at_remount x s))
   remount_goes x RemountLocks at h =
       let p : Phase = Remounts (at_remount x RemountLocks) in
-      let taken : w.words.umount ≡ 0 → ⊥ = lock_taken c w good h in
-      let e : (w.words.umount == 0) ≡ false = ne_eqb w.words.umount 0 taken in
-      let here : ((after p).views t).phase ≡ Some p = stands_after c w t lt hook p at ∙ rw e refl in
-      let same : (after p).words ≡ w.words = tried w.words (x.task + 1) taken in
-      record {
-        then_at = p;
-        leaves = tried_leaves p p at here same refl (λ b. b);
-        kept = tried_locks p p at here same refl (λ b. b) h;
-      }
+      try_goes p (x.task + 1) at (λ e. stands_after c w t lt hook p at ∙ rw e refl) refl refl (λ l. l) h
   remount_goes x s at h = absurd h
 
   thaw_goes : (x : Thaw) (s : ThawStep) → (w.views t).phase ≡ Some (Thaws (at_thaw x s)) → ThawIsBlocked c w s → Goes (Thaws (at_thaw x s))
   thaw_goes x ThawLocks at h =
       let p : Phase = Thaws (at_thaw x ThawLocks) in
-      let taken : w.words.umount ≡ 0 → ⊥ = lock_taken c w good h in
-      let e : (w.words.umount == 0) ≡ false = ne_eqb w.words.umount 0 taken in
-      let here : ((after p).views t).phase ≡ Some p = stands_after c w t lt hook p at ∙ rw e refl in
-      let same : (after p).words ≡ w.words = tried w.words (x.task + 1) taken in
-      record {
-        then_at = p;
-        leaves = tried_leaves p p at here same refl (λ b. b);
-        kept = tried_locks p p at here same refl (λ b. b) h;
-      }
+      try_goes p (x.task + 1) at (λ e. stands_after c w t lt hook p at ∙ rw e refl) refl refl (λ l. l) h
   thaw_goes x s at h = absurd h
 
   snapshot_goes : (x : Snapshot) (s : SnapshotStep) (wait : Bool) →
@@ -314,15 +304,7 @@ module _ (c : Config) (w : World) (good : IsGood c w) (t : ℕ) (lt : t < c.task
       Goes (Trees (Snapshots (record x { step = s; wait = wait })))
   snapshot_goes x SnapshotLocks true at h =
       let p : Phase = Trees (Snapshots (record x { step = SnapshotLocks; wait = true })) in
-      let taken : w.words.umount ≡ 0 → ⊥ = lock_taken c w good h.1 in
-      let e : (w.words.umount == 0) ≡ false = ne_eqb w.words.umount 0 taken in
-      let here : ((after p).views t).phase ≡ Some p = stands_after c w t lt hook p at ∙ rw e refl in
-      let same : (after p).words ≡ w.words = tried w.words (x.task + 1) taken in
-      record {
-        then_at = p;
-        leaves = tried_leaves p p at here same refl (λ b. b);
-        kept = (refl, tried_locks p p at here same refl (λ b. b) h.1);
-      }
+      try_goes p (x.task + 1) at (λ e. stands_after c w t lt hook p at ∙ rw e refl) refl refl (λ l. (refl, l)) h.1
   snapshot_goes x SnapshotLocks false at h = absurd (true≢false (sym h.0))
   snapshot_goes x s wait at h = absurd h
 
@@ -367,131 +349,72 @@ module _ (c : Config) (w : World) (good : IsGood c w) (t : ℕ) (lt : t < c.task
       ap (λ r. (r == 1) && (opens_in (without_mark word) == 1)) m.removed ∙ (ap (λ o. (removed_in word == 1) && (o == 1)) m.opens ∙ h)
 
   module _ (x : Freeze) where
-    -- after an event of the closing of a level
-    module _ (d : DownWrite) (one : 1 ≤ d.level) (three : d.level ≤ 3) (at : (w.views t).phase ≡ Some (Freezes (at_freeze x (Closes d))))
-        (k : HeldLevelAhead c w (Closes d)) where
+    -- after a step of the closing of a level, also of a freeze that waits at it and whose hook has answered Ok
+    module _ (d : DownWrite) (one : 1 ≤ d.level) (s : FreezeStep) (at : (w.views t).phase ≡ Some (Freezes (at_freeze x s)))
+        (level : next_level w.words s ≡ d.level) (own : owns (Some (Freezes (at_freeze x s))) ≡ bit (nat_lt 1 d.level))
+        (begun : w.words.stage ≡ 0 → ⊥) (words : (after (Freezes (at_freeze x s))).words ≡ after_event w.words (down_write_next d d.step))
+        (k : HeldLevelAhead c w s) where
       abbrev closing : Phase
-      closing = Freezes (at_freeze x (Closes d))
+      closing = Freezes (at_freeze x s)
 
       closes_to : (s' : FreezeStep) → ((after closing).views t).phase ≡ Some (Freezes (at_freeze x s')) →
           (2 ≤ d.level → owns (Some closing) ≡ 1 →
           (owns (Some (Freezes (at_freeze x s'))) ≡ 1) × (2 ≤ next_level (after closing).words s')) →
           HeldLevelAhead c (after closing) s' → is_first_lock s' ≡ false → Goes closing
-      closes_to s' here far kept later = grind arith
+      closes_to s' here far kept later =
+          freeze_makes x s at s' here (λ i h. ap (λ (v : Words). v.block i) words ∙ down_blocks w.words d d.step i h)
+          (λ f h. ap (λ (v : Words). is_last_close (v.node f)) words ∙ down_nodes w.words d d.step f h)
+          (λ two. far (omega (arith, level, two)))
+          (λ none. (ap (λ (v : Words). v.stage) words ∙ down_stage w.words d d.step, ap (λ (v : Words). v.sb) words ∙ down_sb w.words d d.step))
+          (λ free z past. begun z) kept later
+
+      above : (s' : FreezeStep) → next_level (after closing).words s' ≤ k.0 → HeldLevelAhead c (after closing) s'
+      above s' le = (k.0, le, k.2, idle_stays c w good t lt closing at hook k.0 k.3)
 
       level_goes : (e : DownWrite) → ((after closing).views t).phase ≡ Some (Freezes (at_freeze x (Closes e))) → e.level ≡ d.level → Goes closing
-      level_goes e here same = grind arith
+      level_goes e here same =
+          closes_to (Closes e) here (λ two mine. (ap (λ l. bit (nat_lt 1 l)) same ∙ (sym own ∙ mine), omega (arith, two, same)))
+          (above (Closes e) (omega (arith, same, level, k.1))) refl
 
       waits_goes : (e : DownWrite) → ((after closing).views t).phase ≡ Some (Freezes (at_freeze x (Waits e))) → e.level ≡ d.level → Goes closing
-      waits_goes e here same = grind arith
+      waits_goes e here same =
+          closes_to (Waits e) here (λ two mine. (ap (λ l. bit (nat_lt 1 l)) same ∙ (sym own ∙ mine), omega (arith, two, same)))
+          (above (Waits e) (omega (arith, same, level, k.1))) refl
 
       -- so it is where its down-write waits
-      wait_goes : (e : DownWrite) (s : DownWriteStep) → ((after closing).views t).phase ≡ Some (Freezes (at_freeze x (closing_waits e s))) →
+      wait_goes : (e : DownWrite) (z : DownWriteStep) → ((after closing).views t).phase ≡ Some (Freezes (at_freeze x (closing_waits e z))) →
           e.level ≡ d.level → Goes closing
       wait_goes e (DownWriteStep.Sums sum) here same = waits_goes e here same
-      wait_goes e s here same = level_goes e here same
+      wait_goes e z here same = level_goes e here same
 
       -- a level that an idle task holds isn't passed
       passed_apart : MovesModel c (shown c w) t (Some (Pass d.level)) (shown c (after closing)) → (k.0 ≡ d.level → ⊥)
       passed_apart m e =
           true≢false (sym k.3.3 ∙ (ap (holds_level (w.views k.3.0)) e ∙ m.0.1.3 k.3.0 k.3.1))
 
-      above : (s' : FreezeStep) → next_level (after closing).words s' ≤ k.0 → HeldLevelAhead c (after closing) s'
-      above s' le = (k.0, le, k.2, idle_stays c w good t lt closing at hook k.0 k.3)
-
       passes : ((after closing).views t).phase ≡ Some (Freezes (at_freeze x (level_closed d.level x.nodes))) →
           MovesModel c (shown c w) t (Some (Pass d.level)) (shown c (after closing)) → Goes closing
       passes here m =
           let apart : k.0 ≡ d.level → ⊥ = passed_apart m in
           elim (eqb_tells d.level 1) [
-            | inl e ↦ closes_to LocksAgain (here ∙ rw e.0 refl) (λ two own. absurd (omega (arith, two, e.1)))
-                (above LocksAgain (omega (arith, k.1, apart, e.1))) refl
+            | inl e ↦ closes_to LocksAgain (here ∙ rw e.0 refl) (λ two mine. absurd (omega (arith, two, e.1)))
+                (above LocksAgain (omega (arith, level, k.1, apart, e.1))) refl
             | inr e ↦ elim (eqb_tells d.level 2) [
               | inl f ↦
                   let marks : ClearMarks = record { node = 1; nodes = x.nodes } in
-                  closes_to (Cleans marks) (here ∙ rw (e.0, f.0) refl) (λ two own. (refl, omega arith))
-                  (above (Cleans marks) (omega (arith, k.1, apart, f.1))) refl
-              | inr f ↦ absurd (omega (arith, k.1, k.2, apart, e.1, f.1, one))
+                  closes_to (Cleans marks) (here ∙ rw (e.0, f.0) refl) (λ two mine. (refl, omega arith))
+                  (above (Cleans marks) (omega (arith, level, k.1, apart, f.1))) refl
+              | inr f ↦ absurd (omega (arith, level, k.1, k.2, apart, e.1, f.1, one))
             ]
           ]
 
       closes_goes : (coming : Next DownWrite) (action : Option Action) →
-          ((after closing).views t).phase ≡ phase_after (map_next Freezes (after_closing (at_freeze x (Closes d)) d.level coming)) →
+          ((after closing).views t).phase ≡ phase_after (map_next Freezes (after_closing (at_freeze x s) d.level coming)) →
           MovesModel c (shown c w) t action (shown c (after closing)) → StaysAtLevel d coming action → Goes closing
       closes_goes (Go e) action here m l = level_goes e here l
       closes_goes (Wait e) action here m l = wait_goes e e.step here l
       closes_goes (Done answer) action here m l =
           passes here (subst (λ a. MovesModel c (shown c w) t a (shown c (after closing))) l m)
-
-    -- the same where it waits, and the hook has answered Ok
-    module _ (d : DownWrite) (one : 1 ≤ d.level) (three : d.level ≤ 3) (at : (w.views t).phase ≡ Some (Freezes (at_freeze x (Waits d))))
-        (ok : hook ≡ Ok tt)
-        (k : HeldLevelAhead c w (Waits d)) where
-      abbrev waiting : Phase
-      waiting = Freezes (at_freeze x (Waits d))
-
-      waits_to : (s' : FreezeStep) → ((after waiting).views t).phase ≡ Some (Freezes (at_freeze x s')) →
-          (2 ≤ d.level → owns (Some waiting) ≡ 1 →
-          (owns (Some (Freezes (at_freeze x s'))) ≡ 1) × (2 ≤ next_level (after waiting).words s')) →
-          HeldLevelAhead c (after waiting) s' → is_first_lock s' ≡ false → Goes waiting
-      waits_to s' here far kept later =
-          freeze_makes x (Waits d) at s' here
-          (λ i h. ap (λ (a : HookAnswer). (words_after w.words waiting a).block i) ok ∙ down_blocks w.words d d.step i h)
-          (λ f h. ap (λ (a : HookAnswer). is_last_close ((words_after w.words waiting a).node f)) ok ∙ down_nodes w.words d d.step f h)
-          far
-          (λ none. (
-            ap (λ (a : HookAnswer). (words_after w.words waiting a).stage) ok ∙ down_stage w.words d d.step,
-            ap (λ (a : HookAnswer). (words_after w.words waiting a).sb) ok ∙ down_sb w.words d d.step,
-          ))
-          (λ free z past. omega (arith, knows x (Waits d) at, z, one)) kept later
-
-      waited_above : (s' : FreezeStep) → next_level (after waiting).words s' ≤ k.0 → HeldLevelAhead c (after waiting) s'
-      waited_above s' le = (k.0, le, k.2, idle_stays c w good t lt waiting at hook k.0 k.3)
-
-      waited_level_goes : (e : DownWrite) → ((after waiting).views t).phase ≡ Some (Freezes (at_freeze x (Closes e))) → e.level ≡ d.level → Goes waiting
-      waited_level_goes e here same =
-          waits_to (Closes e) here (λ two own. (ap (λ l. bit (nat_lt 1 l)) same ∙ own, omega (arith, two, same)))
-          (waited_above (Closes e) (omega (arith, same, k.1))) refl
-
-      waited_again : (e : DownWrite) → ((after waiting).views t).phase ≡ Some (Freezes (at_freeze x (Waits e))) → e.level ≡ d.level → Goes waiting
-      waited_again e here same =
-          waits_to (Waits e) here (λ two own. (ap (λ l. bit (nat_lt 1 l)) same ∙ own, omega (arith, two, same)))
-          (waited_above (Waits e) (omega (arith, same, k.1))) refl
-
-      -- so it is where its down-write waits
-      waited_on : (e : DownWrite) (s : DownWriteStep) → ((after waiting).views t).phase ≡ Some (Freezes (at_freeze x (closing_waits e s))) →
-          e.level ≡ d.level → Goes waiting
-      waited_on e (DownWriteStep.Sums sum) here same = waited_again e here same
-      waited_on e s here same = waited_level_goes e here same
-
-      -- a level that an idle task holds isn't passed
-      waited_apart : MovesModel c (shown c w) t (Some (Pass d.level)) (shown c (after waiting)) → (k.0 ≡ d.level → ⊥)
-      waited_apart m e =
-          true≢false (sym k.3.3 ∙ (ap (holds_level (w.views k.3.0)) e ∙ m.0.1.3 k.3.0 k.3.1))
-
-      waited_passes : ((after waiting).views t).phase ≡ Some (Freezes (at_freeze x (level_closed d.level x.nodes))) →
-          MovesModel c (shown c w) t (Some (Pass d.level)) (shown c (after waiting)) → Goes waiting
-      waited_passes here m =
-          let apart : k.0 ≡ d.level → ⊥ = waited_apart m in
-          elim (eqb_tells d.level 1) [
-            | inl e ↦ waits_to LocksAgain (here ∙ rw e.0 refl) (λ two own. absurd (omega (arith, two, e.1)))
-                (waited_above LocksAgain (omega (arith, k.1, apart, e.1))) refl
-            | inr e ↦ elim (eqb_tells d.level 2) [
-              | inl f ↦
-                  let marks : ClearMarks = record { node = 1; nodes = x.nodes } in
-                  waits_to (Cleans marks) (here ∙ rw (e.0, f.0) refl) (λ two own. (refl, omega arith))
-                  (waited_above (Cleans marks) (omega (arith, k.1, apart, f.1))) refl
-              | inr f ↦ absurd (omega (arith, k.1, k.2, apart, e.1, f.1, one))
-            ]
-          ]
-
-      waited_goes : (coming : Next DownWrite) (action : Option Action) →
-          ((after waiting).views t).phase ≡ phase_after (map_next Freezes (after_closing (at_freeze x (Waits d)) d.level coming)) →
-          MovesModel c (shown c w) t action (shown c (after waiting)) → StaysAtLevel d coming action → Goes waiting
-      waited_goes (Go e) action here m l = waited_level_goes e here l
-      waited_goes (Wait e) action here m l = waited_on e e.step here l
-      waited_goes (Done answer) action here m l =
-          waited_passes here (subst (λ a. MovesModel c (shown c w) t a (shown c (after waiting))) l m)
 
     -- a freeze at each step
     freeze_goes : (s : FreezeStep) → (at : (w.views t).phase ≡ Some (Freezes (at_freeze x s))) → FreezeFits c x.holder s → x.nodes ≡ c.nodes →
@@ -500,15 +423,7 @@ module _ (c : Config) (w : World) (good : IsGood c w) (t : ℕ) (lt : t < c.task
         FreezeIsBlocked c w s → Goes (Freezes (at_freeze x s))
     freeze_goes FreezeLocks at fits nodes agreed m (inl l) =
         let p : Phase = Freezes (at_freeze x FreezeLocks) in
-        let taken : w.words.umount ≡ 0 → ⊥ = lock_taken c w good l in
-        let e : (w.words.umount == 0) ≡ false = ne_eqb w.words.umount 0 taken in
-        let here : ((after p).views t).phase ≡ Some p = stands_after c w t lt hook p at ∙ rw e refl in
-        let same : (after p).words ≡ w.words = tried w.words (x.task + 1) taken in
-        record {
-          then_at = p;
-          leaves = tried_leaves p p at here same refl (λ b. b);
-          kept = inl (tried_locks p p at here same refl (λ b. b) l);
-        }
+        try_goes p (x.task + 1) at (λ e. stands_after c w t lt hook p at ∙ rw e refl) refl refl (λ k. inl k) l
     freeze_goes FreezeLocks at fits nodes agreed m (inr (u, only, k)) =
         freeze_makes x FreezeLocks at LoadsStage (stands_after c w t lt hook (Freezes (at_freeze x FreezeLocks)) at ∙ rw u refl)
         (λ i h. h) (λ f h. h) (λ two own. absurd (omega (arith, own))) (λ none. (refl, refl)) (λ u z b. absurd (true≢false b))
@@ -538,14 +453,16 @@ module _ (c : Config) (w : World) (good : IsGood c w) (t : ℕ) (lt : t < c.task
     freeze_goes (Closes d) at fits nodes agreed m k =
         let p : Phase = Freezes (at_freeze x (Closes d)) in
         let r : Next DownWrite × Option Action = down_write_after d d.step (found_at w.words p hook) in
-        closes_goes d fits.0 fits.1 at k r.0 r.1 (stands_after c w t lt hook p at) m (down_stays d d.step (found_at w.words p hook))
+        closes_goes d fits.0 (Closes d) at refl refl (λ z. omega (arith, knows x (Closes d) at, z, fits.0)) refl k r.0 r.1
+        (stands_after c w t lt hook p at) m (down_stays d d.step (found_at w.words p hook))
     freeze_goes (Waits d) at fits nodes agreed m k =
         let p : Phase = Freezes (at_freeze x (Waits d)) in
         elim agreed [
           | inl none ↦ absurd (not_none _ none)
           | inr e ↦
               let r : Next DownWrite × Option Action = down_write_after d d.step (found_at w.words p (Ok tt)) in
-              waited_goes d fits.0.0 fits.0.1 at e k r.0 r.1
+              closes_goes d fits.0.0 (Waits d) at refl refl (λ z. omega (arith, knows x (Waits d) at, z, fits.0.0))
+              (ap (λ (h : HookAnswer). words_after w.words p h) e) k r.0 r.1
               (stands_after c w t lt hook p at ∙ ap (λ (h : HookAnswer). phase_after (after_of p (found_at w.words p h) h).0) e)
               (subst (λ (h : HookAnswer). MovesModel c (shown c w) t (phase_action w h (Some p)) (shown c (after p))) e m)
               (down_stays d d.step (found_at w.words p (Ok tt)))

@@ -1,26 +1,26 @@
 -- Each operation under way is blocked, or a reply is near.
-use Rattle.gate_world.specs.Roles.{freeze_owns, snapshot_owns, thaw_owns}
-use Rattle.gate_world.specs.{Configs.IsWithin, Fits.PhaseFits, Remounts.remount_owns, Roles.{change_owns}}
-use Rattle.gate_world.specs.{Rules.{AtLevel, IsGood, Stages, owns, stage_role_of}, Views.{held_of, phase_after, view_after}}
-use Rattle.gate_world.specs.{Work.after_of, Worlds.{World, after_step, found_at, value_at}, declared.{config.Config.Config, views.View.View}}
-use Rattle.gate_world.specs.declared.work.Phase.{Phase}
-use Rattle.cpu_words.specs.{Hooks.HookAnswer, Words.Words}
-use Rattle.composite_ops.specs.declared.{file_closes.phases.ClosePhase.{ClosePhase}, write_access.phases.WritePhase.{WritePhase}}
+use Rattle.gate_schedules.proofs.Prelude.{AtLevel, Bool, Config, FreezeStep, HookAnswer, IsGood, IsWithin, MountPhase, None, Option, Phase, PhaseFits}
+use Rattle.gate_schedules.proofs.Prelude.{Some, Stages, TreePhase, View, Words, World, after_of, after_step, ap, arith, cases_Bool, eqb_tells, false}
+use Rattle.gate_schedules.proofs.Prelude.{found_at, held_of, inl, inr, nat_lt, owns, phase_after, refl, stage_role_of, subst, sym, true, true≢false}
+use Rattle.gate_schedules.proofs.Prelude.{ℕ, ◌+◌, ◌<◌, ◌==◌, ◌∙◌, ◌≡◌, ◌≤◌}
+use Rattle.gate_world.specs.{Remounts.remount_owns, Roles.{freeze_owns, snapshot_owns, thaw_owns, change_owns}, Views.view_after, Worlds.value_at}
+use Rattle.composite_ops.specs.declared.{file_closes.phases.ClosePhase.ClosePhase, write_access.phases.WritePhase.WritePhase}
 use Rattle.finite_sums.proofs.Totals.{update_off}
-use Rattle.freeze_levels.specs.{Freezes.at_freeze, declared.{freezes.{Freeze.Freeze, FreezeStep.FreezeStep}, thaws.ThawStep.ThawStep}}
-use Rattle.gated_tree.specs.declared.{phases.TreePhase.TreePhase, snapshots.SnapshotStep.SnapshotStep}
-use Rattle.mount_counts.specs.declared.{phases.{ChangeStep.ChangeStep, MountPhase.MountPhase}, remounts.RemountStep.RemountStep}
+use Rattle.freeze_levels.specs.{Freezes.at_freeze, declared.{freezes.Freeze.Freeze, thaws.ThawStep.ThawStep}}
+use Rattle.gated_tree.specs.declared.snapshots.SnapshotStep.{SnapshotStep}
+use Rattle.mount_counts.specs.declared.{phases.ChangeStep.ChangeStep, remounts.RemountStep.RemountStep}
 use Rattle.percpu_rwsem.specs.declared.readers.DownReadStep.{DownReadStep}
-use Rattle.gate_schedules.proofs.operations.deadlocks.{Bounds.alone_settled, RankDecreases.{near_by, no_further, stands_after}}
-use Rattle.gate_schedules.proofs.operations.deadlocks.FreezeProgress.{FirstFree, IdleApart, callback_goes, freeze_goes, kept_or_apart, not_none, search_below}
-use Rattle.gate_schedules.proofs.operations.deadlocks.WhoCanStep.{HasOwner, fits_at, free_goes, has_owner, owner_free, want_goes}
-use Rattle.gate_schedules.specs.operations.Progress.{ChangeIsBlocked, EventsKeepRule, FreezeIsBlocked, HeldLevelAhead, IsBlockedAt, BlockedIfFreeze, LockIsBlocked, Progresses, RemountIsBlocked}
-use Rattle.gate_schedules.specs.operations.Progress.{ReplyWithin, SnapshotIsBlocked, ThawIsBlocked, begins_freeze, is_admitted, is_first_lock, is_last_close, next_level}
-use Rattle.gate_schedules.specs.operations.{Ranks.{most_alone, most_settled}, Unblocked.{ChangeIsUnblocked, IsUnblocked, PhaseEnds, RemountIsUnblocked, SnapshotIsUnblocked, ThawIsUnblocked}}
+use Rattle.gate_schedules.proofs.operations.deadlocks.{Bounds.alone_settled, FreezeProgress.{FirstFree, IdleApart, callback_goes, freeze_goes}}
+use Rattle.gate_schedules.proofs.operations.deadlocks.{FreezeProgress.{kept_or_apart, not_none, search_below}, RankDecreases.{near_by, no_further}}
+use Rattle.gate_schedules.proofs.operations.deadlocks.{RankDecreases.stands_after, WhoCanStep.{HasOwner, fits_at, free_goes, has_owner, owner_free}}
+use Rattle.gate_schedules.{proofs.operations.deadlocks.WhoCanStep.want_goes, specs.operations.Progress.{ChangeIsBlocked, EventsKeepRule}}
+use Rattle.gate_schedules.specs.operations.Progress.{FreezeIsBlocked, HeldLevelAhead, IsBlockedAt, BlockedIfFreeze, LockIsBlocked, Progresses}
+use Rattle.gate_schedules.specs.operations.Progress.{RemountIsBlocked, ReplyWithin, SnapshotIsBlocked, ThawIsBlocked, begins_freeze, is_admitted}
+use Rattle.gate_schedules.specs.operations.{Progress.{is_first_lock, is_last_close, next_level}, Ranks.{most_alone, most_settled}}
+use Rattle.gate_schedules.specs.operations.Unblocked.{ChangeIsUnblocked, IsUnblocked, PhaseEnds, RemountIsUnblocked, SnapshotIsUnblocked}
+use Rattle.gate_schedules.specs.operations.Unblocked.{ThawIsUnblocked}
 use Rattle.freeze_laws.specs.stages.Roles.{KnowsStage, bit}
-use Rattle.std.proofs.{Common.{Bool, ap, arith, false, inl, inr, refl, subst, sym, true, true≢false, ℕ, ◌+◌, ◌<◌, ◌∙◌, ◌≡◌, ◌≤◌}, lemmas.Bool.cases_Bool}
-use Rattle.std.proofs.lemmas.Bool.{cases_lt, le-ltb, Decides.eqb_tells}
-use Rattle.std.specs.Prelude.{None, Option, Some, nat_lt, ◌==◌, ◌⊎◌}
+use Rattle.std.{proofs.lemmas.Bool.{cases_lt, le-ltb}, specs.Prelude.◌⊎◌}
 
 -- a lock is free, or not, and then the task stands before it
 change_either : (w : Words) (s : ChangeStep) (wait : Bool) →
@@ -43,20 +43,12 @@ first_either w s = grind arith
 -- a start that waits finds its level open, or closed
 read_either : (block : ℕ) (wait : Bool) (s : DownReadStep) → block ≤ 1 → (wait ≡ true → is_admitted s ≡ false → block ≡ 0) ⊎
     ((wait ≡ true) × (is_admitted s ≡ false) × (block ≡ 1))
-read_either block false s le = inl (λ q a. absurd (true≢false (sym q)))
-read_either block true s le =
-    elim (cases_Bool (is_admitted s)) [
-      | inl a ↦ inl (λ q b. absurd (true≢false (sym a ∙ b)))
-      | inr a ↦ elim (eqb_tells block 0) [ inl z ↦ inl (λ q b. z.1) | inr z ↦ inr (refl, a, omega (arith, z.1, le)) ]
-    ]
+read_either block wait s le = grind arith
 
 -- so does a close that is to be a last one
 last_either : (block : ℕ) (wait last : Bool) → block ≤ 1 → (wait ≡ true → last ≡ true → block ≡ 0) ⊎
     ((wait ≡ true) × (last ≡ true) × (block ≡ 1))
-last_either block false last le = inl (λ q a. absurd (true≢false (sym q)))
-last_either block true false le = inl (λ q a. absurd (true≢false (sym a)))
-last_either block true true le =
-    elim (eqb_tells block 0) [ inl z ↦ inl (λ q a. z.1) | inr z ↦ inr (refl, refl, omega (arith, z.1, le)) ]
+last_either block wait last le = grind arith
 
 first_owned : (w : Words) (s : FreezeStep) → freeze_owns s ≡ 1 → FirstFree w s
 first_owned w s h = grind arith
@@ -88,7 +80,7 @@ module _ (c : Config) (lim : IsWithin c)
     Waits = (v : World) → IsGood c v → (v.views t).phase ≡ Some phase → v.words.umount ≡ 0 → v.words.stage ≡ 1 → ReplyWithin c (most_settled c) v
 
     module _ (waits : Waits) (u : ℕ) (lu : u < c.tasks) (ne : t ≡ u → ⊥) (y : Freeze) where
-      -- an event of the owner leaves the view of the task that waits
+      -- a step of the owner leaves the view of the task that waits
       others : (v : World) (q : Phase) (hook : HookAnswer) → (v.views t).phase ≡ Some phase → ((after_step v u q hook).views t).phase ≡ Some phase
       others v q hook at = ap (λ (a : View). a.phase) (update_off v.views u (view_after (v.views u) q (value_at v.words q hook) hook) t ne) ∙ at
 

@@ -1,18 +1,17 @@
--- A start or a last close that is blocked stays so by its own events, which leave the words that others are blocked by.
-use Rattle.std.proofs.{Common.{◌≡◌, true, false, arith}}
-use Rattle.access_model.specs.declared.replies.Next.{Next, TheVariants.{Go, Wait, Done}}
-use Rattle.cpu_words.specs.{Touches.found_by, Words.{Words, read}}
-use Rattle.percpu_rwsem.specs.{Readers.{down_read_next, down_read_after, step_found}, SyncWords.unpack, declared.readers.DownRead.DownRead}
-use Rattle.percpu_rwsem.specs.declared.readers.DownReadStep.{DownReadStep, TheVariants.{CountsUpSlow}}
+-- A start or a last close that is blocked stays so by its own steps, which leave the words that others are blocked by.
+use Rattle.gate_schedules.proofs.Prelude.{DownRead, Next, Words, arith, false, found_by, read, true, ◌≡◌}
+use Rattle.access_model.specs.declared.replies.Next.TheVariants.{Go, Wait, Done}
+use Rattle.percpu_rwsem.specs.{Readers.{down_read_next, down_read_after, step_found}, SyncWords.unpack, declared.readers.DownReadStep.DownReadStep}
+use Rattle.percpu_rwsem.specs.declared.readers.DownReadStep.TheVariants.{CountsUpSlow}
 use Rattle.gate_schedules.specs.operations.Progress.{is_admitted}
 
--- what comes after an event of a start that is blocked is that start, which waits and isn't admitted
+-- what comes after a step of a start that is blocked is that start, which waits and isn't admitted
 abbrev pub StaysKept : DownRead → Next DownRead → Type 0
 StaysKept r (Go next) = (next.wait ≡ true) × (is_admitted next.step ≡ false) × (next.level ≡ r.level)
 StaysKept r (Wait next) = (next.wait ≡ true) × (is_admitted next.step ≡ false) × (next.level ≡ r.level)
 StaysKept r (Done answer) = ⊥
 
--- each event of a start that waits at a closed level, where readers are slow
+-- each step of a start that waits at a closed level, where readers are slow
 pub start_stays : (w : Words) (r : DownRead) → r.wait ≡ true → w.block r.level ≡ 1 → step_found (unpack (w.sync r.level)) ≡ CountsUpSlow →
     (s : DownReadStep) → is_admitted s ≡ false →
     StaysKept r (down_read_after r s (found_by (down_read_next r s).1 (read w (down_read_next r s).0))).0

@@ -1,14 +1,11 @@
 -- The rank of a phase that fits is small.
-use Rattle.std.proofs.Common.{◌≡◌, ℕ, zero, suc, ◌+◌, ◌*◌, ◌<◌, ◌≤◌, Bool, true, false, refl, sym, ap, ◌∙◌, inl, inr, arith}
-use Rattle.std.proofs.{Math.Nat.{suc-mul, zero-mul, le-max_left, le-max_right}, lemmas.Bool.{cases_lt}}
-use Rattle.std.specs.Prelude.{◌-◌}
-use Rattle.cpu_words.specs.{Words.Words}
-use Rattle.gated_tree.specs.declared.{phases.TreePhase.TreePhase, snapshots.SnapshotStep.SnapshotStep}
-use Rattle.mount_counts.specs.declared.{remounts.RemountStep.RemountStep}
-use Rattle.gate_world.specs.{Holdings.Holdings, Configs.IsWithin, Fits.{PhaseFits}, Remounts.RemountFits}
-use Rattle.gate_world.specs.declared.{config.Config.Config, work.Phase.Phase}
-use Rattle.gate_schedules.proofs.operations.remount.Progress.{loop_step, size_small}
-use Rattle.gate_schedules.specs.operations.Ranks.{rank, loop_rank, remount_rank}
+use Rattle.gate_schedules.proofs.Prelude.{Bool, Config, Holdings, IsWithin, Phase, PhaseFits, TreePhase, Words, ap, arith, false, inl, inr, refl, suc}
+use Rattle.gate_schedules.proofs.Prelude.{sym, true, zero, ℕ, ◌+◌, ◌<◌, ◌∙◌, ◌≡◌, ◌≤◌}
+use Rattle.std.{proofs.{Common.◌*◌, Math.Nat.{suc-mul, zero-mul, le-max_left, le-max_right}, lemmas.Bool.cases_lt}, specs.Prelude.◌-◌}
+use Rattle.gated_tree.specs.declared.snapshots.SnapshotStep.{SnapshotStep}
+use Rattle.mount_counts.specs.declared.remounts.RemountStep.{RemountStep}
+use Rattle.gate_world.specs.Remounts.{RemountFits}
+use Rattle.gate_schedules.{proofs.operations.remount.Progress.{loop_step, size_small}, specs.operations.Ranks.{rank, loop_rank, remount_rank}}
 use Rattle.gate_schedules.specs.operations.Ranks.{snapshot_rank, most_in_loop, most_beside, most_alone, most_settled}
 
 loop_mono : (p a b : ℕ) → a ≤ b → loop_rank p a ≤ loop_rank p b

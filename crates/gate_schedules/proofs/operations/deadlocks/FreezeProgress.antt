@@ -1,30 +1,25 @@
 -- A freeze that no idle task keeps, and a callback, have a reply near, whoever is inside a section.
-use Rattle.gate_world.specs.Roles.{freeze_owns}
-use Rattle.gate_world.specs.{Configs.IsWithin, Fits.{FreezeFits, PhaseFits, ReadStepFits}, Levels.inside, Operations.holds_none_from, Roles.freeze_stage_role}
-use Rattle.gate_world.specs.{Roles.{place_of}, Rules.{IsGood, Owner, Sections, Stages, owns, stage_role_of, stage_roles}}
-use Rattle.gate_world.specs.{Views.{held_of, holds_level, view_after}, Worlds.{World, after_step, value_at}, declared.{config.Config.Config, views.View.View}}
-use Rattle.gate_world.specs.declared.work.Phase.{Phase}
-use Rattle.gate_schedules.proofs.{frames.ByPhase.freeze_owner, operations.deadlocks.{Bounds.{alone_settled, beside_settled}, RankDecreases.no_further}}
-use Rattle.gate_schedules.proofs.operations.deadlocks.SectionExit.{StaysBeside, all_leave, all_within, inside_le, phase_beside}
-use Rattle.gate_schedules.proofs.operations.deadlocks.WhoCanStep.{HasOwner, OwnerFreezes, beside_goes, fits_at, free_goes, has_owner, hold_clear, holds_below}
-use Rattle.gate_schedules.proofs.operations.deadlocks.WhoCanStep.{holds_not_none, nothing_counted, open_above, owner_free}
-use Rattle.access_model.specs.declared.actions.Holder.{Holder}
-use Rattle.cpu_words.specs.{Hooks.HookAnswer, Words.Words}
-use Rattle.composite_ops.specs.declared.{file_closes.phases.ClosePhase.{ClosePhase}, write_access.phases.WritePhase.{WritePhase}}
-use Rattle.finite_sums.proofs.Totals.{each_updated, total_at, total_bound, total_updated, update_off}
-use Rattle.finite_sums.specs.Sums.{total, update}
-use Rattle.freeze_levels.specs.declared.freezes.{Freeze.Freeze, FreezeStep.FreezeStep}
-use Rattle.gated_tree.specs.declared.phases.TreePhase.{TreePhase}
-use Rattle.freeze_laws.specs.levels.Operations.{down_read_inside}
-use Rattle.freeze_laws.specs.stages.Roles.{Before, Freezing, HasPassed, KnowsStage, Place, freezes, owns as stage_owns, under_way}
-use Rattle.mount_counts.specs.declared.phases.MountPhase.{MountPhase}
-use Rattle.percpu_rwsem.specs.declared.{callbacks.Callback.Callback, readers.DownReadStep.DownReadStep}
-use Rattle.gate_schedules.specs.operations.{Progress.{EventsKeepRule, IsHeldIdle, HeldLevelAhead, ReplyWithin, next_level}, Ranks.{most_alone, most_beside, most_settled}}
+use Rattle.gate_schedules.proofs.Prelude.{Bool, Config, FreezeStep, HookAnswer, IsGood, IsWithin, MountPhase, None, Option, Owner, Phase, PhaseFits}
+use Rattle.gate_schedules.proofs.Prelude.{Some, Stages, TreePhase, View, Words, World, after_step, ap, arith, cases_Bool, each_updated, eqb_tells}
+use Rattle.gate_schedules.proofs.Prelude.{false, held_of, inl, inr, inside, nat_lt, owns, refl, stage_role_of, subst, suc, sym, total, true}
+use Rattle.gate_schedules.proofs.Prelude.{true≢false, update, zero, ℕ, ◌<◌, ◌∙◌, ◌≡◌, ◌≤◌}
+use Rattle.gate_world.specs.{Fits.{FreezeFits, ReadStepFits}, Operations.holds_none_from, Roles.{freeze_owns, freeze_stage_role, place_of}}
+use Rattle.gate_world.specs.{Rules.{Sections, stage_roles}, Views.{holds_level, view_after}, Worlds.value_at}
+use Rattle.gate_schedules.proofs.{frames.ByPhase.freeze_owner, operations.deadlocks.Bounds.{alone_settled, beside_settled}}
+use Rattle.gate_schedules.proofs.operations.deadlocks.{RankDecreases.no_further, SectionExit.{StaysBeside, all_leave, all_within, inside_le}}
+use Rattle.gate_schedules.proofs.operations.deadlocks.{SectionExit.phase_beside, WhoCanStep.{HasOwner, OwnerFreezes, beside_goes, fits_at, free_goes}}
+use Rattle.gate_schedules.proofs.operations.deadlocks.WhoCanStep.{has_owner, hold_clear, holds_below, holds_not_none, nothing_counted, open_above}
+use Rattle.gate_schedules.{proofs.operations.deadlocks.WhoCanStep.owner_free, specs.operations.Progress.{EventsKeepRule, IsHeldIdle, HeldLevelAhead}}
+use Rattle.gate_schedules.specs.operations.{Progress.{ReplyWithin, next_level}, Ranks.{most_alone, most_beside, most_settled}}
 use Rattle.gate_schedules.specs.operations.Unblocked.{FreezeIsUnblocked, FreezeLocksFree, NobodyInside, PhaseEnds}
-use Rattle.freeze_laws.proofs.stages.Facts.{other_zero}
-use Rattle.std.proofs.Common.{Bool, ap, arith, false, inl, inr, refl, subst, suc, sym, true, true≢false, zero, ℕ, ◌<◌, ◌∙◌, ◌≡◌, ◌≤◌}
-use Rattle.std.proofs.lemmas.Bool.{cases_Bool, cases_lt, Decides.eqb_tells}
-use Rattle.std.specs.Prelude.{None, Option, Some, is_some, nat_lt, ◌*◌, ◌+◌, ◌-◌, ◌⊎◌}
+use Rattle.access_model.specs.declared.actions.Holder.{Holder}
+use Rattle.composite_ops.specs.declared.{file_closes.phases.ClosePhase.ClosePhase, write_access.phases.WritePhase.WritePhase}
+use Rattle.finite_sums.proofs.Totals.{total_at, total_bound, total_updated, update_off}
+use Rattle.freeze_levels.specs.declared.freezes.Freeze.{Freeze}
+use Rattle.freeze_laws.{proofs.stages.Facts.other_zero, specs.{levels.Operations.down_read_inside, stages.Roles.{Before, Freezing, HasPassed}}}
+use Rattle.freeze_laws.specs.stages.Roles.{KnowsStage, Place, freezes, owns as stage_owns, under_way}
+use Rattle.percpu_rwsem.specs.declared.{callbacks.Callback.Callback, readers.DownReadStep.DownReadStep}
+use Rattle.std.{proofs.lemmas.Bool.cases_lt, specs.Prelude.{is_some, ◌*◌, ◌+◌, ◌-◌, ◌⊎◌}}
 
 -- one of the two for each number below a bound: the first for some, or the second for all
 pub search_below : (n : ℕ) (P Q : ℕ → Type 0) → ((i : ℕ) → i < n → P i ⊎ Q i) → ((i : ℕ) × (i < n) × P i) ⊎ ((i : ℕ) → i < n → Q i)
@@ -50,9 +45,7 @@ abbrev pub IdleApart : Config → World → FreezeStep → Type 0
 IdleApart c w step = (i : ℕ) → next_level w.words step ≤ i → i ≤ 3 → NoneIdle c w i
 
 idle_at : (p : Option Phase) (b : Bool) → ((p ≡ None) × (b ≡ true)) ⊎ (p ≡ None → b ≡ false)
-idle_at None true = inl (refl, refl)
-idle_at None false = inr (λ e. refl)
-idle_at (Some phase) b = inr (λ e. absurd (not_none phase e))
+idle_at p b = grind (arith, not_none)
 
 idle_level : (c : Config) (w : World) (i : ℕ) → IsHeldIdle c w i ⊎ NoneIdle c w i
 idle_level c w i =

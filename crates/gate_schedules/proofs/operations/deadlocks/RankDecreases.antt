@@ -1,14 +1,13 @@
--- A phase whose way is free runs out: each of its events lowers its rank and leaves its way free, so alone it comes to its reply.
-use Rattle.std.{proofs.{Common.{◌≡◌, ℕ, zero, suc, ◌<◌, ◌≤◌, ap, inl, inr, arith}, lemmas.Bool.lt-ltb}, specs.Prelude.{◌⊎◌, Some, []}}
-use Rattle.finite_sums.proofs.Totals.{update_at}
-use Rattle.access_model.specs.{Replies.map_next, declared.replies.Next.Next}
-use Rattle.cpu_words.specs.{Hooks.HookAnswer, Touches.left, Words.{Words, read, put}, declared.{events.Touch.Touch, names.WordName.WordName}}
-use Rattle.gate_world.specs.{Configs.IsWithin, Rules.IsGood, Views.{phase_after, view_after_with_others}, Work.after_of}
-use Rattle.gate_world.specs.{Worlds.{World, step_of, after_step, value_at, found_at, happens}, declared.entries.Entry.TheVariants.{Steps}}
-use Rattle.gate_world.specs.declared.{config.Config.Config, views.View.View, work.Phase.Phase}
-use Rattle.gate_schedules.specs.operations.{Progress.{EventsKeepRule, HasReply, ReplyWithin}, Ranks.rank, Unblocked.{IsUnblocked, RankDecreases, PhaseEnds}}
+-- A phase whose way is free runs out: each of its steps lowers its rank and leaves its way free, so alone it comes to its reply.
+use Rattle.gate_schedules.proofs.Prelude.{Config, HookAnswer, IsGood, IsWithin, Next, Phase, Some, Touch, View, WordName, Words, World, [], after_of}
+use Rattle.gate_schedules.proofs.Prelude.{after_step, ap, arith, found_at, inl, inr, left, map_next, phase_after, put, read, suc, update_at, zero, ℕ}
+use Rattle.gate_schedules.proofs.Prelude.{◌<◌, ◌≡◌, ◌≤◌}
+use Rattle.std.{proofs.lemmas.Bool.lt-ltb, specs.Prelude.◌⊎◌}
+use Rattle.gate_world.specs.{Views.view_after_with_others, Worlds.{step_of, value_at, happens}, declared.entries.Entry.TheVariants.Steps}
+use Rattle.gate_schedules.specs.operations.{Progress.{EventsKeepRule, HasReply, ReplyWithin}, Ranks.rank, Unblocked.{IsUnblocked, RankDecreases}}
+use Rattle.gate_schedules.specs.operations.Unblocked.{PhaseEnds}
 
--- the words after an event of this word and touch
+-- the words after a step of this word and touch
 abbrev pub after_event : Words → WordName × Touch → Words
 after_event w event = put w event.0 (left event.1 (read w event.0))
 
@@ -38,7 +37,7 @@ no_further c (suc n) (suc m) w le h = (
   ],
 )
 
--- an event of a task after which, whatever the hook answers, it has its reply or a reply is near
+-- a step of a task after which, whatever the hook answers, it has its reply or a reply is near
 pub near_after : (c : Config) (n : ℕ) (w : World) (t : ℕ) → t < c.tasks → (phase : Phase) → (w.views t).phase ≡ Some phase →
     ((hook : HookAnswer) → HasReply (after_step w t phase hook) t ⊎ ReplyWithin c n (after_step w t phase hook)) → ReplyWithin c (suc n) w
 near_after c n w t lt phase at h = grind arith
@@ -58,7 +57,7 @@ goes_on c n m next t coming is le f again = grind arith
 module _ (c : Config) (lim : IsWithin c)
     (keeps : EventsKeepRule c)
     (ends : (phase : Phase) → PhaseEnds c phase) where
-  -- A task whose way is free comes to its reply by its own events alone, of which there are no more than its rank and one.
+  -- A task whose way is free comes to its reply by its own steps alone, of which there are no more than its rank and one.
   pub runs_out : (n : ℕ) (w : World) → IsGood c w → (t : ℕ) → t < c.tasks → (phase : Phase) → (w.views t).phase ≡ Some phase →
       IsUnblocked c w.words phase → rank w.words phase < n → ReplyWithin c n w
   runs_out zero w good t lt phase at free le = absurd (omega (arith, le))

@@ -1,18 +1,18 @@
 -- With an operation under way, a reply is near, or the file system is frozen as a whole, or a freeze is blocked by an idle task.
-use Rattle.composite_ops.specs.declared.{file_closes.phases.ClosePhase.{ClosePhase}, write_access.phases.WritePhase.{WritePhase}}
+use Rattle.gate_schedules.proofs.Prelude.{Bool, Config, FreezeStep, IsGood, IsWithin, MountPhase, None, Option, Phase, PhaseFits, Some, Stages}
+use Rattle.gate_schedules.proofs.Prelude.{TreePhase, World, ap, arith, false, held_of, inl, inr, is_frozen_whole, refl, stage_role_of, true, ℕ, ◌<◌}
+use Rattle.gate_schedules.proofs.Prelude.{◌==◌, ◌∙◌, ◌≡◌, ◌≤◌}
+use Rattle.composite_ops.specs.declared.{file_closes.phases.ClosePhase.ClosePhase, write_access.phases.WritePhase.WritePhase}
 use Rattle.finite_sums.proofs.Totals.{HasPlace, total_place}
-use Rattle.freeze_levels.specs.declared.{freezes.{Freeze.Freeze, FreezeStep.FreezeStep}, thaws.ThawStep.ThawStep}
-use Rattle.gate_world.specs.{Configs.IsWithin, Fits.PhaseFits, Levels.is_frozen_whole, Roles.{freeze_stage_role, remount_stage_role}}
-use Rattle.gate_world.specs.{Roles.{thaw_stage_role, tree_stage_role}, Rules.{IsGood, Stages, stage_role_of, stage_roles}, Views.held_of}
-use Rattle.gate_world.specs.{Worlds.World, declared.{config.Config.Config, work.Phase.Phase}}
-use Rattle.gated_tree.specs.declared.{phases.TreePhase.TreePhase}
-use Rattle.mount_counts.specs.declared.{phases.{ChangeStep.ChangeStep, MountPhase.MountPhase}, remounts.RemountStep.RemountStep}
-use Rattle.gate_schedules.proofs.operations.{AllOperations.phase_ends, deadlocks.{WhoCanStep.fits_at, BlockedOrProgress.world_goes}}
-use Rattle.gate_schedules.specs.operations.Progress.{AFreezeIsKept, ChangeIsBlocked, EventsKeepRule, FreezeIsBlocked, HeldLevelAhead, IsBlockedAt, Progresses}
-use Rattle.gate_schedules.specs.operations.{Progress.{RemountIsBlocked, ReplyOrFrozen, ThawIsBlocked, TreeIsBlocked}, Ranks.most_events_to_reply}
+use Rattle.freeze_levels.specs.declared.{freezes.Freeze.Freeze, thaws.ThawStep.ThawStep}
+use Rattle.gate_world.specs.{Roles.{freeze_stage_role, remount_stage_role, thaw_stage_role, tree_stage_role}, Rules.stage_roles}
+use Rattle.mount_counts.specs.declared.{phases.ChangeStep.ChangeStep, remounts.RemountStep.RemountStep}
+use Rattle.gate_schedules.proofs.operations.{AllOperations.phase_ends, deadlocks.{BlockedOrProgress.world_goes, WhoCanStep.fits_at}}
+use Rattle.gate_schedules.specs.operations.Progress.{AFreezeIsKept, ChangeIsBlocked, EventsKeepRule, FreezeIsBlocked, HeldLevelAhead, IsBlockedAt}
+use Rattle.gate_schedules.specs.operations.Progress.{Progresses, RemountIsBlocked, ReplyOrFrozen, ThawIsBlocked, TreeIsBlocked}
+use Rattle.gate_schedules.specs.operations.Ranks.{most_events_to_reply}
 use Rattle.freeze_laws.specs.stages.Roles.{bit, closed_by, closes, up_to}
-use Rattle.std.proofs.{Common.{Bool, ap, arith, false, inl, inr, refl, true, ℕ, ◌<◌, ◌∙◌, ◌≡◌, ◌≤◌}, lemmas.Bool.lt-leb}
-use Rattle.std.specs.Prelude.{None, Option, Some, ◌&&◌, ◌==◌, ◌⊎◌}
+use Rattle.std.{proofs.lemmas.Bool.lt-leb, specs.Prelude.{◌&&◌, ◌⊎◌}}
 
 up_to_none : (i : ℕ) → 1 ≤ i → up_to i 0 ≡ 0
 up_to_none i one = rw (lt-leb i 0 one)

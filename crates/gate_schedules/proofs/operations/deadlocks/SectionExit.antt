@@ -1,26 +1,25 @@
--- Who is inside a read-side section leaves it by a few events of its own, so where a reply is near once nobody is inside one, it is near.
-use Rattle.std.proofs.{Common.{◌≡◌, ℕ, zero, suc, ◌+◌, ◌*◌, ◌<◌, ◌≤◌, false, sym, ap, ◌∙◌, inl, inr, arith}, lemmas.Bool.Decides.eqb_tells}
-use Rattle.std.specs.Prelude.{◌⊎◌, Option, Some}
-use Rattle.finite_sums.specs.Sums.{total}
+-- Who is inside a read-side section leaves it by a few steps of its own, so where a reply is near once nobody is inside one, it is near.
+use Rattle.gate_schedules.proofs.Prelude.{Config, HookAnswer, IsGood, IsWithin, Next, Option, Phase, Some, View, Words, World, after_of, after_step}
+use Rattle.gate_schedules.proofs.Prelude.{ap, arith, eqb_tells, false, found_at, inl, inr, inside, phase_after, suc, sym, total, words_after, zero, ℕ}
+use Rattle.gate_schedules.proofs.Prelude.{◌+◌, ◌<◌, ◌∙◌, ◌≡◌, ◌≤◌}
+use Rattle.std.{proofs.Common.◌*◌, specs.Prelude.◌⊎◌}
 use Rattle.finite_sums.proofs.Totals.{total_updated, total_place, HasPlace}
-use Rattle.access_model.specs.{declared.replies.Next.{Next, TheVariants.{Go, Wait, Done}}}
-use Rattle.cpu_words.specs.{Hooks.HookAnswer, Words.{Words}}
-use Rattle.composite_ops.specs.{declared.write_access.phases.WritePhase.TheVariants.Takes}
-use Rattle.composite_ops.specs.{declared.file_closes.phases.ClosePhase.TheVariants.Enters as EntersLevel}
-use Rattle.gate_world.specs.{Configs.IsWithin, traces.TraceStates.{ReadIsValid}, Levels.inside, Rules.IsGood, Views.{phase_after, view_after}, Work.next_of}
-use Rattle.gate_world.specs.{Work.after_of, Worlds.{World, after_step, words_after, value_at, found_at}, declared.{config.Config.Config, views.View.View}}
-use Rattle.gate_world.specs.declared.work.Phase.{Phase, TheVariants.{DownReads, Writes, Closes as FileCloses}}
+use Rattle.access_model.specs.declared.replies.Next.TheVariants.{Go, Wait, Done}
+use Rattle.composite_ops.specs.declared.file_closes.phases.ClosePhase.TheVariants.{Enters as EntersLevel}
+use Rattle.composite_ops.specs.declared.write_access.phases.WritePhase.TheVariants.{Takes}
+use Rattle.gate_world.specs.{Views.view_after, Work.next_of, Worlds.value_at, declared.work.Phase.TheVariants.{DownReads, Writes}}
+use Rattle.gate_world.specs.{declared.work.Phase.TheVariants.Closes as FileCloses, traces.TraceStates.ReadIsValid}
 use Rattle.gate_schedules.proofs.{frames.ValidWords.events_may_be, operations.deadlocks.RankDecreases.{stands_after, no_further, near_after}}
 use Rattle.gate_schedules.specs.operations.{Progress.{EventsKeepRule, HasReply, ReplyWithin}, Ranks.read_rank}
 
--- how many events may still come after the next one, until it is outside
+-- how many steps may still come after the next one, until it is outside
 abbrev pub leave_rank : Phase → ℕ
 leave_rank (DownReads r) = read_rank false r.step
 leave_rank (Writes (Takes m r)) = read_rank false r.step
 leave_rank (FileCloses (EntersLevel f node r)) = read_rank false r.step
 leave_rank phase = 0
 
--- what comes after an event inside a section is outside, or inside and nearer to its end, or the reply
+-- what comes after a step inside a section is outside, or inside and nearer to its end, or the reply
 abbrev pub ExitsSection : {P : Type 0} → (P → ℕ) → (P → ℕ) → ℕ → Next P → Type 0
 ExitsSection is_inside rank_of n (Go q) = (is_inside q ≡ 0) ⊎ ((is_inside q ≡ 1) × (rank_of q < n))
 ExitsSection is_inside rank_of n (Wait q) = (is_inside q ≡ 0) ⊎ ((is_inside q ≡ 1) × (rank_of q < n))
@@ -30,12 +29,12 @@ ExitsSection is_inside rank_of n (Done answer) = Unit {0}
 abbrev pub PhaseLeaves : ℕ → Next Phase → Type 0
 PhaseLeaves n next = ExitsSection (λ (q : Phase). inside (Some q)) leave_rank n next
 
--- each event of a phase inside a section
+-- each step of a phase inside a section
 pub phase_leaves : (w : Words) (phase : Phase) (hook : HookAnswer) → ReadIsValid phase (next_of phase hook).0 (value_at w phase hook) →
     inside (Some phase) ≡ 1 → PhaseLeaves (leave_rank phase) (after_of phase (found_at w phase hook) hook).0
 phase_leaves w phase hook may h = grind arith
 
--- what an event inside a section leaves of the words that a freeze looks at
+-- what a step inside a section leaves of the words that a freeze looks at
 pub record StaysBeside (w next : Words) : Type 0 where
   pub umount_same : next.umount ≡ w.umount
   pub stage_same : next.stage ≡ w.stage
@@ -65,7 +64,7 @@ module _ (c : Config) (lim : IsWithin c)
     (stays : (w : World) → (z : ℕ) → z < c.tasks → (phase : Phase) → (w.views z).phase ≡ Some phase → inside (Some phase) ≡ 1 →
     (hook : HookAnswer) → (q : Phase) → ((after_step w z phase hook).views z).phase ≡ Some q → Cond w → Cond (after_step w z phase hook))
     (n : ℕ) (base : (w : World) → IsGood c w → Cond w → all_within c w ≡ 0 → ReplyWithin c n w) where
-  -- an event changes how many are inside by its own task
+  -- a step changes how many are inside by its own task
   within_after : (w : World) (z : ℕ) → z < c.tasks → (phase : Phase) → (w.views z).phase ≡ Some phase → (hook : HookAnswer) (q : Phase) →
       ((after_step w z phase hook).views z).phase ≡ Some q →
       all_within c (after_step w z phase hook) + inside (Some phase) ≡ all_within c w + inside (Some q)
@@ -76,7 +75,7 @@ module _ (c : Config) (lim : IsWithin c)
       let k : inside v.phase ≡ inside (Some q) = ap inside (sym (stands_after c w z lz hook phase at) ∙ is) in
       omega (arith, e, k, ap inside at)
 
-  -- what comes after an event of a task inside
+  -- what comes after a step of a task inside
   then_leaves : (m k : ℕ) (w : World) → IsGood c w → Cond w → (z : ℕ) → z < c.tasks → (phase : Phase) → (w.views z).phase ≡ Some phase →
       inside (Some phase) ≡ 1 → (hook : HookAnswer) → leave_rank phase ≤ m → all_within c w ≤ suc k →
       ((next : World) → IsGood c next → Cond next → all_within c next ≤ k → ReplyWithin c (n + 5 * k) next) →

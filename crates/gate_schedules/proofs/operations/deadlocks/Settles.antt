@@ -1,11 +1,10 @@
 -- All that is under way comes to its reply, one after the other, until what is left is blocked.
-use Rattle.std.{proofs.Common.{◌≡◌, ℕ, zero, suc, ◌+◌, ◌*◌, ◌<◌, ◌≤◌, sym, ap, subst, inl, inr, arith}, specs.Prelude.{Option, None, Some, []}}
-use Rattle.finite_sums.specs.Sums.{total}
-use Rattle.finite_sums.proofs.Totals.{total_at, total_bound, total_updated, update_at}
-use Rattle.cpu_words.specs.Hooks.{HookAnswer}
-use Rattle.gate_world.specs.{Configs.IsWithin, Rules.IsGood, Views.view_after_with_others, Worlds.{World, after_step, value_at, happens}}
-use Rattle.gate_world.specs.declared.{entries.Entry.TheVariants.{Steps}, config.Config.{Config}, views.View.{View}, work.Phase.{Phase}}
-use Rattle.gate_schedules.proofs.operations.{AllOperations.phase_ends, deadlocks.{RankDecreases.happens_is, BlockedOrProgress.world_goes}}
+use Rattle.gate_schedules.proofs.Prelude.{Config, HookAnswer, IsGood, IsWithin, None, Option, Phase, Some, View, World, [], after_step, ap, arith}
+use Rattle.gate_schedules.proofs.Prelude.{inl, inr, subst, suc, sym, total, update_at, zero, ℕ, ◌+◌, ◌<◌, ◌≡◌, ◌≤◌}
+use Rattle.std.proofs.Common.{◌*◌}
+use Rattle.finite_sums.proofs.Totals.{total_at, total_bound, total_updated}
+use Rattle.gate_world.specs.{Views.view_after_with_others, Worlds.{value_at, happens}, declared.entries.Entry.TheVariants.Steps}
+use Rattle.gate_schedules.proofs.operations.{AllOperations.phase_ends, deadlocks.{BlockedOrProgress.world_goes, RankDecreases.happens_is}}
 use Rattle.gate_schedules.specs.operations.Progress.{AllAreBlocked, EventsKeepRule, Progresses, ReplyWithin, SettlesWithin}
 use Rattle.gate_schedules.specs.operations.Ranks.{most_events_to_reply, most_events_to_settle}
 
@@ -41,7 +40,7 @@ none_going c w none t lt phase at =
 
 module _ (c : Config) (keeps : EventsKeepRule c) (w : World) (good : IsGood c w) (t : ℕ) (lt : t < c.tasks) (phase : Phase)
     (at : (w.views t).phase ≡ Some phase) (hook : HookAnswer) where
-  -- an event leaves as many under way, but for its own task
+  -- a step leaves as many under way, but for its own task
   going_after : going_in c (after_step w t phase hook) + 1 ≡ going_in c w + is_going ((after_step w t phase hook).views t).phase
   going_after =
       let v : View = view_after_with_others [] (w.views t) phase (value_at w.words phase hook) hook in
@@ -52,7 +51,7 @@ module _ (c : Config) (keeps : EventsKeepRule c) (w : World) (good : IsGood c w)
       ap (λ (u : View). is_going u.phase) (update_at w.views t v) in
       omega arith
 
-  -- of the world that the entry leaves
+  -- of the state that the transition leaves
   going_then : going_in c (happens c w (Steps t hook)) + 1 ≡ going_in c w + is_going ((happens c w (Steps t hook)).views t).phase
   going_then =
       subst (λ (next : World). going_in c next + 1 ≡ going_in c w + is_going (next.views t).phase) (sym (happens_is c w t lt hook phase at))
@@ -61,7 +60,7 @@ module _ (c : Config) (keeps : EventsKeepRule c) (w : World) (good : IsGood c w)
   good_then : IsGood c (happens c w (Steps t hook))
   good_then = subst (IsGood c) (sym (happens_is c w t lt hook phase at)) (keeps w good t lt hook phase at)
 
--- of one more under way than settle within so many events, one comes to its reply first
+-- of one more under way than settle within so many steps, one comes to its reply first
 after_reply : (c : Config) → EventsKeepRule c → (k m : ℕ) → ((w : World) → IsGood c w → going_in c w ≤ k → SettlesWithin c m w) → (n : ℕ)
     (w : World) → IsGood c w → going_in c w ≤ k + 1 → ReplyWithin c n w → SettlesWithin c (n + m) w
 after_reply c keeps k m rest zero w good few h = absurd h

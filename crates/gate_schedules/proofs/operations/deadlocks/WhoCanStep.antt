@@ -1,26 +1,22 @@
--- Who can move: a task whose way is free, who has HOLD set at a mount, and an owner of `umount` that is no freeze; and what the rule says of who
+-- Who can move: a task whose way is free, who has HOLD set at a mount, and an owner of `umount` that is no freeze; and what the invariant says of who
 -- holds a level.
-use Rattle.gate_world.specs.{Configs.IsWithin, Fits.{Fits, PhaseFits}, Levels.{at_level, inside, is_frozen_whole, level_role_of, sync_role_of}}
-use Rattle.gate_world.specs.{Operations.{holds_none, holds_none_from}}
-use Rattle.gate_world.specs.{Rules.{AtLevel, AtMount, Fitting, IsGood, LevelHoldsIn, Owner, SyncAt, SyncHoldsIn, owns, role_of}}
-use Rattle.gate_world.specs.{Views.{held_of, holds_level}, Worlds.World, declared.{config.Config.Config, work.Phase.Phase}}
-use Rattle.std.proofs.lemmas.Grind.{common_steps}
-use Rattle.std.proofs.Common.{Bool, ap, arith, false, inl, inr, refl, subst, suc, sym, true, true≢false, zero, ℕ, ◌<◌, ◌∙◌, ◌≡◌, ◌≤◌}
-use Rattle.std.proofs.lemmas.Bool.{and_parts, cases_Bool, ltb-true, not-true, or_cases}
-use Rattle.cpu_words.specs.Words.{Words}
-use Rattle.cpu_words.specs.gate_counts.{Gates.{BarringHolds, admitted, below, counted, unread}, Levels.{Passed, barring_of, level_as_gate, processor_of}}
+use Rattle.gate_schedules.proofs.Prelude.{AtLevel, AtMount, Bool, Config, Fits, Fitting, IsGood, IsWithin, None, Option, Owner, Phase, PhaseFits}
+use Rattle.gate_schedules.proofs.Prelude.{Some, SyncAt, Words, World, ap, arith, cases_Bool, common_steps, false, held_of, inl, inr, inside}
+use Rattle.gate_schedules.proofs.Prelude.{is_frozen_whole, nat_lt, owns, refl, subst, suc, sym, sync_role_of, total, true, true≢false, ℕ, ◌<◌, ◌∙◌}
+use Rattle.gate_schedules.proofs.Prelude.{◌≡◌, ◌≤◌}
+use Rattle.gate_world.specs.{Levels.{at_level, level_role_of}, Operations.{holds_none, holds_none_from}, Rules.{LevelHoldsIn, SyncHoldsIn, role_of}}
+use Rattle.gate_world.specs.Views.{holds_level}
+use Rattle.std.{proofs.lemmas.Bool.{and_parts, ltb-true, not-true, or_cases}, specs.Prelude.{not, ◌-◌, ◌||◌, ◌⊎◌}}
+use Rattle.cpu_words.{proofs.gate_counts.Events.words_sum, specs.gate_counts.{Gates.{BarringHolds, admitted, below, counted, unread}, Levels.Passed}}
+use Rattle.cpu_words.specs.gate_counts.Levels.{barring_of, level_as_gate, processor_of}
 use Rattle.finite_sums.proofs.Totals.{total_at, total_none}
-use Rattle.finite_sums.specs.Sums.{total}
-use Rattle.freeze_levels.specs.declared.{freezes.{Freeze.Freeze}}
-use Rattle.cpu_words.proofs.gate_counts.Events.{words_sum}
-use Rattle.gate_schedules.proofs.{levels.Counts.{held_bit}, frames.Owners.{hold_owns, owns_le, who_holds}}
-use Rattle.gate_schedules.proofs.operations.deadlocks.{Bounds.{beside_small, is_beside, rank_small}, RankDecreases.runs_out}
-use Rattle.freeze_laws.specs.levels.{Roles.{closed}}
-use Rattle.mount_counts.specs.{Phases.{has_flag}, Roles.{has_hold}}
-use Rattle.mount_counts.proofs.laws.Bits.{hold_set}
-use Rattle.gate_schedules.specs.operations.{Progress.{EventsKeepRule, ReplyWithin}, Ranks.{most_alone, most_beside}, Unblocked.{HoldIsClear, IsUnblocked}}
-use Rattle.gate_schedules.specs.operations.Unblocked.{NothingCounted, PhaseEnds}
-use Rattle.std.specs.Prelude.{None, Option, Some, nat_lt, not, ◌&&◌, ◌-◌, ◌||◌, ◌⊎◌}
+use Rattle.freeze_levels.specs.declared.freezes.Freeze.{Freeze}
+use Rattle.gate_schedules.proofs.{frames.Owners.{hold_owns, owns_le, who_holds}, levels.Counts.held_bit, operations.deadlocks.Bounds.beside_small}
+use Rattle.gate_schedules.proofs.operations.deadlocks.{Bounds.{is_beside, rank_small}, RankDecreases.runs_out}
+use Rattle.gate_schedules.specs.operations.{Progress.{EventsKeepRule, ReplyWithin}, Ranks.{most_alone, most_beside}, Unblocked.HoldIsClear}
+use Rattle.gate_schedules.specs.operations.Unblocked.{IsUnblocked, NothingCounted, PhaseEnds}
+use Rattle.freeze_laws.specs.levels.Roles.{closed}
+use Rattle.mount_counts.{proofs.laws.Bits.hold_set, specs.{Phases.has_flag, Roles.has_hold}}
 
 pub owner_free : (c : Config) (w : Words) (phase : Phase) → owns (Some phase) ≡ 1 → IsUnblocked c w phase ⊎ ((x : Freeze) × (phase ≡ Phase.Freezes x))
 owner_free c w phase h = grind arith
@@ -52,7 +48,7 @@ fits_at c w good t lt phase at = subst (Fits c t (held_of (w.views t))) at (good
 module _ (c : Config) (lim : IsWithin c)
     (keeps : EventsKeepRule c)
     (ends : (phase : Phase) → PhaseEnds c phase) where
-  -- a task whose way is free has its reply within so many events
+  -- a task whose way is free has its reply within so many steps
   pub free_goes : (w : World) → IsGood c w → (t : ℕ) → t < c.tasks → (phase : Phase) → (w.views t).phase ≡ Some phase →
       IsUnblocked c w.words phase → ReplyWithin c (most_alone c) w
   free_goes w good t lt phase at free =
@@ -118,27 +114,14 @@ module _ (c : Config) (w : World) (good : IsGood c w) (freezing : OwnerFreezes c
       ]
 
 pub holds_not_none : (levels : ℕ → Bool) (i : ℕ) → holds_none levels ≡ true → 1 ≤ i → i ≤ 3 → levels i ≡ true → ⊥
-holds_not_none levels zero h one three is = omega arith
-holds_not_none levels (suc zero) h one three is =
-    true≢false (sym is ∙ not-true (levels 1) (and_parts (not (levels 1)) (not (levels 2) && not (levels 3)) h).0)
-holds_not_none levels (suc (suc zero)) h one three is =
-    true≢false (sym is ∙ not-true (levels 2) (and_parts (not (levels 2)) (not (levels 3))
-    (and_parts (not (levels 1)) (not (levels 2) && not (levels 3)) h).1).0)
-holds_not_none levels (suc (suc (suc zero))) h one three is =
-    true≢false (sym is ∙ not-true (levels 3) (and_parts (not (levels 2)) (not (levels 3))
-    (and_parts (not (levels 1)) (not (levels 2) && not (levels 3)) h).1).1)
-holds_not_none levels (suc (suc (suc (suc n)))) h one three is = omega arith
+holds_not_none levels i h one three is = grind (arith, not-true, and_parts)
 
 below_or : (i j : ℕ) (b : Bool) → (nat_lt i j || not b) ≡ true → b ≡ true → i < j
 below_or i j b h is =
     elim (or_cases (nat_lt i j) (not b) h) [ inl l ↦ ltb-true i j l | inr n ↦ absurd (true≢false (sym is ∙ not-true b n)) ]
 
 pub holds_below : (levels : ℕ → Bool) (i j : ℕ) → holds_none_from j levels ≡ true → 1 ≤ i → i ≤ 3 → levels i ≡ true → i < j
-holds_below levels zero j h one three is = absurd (omega arith)
-holds_below levels (suc zero) j h one three is = below_or 1 j (levels 1) (and_parts _ _ h).0 is
-holds_below levels (suc (suc zero)) j h one three is = below_or 2 j (levels 2) (and_parts _ _ (and_parts _ _ h).1).0 is
-holds_below levels (suc (suc (suc zero))) j h one three is = below_or 3 j (levels 3) (and_parts _ _ (and_parts _ _ h).1).1 is
-holds_below levels (suc (suc (suc (suc n)))) j h one three is = absurd (omega arith)
+holds_below levels i j h one three is = grind (arith, below_or, and_parts)
 
 closed_passes : (i j : ℕ) (p : Option Phase) → i < j → 1 ≤ closed (sync_role_of j p) → level_role_of i p ≡ Passed
 closed_passes i j p lt h = grind (arith, common_steps)

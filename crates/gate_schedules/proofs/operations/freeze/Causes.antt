@@ -1,23 +1,24 @@
--- The causes of a freeze's refusal and of the sums of its levels, along a schedule.
-use Rattle.std.proofs.Common.{◌≡◌, ℕ, suc, ◌+◌, ◌-◌, ◌%◌, ◌<◌, ◌≤◌, true, false, refl, sym, ap, ◌∙◌, subst, inl, inr, arith, add-one}
-use Rattle.std.proofs.lemmas.Bool.{cases_Bool, Decides.eqb_tells}
-use Rattle.std.specs.Prelude.{nat_lt, Option, Some, Ok, Err, List, [], ◌∷◌, ◌==◌}
-use Rattle.finite_sums.specs.Sums.{total}
-use Rattle.access_model.specs.{Holders.held_by, Replies.map_next, declared.{errors.GateError.GateError, replies.Next.Next}}
-use Rattle.cpu_words.specs.{Hooks.HookAnswer, Sums.{lead, ahead}, Touches.{found_by, left, wrap_add}, Words.{Words, put, read}, declared.{names.WordName.WordName, sums.Sum.Sum}}
-use Rattle.cpu_words.proofs.gate_counts.{Events.words_sum, Numbers.{ahead_none, ahead_step, ahead_past}}
-use Rattle.node_words.specs.{Phases.{clear_after}, declared.marks.ClearMarks.{ClearMarks}}
+-- The causes of a freeze's refusal and of the sums of its levels, along an execution.
+use Rattle.gate_schedules.proofs.Prelude.{AtLevel, Config, Err, FreezeStep, GateError, HookAnswer, IsGood, List, Next, Ok, Option, Phase, Some}
+use Rattle.gate_schedules.proofs.Prelude.{WordName, Words, World, [], after_of, ap, arith, cases_Bool, eqb_tells, false, found_at, found_by, inl, inr}
+use Rattle.gate_schedules.proofs.Prelude.{left, map_next, nat_lt, phase_after, put, read, refl, subst, suc, sym, total, true, words_after, ℕ, ◌+◌}
+use Rattle.gate_schedules.proofs.Prelude.{◌<◌, ◌==◌, ◌∙◌, ◌∷◌, ◌≡◌, ◌≤◌}
+use Rattle.std.proofs.Common.{◌-◌, ◌%◌, add-one}
+use Rattle.access_model.specs.Holders.{held_by}
+use Rattle.cpu_words.{proofs.gate_counts.{Events.words_sum, Numbers.{ahead_none, ahead_step, ahead_past}}, specs.Sums.{lead, ahead}}
+use Rattle.cpu_words.specs.{Touches.wrap_add, declared.sums.Sum.Sum}
+use Rattle.node_words.specs.{Phases.clear_after, declared.marks.ClearMarks.ClearMarks}
 use Rattle.percpu_rwsem.specs.{Graces.looked, SyncWords.{unpack, on_enter, on_exit, on_callback}, Transitions.transition_after}
-use Rattle.percpu_rwsem.specs.Writers.{down_write_after, down_write_next, sum_begun, at_down_write, enter_step, callback_step, sections_awaited, passed_awaited, up_write_after}
-use Rattle.percpu_rwsem.specs.declared.{grace.GraceNext.GraceNext, sync_word.{SyncWord.SyncWord}, transitions.TransitionNext.TransitionNext}
-use Rattle.percpu_rwsem.specs.declared.writers.{DownWrite.DownWrite, DownWriteStep.DownWriteStep, UpWrite.UpWrite}
-use Rattle.freeze_levels.specs.{Freezes.{at_freeze, level_closed, after_closing, after_clearing, freeze_fails, after_reopening, after_undoing}, Holders.holders_in}
-use Rattle.freeze_levels.specs.declared.freezes.{Freeze.Freeze, FreezeStep.FreezeStep}
-use Rattle.gate_world.specs.{refusals.Causes.{all_inside, was_inside, words_read, moments_of_sum, looks_at_stage, was_busy}, Fits.{DownWriteStepFits, FreezeFits}}
-use Rattle.gate_world.specs.{refusals.KeptCauses.{DownWriteCause, FreezeCause, CauseOf}, Rules.{IsGood, AtLevel, LevelHoldsIn}, Views.phase_after, Work.after_of}
-use Rattle.gate_world.specs.{Worlds.{words_after, World, found_at}, declared.{config.Config.Config, work.Phase.Phase}}
-use Rattle.gate_schedules.proofs.{frames.{OperationLaws.IsQuiet, Words.load_same}, operations.freeze.Fits.found_cases}
-use Rattle.gate_schedules.proofs.traces.Moments.{look_skips, sum_begins, sum_goes}
+use Rattle.percpu_rwsem.specs.Writers.{down_write_after, down_write_next, sum_begun, at_down_write, enter_step, callback_step, sections_awaited}
+use Rattle.percpu_rwsem.specs.{Writers.{passed_awaited, up_write_after}, declared.{grace.GraceNext.GraceNext, sync_word.SyncWord.SyncWord}}
+use Rattle.percpu_rwsem.specs.declared.{transitions.TransitionNext.TransitionNext, writers.{DownWrite.DownWrite, DownWriteStep.DownWriteStep}}
+use Rattle.percpu_rwsem.specs.declared.writers.UpWrite.{UpWrite}
+use Rattle.freeze_levels.specs.Freezes.{at_freeze, level_closed, after_closing, after_clearing, freeze_fails, after_reopening, after_undoing}
+use Rattle.freeze_levels.specs.{Holders.holders_in, declared.freezes.Freeze.Freeze}
+use Rattle.gate_world.specs.{Fits.{DownWriteStepFits, FreezeFits}, Rules.LevelHoldsIn, refusals.Causes.{all_inside, was_inside, words_read}}
+use Rattle.gate_world.specs.refusals.{Causes.moments_of_sum, KeptCauses.{DownWriteCause, FreezeCause, CauseOf}}
+use Rattle.gate_schedules.proofs.{frames.{OperationLaws.IsQuiet, Words.load_same}, operations.freeze.Fits.found_cases, traces.Moments.look_skips}
+use Rattle.gate_schedules.proofs.traces.Moments.{sum_begins, sum_goes}
 
 -- where nothing is counted at a level, a sum that begins leads by 0
 fresh_level : (c : Config) (w : World) → IsGood c w → (i : ℕ) → 1 ≤ i → i ≤ 3 → all_inside c i w ≡ 0 →
@@ -30,13 +31,13 @@ fresh_level c w good i one three none =
     ahead_none c.processors (w.words.level i) in
     omega (arith, s, a, none)
 
--- nothing was counted at the level in any of these worlds
+-- nothing was counted at the level in any of these states
 none_inside : (c : Config) (i : ℕ) (w : World) (earlier : List World) → was_inside c i (w ∷ earlier) ≡ false →
     (all_inside c i w ≡ 0) × (was_inside c i earlier ≡ false)
 none_inside c i w earlier h = grind arith
 
 module _ (c : Config) (t i : ℕ) where
-  -- in this world and the earlier ones
+  -- in this state and the earlier ones
   module _ (w : World) (earlier : List World) where
     -- a sum of a level that begins has its cause
     level_starts : IsGood c w → 1 ≤ i → i ≤ 3 → words_read (w.views t).phase ≡ Some 0 →
@@ -66,7 +67,7 @@ module _ (c : Config) (t i : ℕ) where
         | inr none ↦ absurd (busy (omega (arith, h.1 none, ahead_step c.processors sum.words (w.words.level i) there, past)))
       ]
 
-  -- in this world, the next one and the earlier ones, with a sum whose cause is known
+  -- in this state, the next one and the earlier ones, with a sum whose cause is known
   module _ (w next : World) (earlier : List World) (sum : Sum) (h : DownWriteCause c t w earlier i (DownWriteStep.Sums sum)) where
     -- the cause of a sum stays while others step
     level_stays : IsGood c next → 1 ≤ i → i ≤ 3 → words_read (next.views t).phase ≡ Some sum.words →
@@ -103,36 +104,28 @@ module _ (c : Config) (t i : ℕ) where
           (λ j. lead c.processors (same j) (add-one sum.words j) (wrap_add sum.total found)) ∙ on,
     )
 
--- a task whose view another entry leaves alone
+-- a task whose view another transition leaves alone
 module _ (c : Config) (t : ℕ) (w next : World) (earlier : List World) (good : IsGood c next) (x : Freeze) where
   closing_stays : (d : DownWrite) (s : DownWriteStep) → 1 ≤ d.level → d.level ≤ 3 →
       (next.views t).phase ≡ Some (Phase.Freezes (at_freeze x (FreezeStep.Closes (at_down_write d s)))) →
       (w.views t).phase ≡ Some (Phase.Freezes (at_freeze x (FreezeStep.Closes (at_down_write d s)))) → IsQuiet c w next →
       DownWriteCause c t w earlier d.level s → DownWriteCause c t next (w ∷ earlier) d.level s
-  closing_stays d (DownWriteStep.Sums sum) one three e was quiet h =
-      level_stays c t d.level w next earlier sum h good one three (ap words_read e) (ap words_read was) (quiet.levels d.level)
-  closing_stays d other one three e was quiet h = tt
+  closing_stays d s one three e was quiet h = grind (arith, level_stays)
 
   waiting_stays : (d : DownWrite) (s : DownWriteStep) → 1 ≤ d.level → d.level ≤ 3 →
       (next.views t).phase ≡ Some (Phase.Freezes (at_freeze x (FreezeStep.Waits (at_down_write d s)))) →
       (w.views t).phase ≡ Some (Phase.Freezes (at_freeze x (FreezeStep.Waits (at_down_write d s)))) → IsQuiet c w next →
       DownWriteCause c t w earlier d.level s → DownWriteCause c t next (w ∷ earlier) d.level s
-  waiting_stays d (DownWriteStep.Sums sum) one three e was quiet h =
-      level_stays c t d.level w next earlier sum h good one three (ap words_read e) (ap words_read was) (quiet.levels d.level)
-  waiting_stays d other one three e was quiet h = tt
+  waiting_stays d s one three e was quiet h = grind (arith, level_stays)
 
   pub freeze_stays : (s : FreezeStep) → FreezeFits c x.holder s → (next.views t).phase ≡ Some (Phase.Freezes (at_freeze x s)) →
       (w.views t).phase ≡ Some (Phase.Freezes (at_freeze x s)) → IsQuiet c w next → FreezeCause c t w earlier x.holder s →
       FreezeCause c t next (w ∷ earlier) x.holder s
-  freeze_stays (FreezeStep.Waits d) f e was quiet h = waiting_stays d d.step f.0.0 f.0.1 e was quiet h
-  freeze_stays (FreezeStep.Closes d) f e was quiet h = closing_stays d d.step f.0 f.1 e was quiet h
-  freeze_stays (FreezeStep.Releases answer) f e was quiet h =
-      λ r. ap (was_busy c x.holder) (look_skips t next (w ∷ earlier) (ap looks_at_stage e)) ∙ h r
-  freeze_stays s f e was quiet h = tt
+  freeze_stays s f e was quiet h = grind (arith, waiting_stays, closing_stays, look_skips)
 
--- the task that steps: what its next phase says, in the world after the event
+-- the task that steps: what its next phase says, in the state after the step
 module _ (c : Config) (t : ℕ) (w next : World) (earlier : List World) (after : IsGood c next) (x : Freeze) where
-  -- what comes after an event has its cause, where it is what the task is at in the next world
+  -- what comes after a step has its cause, where it is what the task is at in the next state
   abbrev Own : Next Freeze → Type 0
   Own n = (next.views t).phase ≡ phase_after (map_next Phase.Freezes n) →
       CauseOf c t next (w ∷ earlier) (phase_after (map_next Phase.Freezes n))
@@ -178,7 +171,7 @@ module _ (c : Config) (t : ℕ) (w next : World) (earlier : List World) (after :
           ]
         ]
 
-    -- so it is after each event of the closing of a level
+    -- so it is after each step of the closing of a level
     closing_own : (hook : HookAnswer) (s : DownWriteStep) → 1 ≤ d.level → d.level ≤ 3 → DownWriteStepFits c s →
         next.words ≡ words_after w.words (Phase.Freezes (at_freeze x (FreezeStep.Closes (at_down_write d s)))) hook → DownWriteCause c t w earlier d.level s →
         Own (after_closing x d.level
@@ -226,7 +219,7 @@ module _ (c : Config) (t : ℕ) (w next : World) (earlier : List World) (after :
       held_by (holders_in w.words.holders) x.holder ≡ true → Own (Next.Go (at_freeze x (FreezeStep.Releases (Err GateError.Busy))))
   holder_own e four own e' r = grind arith
 
-  -- what comes after an event has its cause
+  -- what comes after a step has its cause
   pub freeze_own : (hook : HookAnswer) (s : FreezeStep) → FreezeFits c x.holder s → (s ≡ FreezeStep.LoadsHolders → w.words.stage ≡ 4) →
       (w.views t).phase ≡ Some (Phase.Freezes (at_freeze x s)) → next.words ≡ words_after w.words (Phase.Freezes (at_freeze x s)) hook →
       FreezeCause c t w earlier x.holder s →

@@ -1,44 +1,40 @@
--- The events of a freeze on the words of a level that it closes.
-use Rattle.std.proofs.lemmas.Grind.{common_steps}
+-- The steps of a freeze on the words of a level that it closes.
+use Rattle.gate_schedules.proofs.Prelude.{Action, Bool, Config, Fits, FreezeStep, Holdings, Holds, HookAnswer, IsGood, IsWithin, Next, Ok, Option}
+use Rattle.gate_schedules.proofs.Prelude.{Phase, Reply, Some, Tree, View, Words, World, ap, arith, cases_Bool, common_steps, eq-eqb, false, found_by}
+use Rattle.gate_schedules.proofs.Prelude.{held_of, if◌then◌else◌, inl, inr, left, map_next, owns, phase_after, put, read, refl, shown, stage_role_of}
+use Rattle.gate_schedules.proofs.Prelude.{subst, sym, total, tree_role_of, true, true≢false, update, ℕ, ◌<◌, ◌==◌, ◌∙◌, ◌≡◌, ◌≤◌}
 use Rattle.gate_schedules.proofs.frames.{Accesses.holdings_of_after, ByPhase.freeze_owner, OperationLaws.by_bool, Stages.{IsStageEvent, stages_in}}
 use Rattle.gate_schedules.proofs.levels.DownWrite.{down_write_levels, entered_by_nobody, passes_finds_nobody, swap_finds_clear}
-use Rattle.gate_schedules.proofs.{levels.LevelPositions.{LevelsHold, HasPosition, closing_position, left_world, position_after_closing}, operations.freeze.Fits.freeze_goes}
-use Rattle.gate_schedules.proofs.operations.freeze.Stages.{FitsHere, IsHere, Keeps, freeze_stands, here_fits, here_stands, here_tree, here_writes}
-use Rattle.gate_schedules.proofs.{trees.worlds.Trees.shown_clean, writers.Parts.{AsksWhere, LeavesRest, WriterLaw, down_write_comes, freeze_comes}}
-use Rattle.gate_schedules.proofs.writers.Stages.{none_leaves, still_plays}
+use Rattle.gate_schedules.proofs.levels.LevelPositions.{LevelsHold, HasPosition, closing_position, left_world, position_after_closing}
+use Rattle.gate_schedules.proofs.operations.freeze.{Fits.freeze_goes, Stages.{FitsHere, IsHere, Keeps, freeze_stands, here_fits, here_stands}}
+use Rattle.gate_schedules.proofs.{operations.freeze.Stages.{here_tree, here_writes}, trees.worlds.Trees.shown_clean, writers.Parts.AsksWhere}
+use Rattle.gate_schedules.proofs.writers.{Parts.{LeavesRest, WriterLaw, down_write_comes, freeze_comes}, Stages.{none_leaves, still_plays}}
 use Rattle.gate_schedules.proofs.writers.Words.{down_write_adds, down_write_counts_none, down_write_words, pass_leaves, tree_begins, tree_beside}
 use Rattle.gate_schedules.proofs.writers.Words.{writer_at_level}
-use Rattle.access_model.specs.{Replies.map_next, declared.{actions.Action.Action, replies.{Next.Next, Reply.Reply}}}
-use Rattle.cpu_words.specs.{Hooks.HookAnswer, Sums.sum_taking, Touches.{found_by, left}, Words.{Words, put, read}, declared.sums.{Sum.Sum, Taken.Taken}}
+use Rattle.cpu_words.specs.{Sums.sum_taking, declared.sums.{Sum.Sum, Taken.Taken}}
 use Rattle.finite_sums.proofs.Totals.{total_at}
-use Rattle.finite_sums.specs.Sums.{total, update}
-use Rattle.freeze_levels.specs.{Freezes.{after_closing, at_freeze, closing_waits, level_closed}, declared.freezes.{Freeze.Freeze, FreezeStep.FreezeStep}}
+use Rattle.freeze_levels.specs.{Freezes.{after_closing, at_freeze, closing_waits, level_closed}, declared.freezes.Freeze.Freeze}
 use Rattle.freeze_levels.specs.holder_laws.Roles.{Apart}
-use Rattle.gate_world.specs.{Configs.{IsWithin, model_limits}, Fits.Fits, Holdings.{Holdings, holdings_of}, Levels.{level_added_by, level_taken_by}}
-use Rattle.gate_world.specs.{Roles.{closed_to, freeze_holder_role, freeze_stage_role, place_of}, Rules.{Holds, IsGood, Tree, ViewFits}}
-use Rattle.gate_world.specs.{Rules.{holder_role_of, marks_of, owns, stage_role_of}, Shown.shown, Trees.{tree_role_of, tree_roles}, Views.actions_after}
-use Rattle.gate_world.specs.{Views.{added_by, held_of, holds_level, phase_after, taken_by, view_with}, Worlds.World, declared.config.Config.Config}
-use Rattle.gate_world.specs.declared.{views.View.View, work.Phase.Phase}
-use Rattle.node_words.proofs.ClearedMarks.{directory_clean}
-use Rattle.node_words.specs.Nodes.{IsNode}
+use Rattle.gate_world.specs.{Configs.model_limits, Holdings.holdings_of, Levels.{level_added_by, level_taken_by}, Roles.closed_to}
+use Rattle.gate_world.specs.{Roles.{freeze_holder_role, freeze_stage_role, place_of}, Rules.{ViewFits, holder_role_of, marks_of}, Trees.tree_roles}
+use Rattle.gate_world.specs.Views.{actions_after, added_by, holds_level, taken_by, view_with}
+use Rattle.node_words.{proofs.ClearedMarks.directory_clean, specs.Nodes.IsNode}
 use Rattle.gated_tree.specs.Roles.{Clearing, Out as OffTree}
 use Rattle.percpu_rwsem.specs.{Graces.looked, SyncWords.{on_callback, on_enter, unpack}, Transitions.transition_after, Writers.at_down_write}
-use Rattle.percpu_rwsem.specs.Writers.{callback_step, down_write_after, down_write_next, down_write_summed, enter_step, passed_awaited, sections_awaited}
-use Rattle.percpu_rwsem.specs.{Writers.sum_begun, declared.{grace.GraceNext.GraceNext, sync_word.{SyncWord.SyncWord}}}
+use Rattle.percpu_rwsem.specs.Writers.{callback_step, down_write_after, down_write_next, down_write_summed, enter_step, passed_awaited}
+use Rattle.percpu_rwsem.specs.{Writers.{sections_awaited, sum_begun}, declared.{grace.GraceNext.GraceNext, sync_word.SyncWord.SyncWord}}
 use Rattle.percpu_rwsem.specs.declared.{transitions.{Transition.Transition, TransitionNext.TransitionNext}, writers.DownWrite.DownWrite}
 use Rattle.percpu_rwsem.specs.declared.writers.DownWriteStep.{DownWriteStep}
-use Rattle.freeze_laws.proofs.stages.Facts.{at_level}
-use Rattle.freeze_laws.specs.stages.{Events.{Happens, Passes, SetsBlock as SetsBlockStage, StageEvent, Stays, action_of as stage_action_of, playing}, Roles.Before}
-use Rattle.freeze_laws.specs.stages.{Roles.{CleanBelow, Closing, Freezing, HasPassed, Place, bit, has_position, owns as stage_owns}, Shown.state_after}
-use Rattle.std.proofs.Common.{Bool, ap, arith, false, inl, inr, nat_lt, refl, subst, sym, true, true≢false, ℕ, ◌<◌, ◌∙◌, ◌≡◌, ◌≤◌, ◌⊎◌}
-use Rattle.std.proofs.lemmas.Bool.{cases_Bool, eq-eqb}
-use Rattle.std.specs.Prelude.{Ok, Option, Some, if◌then◌else◌, ◌==◌}
+use Rattle.freeze_laws.{proofs.stages.Facts.at_level, specs.stages.Events.{Happens, Passes, SetsBlock as SetsBlockStage, StageEvent, Stays}}
+use Rattle.freeze_laws.specs.stages.{Events.{action_of as stage_action_of, playing}, Roles.{Before, CleanBelow, Closing, Freezing, HasPassed, Place}}
+use Rattle.freeze_laws.specs.stages.{Roles.{bit, has_position, owns as stage_owns}, Shown.state_after}
+use Rattle.std.proofs.Common.{nat_lt, ◌⊎◌}
 
 -- once level 2 is passed the clearing of marks begins at node 1
 abbrev clean_from : ℕ → ℕ
 clean_from level = if level == 2 then 1 else 0
 
--- what comes after an event of a down-write is the same one, at a step of this place
+-- what comes after a step of a down-write is the same one, at a program point of this place
 abbrev IsAtPlace : DownWrite → Place → Next DownWrite → Type 0
 IsAtPlace d p (Next.Go x) = (x.level ≡ d.level) × (place_of x.step ≡ p)
 IsAtPlace d p (Next.Wait x) = (x.level ≡ d.level) × (place_of x.step ≡ p)
@@ -75,7 +71,7 @@ swapped_role : (x : Freeze) (d : DownWrite) (b : Bool) → b ≡ true →
 swapped_role x d true h = refl
 swapped_role x d false h = absurd (true≢false (sym h))
 
--- the event of the stage that comes with a word more of the sum: with the last one of a sum of 0 the level is passed
+-- the step of the stage that comes with a word more of the sum: with the last one of a sum of 0 the level is passed
 abbrev sum_kind : DownWrite → Taken → StageEvent
 sum_kind d (Taken.More sum) = Stays
 sum_kind d (Taken.Total total) = if total == 0 then Passes d.level (clean_from d.level) (nat_lt 1 d.level) else Stays
@@ -87,7 +83,7 @@ closed_apart level nodes = grind arith
 by_wait : (P : FreezeStep → Type 0) (d : DownWrite) (s : DownWriteStep) → P (FreezeStep.Closes d) → P (FreezeStep.Waits d) → P (closing_waits d s)
 by_wait P d s goes waits = grind arith
 
--- how a freeze stands with the levels after an event of a down-write
+-- how a freeze stands with the levels after a step of a down-write
 pub after_closing_stands : (x : Freeze) (d : DownWrite) → 1 ≤ d.level → d.level ≤ 3 → (found : ℕ) →
     HasPosition (phase_after (map_next Phase.Freezes (after_closing x d.level (down_write_after d d.step found).0)))
     (position_after_closing d.level (down_write_after d d.step found).0)
@@ -130,7 +126,7 @@ module _ (c : Config) (lim : IsWithin c) (w : World) (good : IsGood c w) (t : �
   sum_asks d n h = grind arith
 
   module _ (d : DownWrite) (e : IsHere c lim w good t lt x (FreezeStep.Closes d)) where
-    -- the words after its event
+    -- the words after its step
     abbrev words_then : Words
     words_then = put w.words (down_write_next d d.step).0 (left (down_write_next d d.step).1 (read w.words (down_write_next d d.step).0))
 
@@ -201,7 +197,7 @@ module _ (c : Config) (lim : IsWithin c) (w : World) (good : IsGood c w) (t : �
           | inr now ↦ tree_begins c w good t lt words_then view_then lim (down_write_words w.words d d.step) was now
         ]
 
-    -- so its event keeps the rule, where it is this event of the stage
+    -- so its step keeps the invariant, where it is this step of the stage
     closing_law : (kind : StageEvent) → IsStageEvent c w good t lt words_then view_then kind →
         stage_action_of kind (stages_in w) ≡ adds_here → AsksWhere (model_limits c) (shown c w) adds_here →
         WriterLaw c w t words_then view_then adds_here
@@ -260,7 +256,7 @@ module _ (c : Config) (lim : IsWithin c) (w : World) (good : IsGood c w) (t : �
       (sum_adds y n)
       (sum_asks y n (nobody_inside y e))
 
-  -- each event of the closing of a level
+  -- each step of the closing of a level
   pub closes : (d : DownWrite) (s : DownWriteStep) → IsHere c lim w good t lt x (FreezeStep.Closes (at_down_write d s)) →
       Keeps c lim w good t lt x hook (FreezeStep.Closes (at_down_write d s))
   closes d (DownWriteStep.Enters Transition.Loads) e =

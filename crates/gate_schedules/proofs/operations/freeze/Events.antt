@@ -1,45 +1,44 @@
--- The events of a freeze on nodes and on the words of a level that it reopens, and all of its events as one law.
-use Rattle.gate_schedules.proofs.frames.{ByPhase.freeze_owner, Holders.holders_stay, PhaseSubstitution.{alike_of, made_keeps}, Stages.{IsStageEvent, stages_in}}
-use Rattle.gate_schedules.proofs.levels.{PositionRoles.levels_stay, LevelPositions.{HasPosition, left_world, position_after_opening}}
-use Rattle.gate_schedules.proofs.operations.freeze.{Closes.closes, Fits.freeze_goes, GivesUp.{undoes, waits}}
-use Rattle.gate_schedules.proofs.operations.freeze.Stages.{FitsHere, IsHere, Keeps, completes_read_only, freeze_stands, goes_to, here_fits, here_knows}
-use Rattle.gate_schedules.proofs.operations.freeze.Stages.{here_stands, here_tree, here_writes, holds, loads_holders, loads_stage, loads_superblock, locks}
-use Rattle.gate_schedules.proofs.operations.freeze.Stages.{gives_up, locks_again, locks_to_undo, releases, sets_complete, sets_fs, sets_page_fault, sets_write, unlocks, view_at}
-use Rattle.gate_schedules.proofs.{operations.thaw.Events.thaw_keeps, trees.worlds.Trees.{nobody_reads, tree_after}, writers.Owner.owner_stays}
-use Rattle.gate_schedules.proofs.writers.Parts.{AsksWhere, IsWriter, LeavesRest, SameAtMounts, WriterLaw, freeze_work, freezes_write, whole_writer, writer_law}
-use Rattle.access_model.specs.{Actions.marked, Replies.map_next, States.IsFile, declared.{actions.Action.Action}}
-use Rattle.access_model.specs.declared.replies.Next.{Next}
-use Rattle.cpu_words.specs.{Hooks.HookAnswer, Touches.found_by, Words.{Words, read}, declared.{events.Touch.Touch, names.WordName.WordName}}
-use Rattle.finite_sums.proofs.Totals.{each_updated, update_map, update_same}
-use Rattle.finite_sums.specs.Sums.{update}
-use Rattle.freeze_levels.specs.{Freezes.{after_reopening, at_freeze}, Thaws.{after_opening}}
-use Rattle.freeze_levels.specs.declared.{freezes.{Freeze.Freeze, FreezeStep.FreezeStep}, thaws.{Thaw.Thaw, ThawStep.ThawStep}}
-use Rattle.freeze_levels.specs.holder_laws.Roles.{Apart}
-use Rattle.gate_world.specs.{SameRoles.{SameRoles, rephased}, Configs.{IsWithin, model_limits}, Fits.FreezeFits, Holdings.Holdings, Roles.closed_to}
-use Rattle.gate_world.specs.{Roles.{freeze_holder_role, freeze_stage_role, freeze_position, freeze_tree_role}, Rules.{Holds, IsGood, StepKeeps, Tree, ViewFits}}
-use Rattle.gate_world.specs.{Rules.{holder_role_of, marks_of, owns, stage_role_of, stage_roles}, Shown.shown, Trees.{tree_bounds, tree_of}, Views.held_of}
-use Rattle.gate_world.specs.{Views.phase_after, Worlds.World, declared.{config.Config.Config, views.View.View, work.Phase.Phase}}
-use Rattle.node_words.proofs.ClearedMarks.{clean_stays, cleared_shown, clears_mark, without_mark}
-use Rattle.node_words.specs.{Nodes.{IsNode, dirty_in, node_shown, opens_in}, declared.marks.ClearMarks.{ClearMarks}}
+-- The steps of a freeze on nodes and on the words of a level that it reopens, and all of its steps as one law.
+use Rattle.gate_schedules.proofs.Prelude.{Action, Config, FreezeStep, Holdings, Holds, HookAnswer, IsGood, IsWithin, Next, None, Option, Phase, Some}
+use Rattle.gate_schedules.proofs.Prelude.{StepKeeps, Touch, Tree, View, WordName, Words, World, ap, arith, cases_Bool, each_updated, eqb_tells, false}
+use Rattle.gate_schedules.proofs.Prelude.{found_by, held_of, inl, inr, map_next, owns, phase_after, read, refl, shown, stage_role_of, subst, suc, sym}
+use Rattle.gate_schedules.proofs.Prelude.{tree_bounds, true, update, update_same, ℕ, ◌+◌, ◌<◌, ◌∙◌, ◌≡◌}
+use Rattle.gate_schedules.proofs.frames.{ByPhase.freeze_owner, Holders.holders_stay, PhaseSubstitution.{alike_of, made_keeps}, Stages.IsStageEvent}
+use Rattle.gate_schedules.proofs.{frames.Stages.stages_in, levels.LevelPositions.{HasPosition, left_world, position_after_opening}}
+use Rattle.gate_schedules.proofs.{levels.PositionRoles.levels_stay, operations.freeze.{Closes.closes, Fits.freeze_goes, GivesUp.{undoes, waits}}}
+use Rattle.gate_schedules.proofs.operations.freeze.Stages.{FitsHere, IsHere, Keeps, completes_read_only, freeze_stands, goes_to, here_fits}
+use Rattle.gate_schedules.proofs.operations.freeze.Stages.{here_knows, here_stands, here_tree, here_writes, holds, loads_holders, loads_stage}
+use Rattle.gate_schedules.proofs.operations.freeze.Stages.{loads_superblock, locks, gives_up, locks_again, locks_to_undo, releases, sets_complete}
+use Rattle.gate_schedules.proofs.operations.{freeze.Stages.{sets_fs, sets_page_fault, sets_write, unlocks, view_at}, thaw.Events.thaw_keeps}
+use Rattle.gate_schedules.proofs.{trees.worlds.Trees.{nobody_reads, tree_after}, writers.{Owner.owner_stays, Parts.{AsksWhere, IsWriter, LeavesRest}}}
+use Rattle.gate_schedules.proofs.writers.Parts.{SameAtMounts, WriterLaw, freeze_work, freezes_write, whole_writer, writer_law}
+use Rattle.gate_schedules.specs.trees.Events.{Clears, Event, Passes, with_node}
+use Rattle.access_model.specs.{Actions.marked, States.IsFile}
+use Rattle.finite_sums.proofs.Totals.{update_map}
+use Rattle.freeze_levels.specs.{Freezes.{after_reopening, at_freeze}, Thaws.after_opening, declared.{freezes.Freeze.Freeze, thaws.Thaw.Thaw}}
+use Rattle.freeze_levels.specs.{declared.thaws.ThawStep.ThawStep, holder_laws.Roles.Apart}
+use Rattle.gate_world.specs.{Configs.model_limits, Fits.FreezeFits, Roles.{closed_to, freeze_holder_role, freeze_stage_role, freeze_position}}
+use Rattle.gate_world.specs.{Roles.freeze_tree_role, Rules.{ViewFits, holder_role_of, marks_of, stage_roles}, SameRoles.{SameRoles, rephased}}
+use Rattle.gate_world.specs.Trees.{tree_of}
+use Rattle.node_words.{proofs.ClearedMarks.{clean_stays, cleared_shown, clears_mark, without_mark}, specs.Nodes.{IsNode, dirty_in, node_shown}}
+use Rattle.node_words.specs.{Nodes.opens_in, declared.marks.ClearMarks.ClearMarks}
 use Rattle.gated_tree.specs.Roles.{Clearing, TreeState}
 use Rattle.percpu_rwsem.specs.{Writers.{up_write_after, up_write_next}, declared.writers.UpWrite.UpWrite}
-use Rattle.freeze_laws.specs.stages.{Events.{ClearsMark as ClearsMarkStage, cleaned}, Roles.{Freezing, HasPassed, owns as stage_owns}, Shown.state_after}
-use Rattle.std.proofs.{Common.{ap, arith, false, inl, inr, nat_lt, refl, subst, suc, sym, true, ℕ, ◌+◌, ◌<◌, ◌∙◌, ◌≡◌}, lemmas.Bool.cases_Bool}
-use Rattle.std.proofs.lemmas.Bool.{ltb-false, ltb-true, Decides.eqb_tells}
-use Rattle.std.specs.Prelude.{None, Option, Some, option_map}
-use Rattle.gate_schedules.specs.trees.Events.{Clears, Event, Passes, with_node}
+use Rattle.freeze_laws.specs.stages.{Events.{ClearsMark as ClearsMarkStage, cleaned}, Roles.{Freezing, HasPassed, owns as stage_owns}}
+use Rattle.freeze_laws.specs.stages.Shown.{state_after}
+use Rattle.std.{proofs.{Common.nat_lt, lemmas.Bool.{ltb-false, ltb-true}}, specs.Prelude.option_map}
 
--- and after each event of a reopening
+-- and after each step of a reopening
 pub stands_then : (x : Freeze) (u : UpWrite) (code found : ℕ) →
     let n : Next UpWrite = (up_write_after u u.step found).0 in
     HasPosition (phase_after (map_next Phase.Freezes (after_reopening x u.level code n))) (position_after_opening u.level n)
 stands_then x u code found = grind arith
 
--- Where a freeze failed, its levels are reopened as by a thaw: a thaw at this step stands with all parts of the rule as the freeze does.
+-- Where a freeze failed, its levels are reopened as by a thaw: a thaw at this step stands with all conjuncts of the invariant as the freeze does.
 abbrev as_thaw : Freeze → ThawStep → Thaw
 as_thaw x s = record { task = x.task; holder = x.holder; step = s }
 
--- before an event
+-- before a step
 reopens_alike : (x : Freeze) (u : UpWrite) (code : ℕ) →
     SameRoles (Some (Phase.Freezes (at_freeze x (FreezeStep.Reopens u code)))) (Some (Phase.Thaws (as_thaw x (ThawStep.Reopens u))))
 reopens_alike x u code = refl
@@ -82,7 +81,7 @@ module _ (c : Config) (lim : IsWithin c) (w : World) (good : IsGood c w) (t : �
         (subst (λ r. Event (tree_bounds c) (tree_of w) t (with_node (tree_of w) marks.node (without_mark node_word) t r) action) (sym past)
         event)
 
-    -- it is that event of the stage
+    -- it is that step of the stage
     mark_happens : (action : Option Action) →
         IsStageEvent c w good t lt cleared_words (cleared_view action) (ClearsMarkStage marks.node)
     mark_happens action = (
@@ -94,7 +93,7 @@ module _ (c : Config) (lim : IsWithin c) (w : World) (good : IsGood c w) (t : �
       },
     )
 
-    -- so it keeps the rule
+    -- so it keeps the invariant
     node_law : (action : Option Action) → SameAtMounts (w.views t) (cleared_view action) → ViewFits c t (cleared_view action) →
         cleaned marks.node (dirty_in node_word) ≡ action → AsksWhere (model_limits c) (shown c w) action →
         LeavesRest (shown c w) (state_after (shown c w) t action) (λ n. node_shown (cleared_words.node n)) (shown c w).holders →
@@ -190,7 +189,7 @@ module _ (c : Config) (lim : IsWithin c) (w : World) (good : IsGood c w) (t : �
             ]
       ]
 
-  -- an event of the reopening of a level is one of the thaw
+  -- a step of the reopening of a level is one of the thaw
   reopens : (u : UpWrite) (code : ℕ) → IsHere c lim w good t lt x (FreezeStep.Reopens u code) → Keeps c lim w good t lt x hook (FreezeStep.Reopens u code)
   reopens u code e =
       let f : FitsHere c lim w good t lt x (FreezeStep.Reopens u code) = here_fits c lim w good t lt x (FreezeStep.Reopens u code) e in
@@ -228,7 +227,7 @@ freeze_event c lim w good t lt x hook FreezeStep.SetsComplete e = sets_complete 
 freeze_event c lim w good t lt x hook (FreezeStep.Reopens u code) e = reopens c lim w good t lt x hook u code e
 freeze_event c lim w good t lt x hook (FreezeStep.Releases answer) e = releases c lim w good t lt x hook answer e
 
--- each event of a freeze keeps the rule, and moves the shown model by its action
+-- each step of a freeze keeps the invariant, and moves the shown state by its action
 pub freeze_keeps : (c : Config) → IsWithin c → (w : World) → IsGood c w → (t : ℕ) → t < c.tasks → (hook : HookAnswer) (x : Freeze) →
     (w.views t).phase ≡ Some (Phase.Freezes x) → StepKeeps c w t hook (Phase.Freezes x)
 freeze_keeps c lim w good t lt hook x e =

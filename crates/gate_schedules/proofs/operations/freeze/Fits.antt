@@ -1,18 +1,13 @@
--- What fits after an event of a freeze, of the closing of a level and of its reopening.
-use Rattle.std.proofs.lemmas.Grind.{common_steps}
-use Rattle.std.proofs.{Common.{◌≡◌, ℕ, true, false, arith}}
-use Rattle.std.specs.Prelude.{if◌then◌else◌, Option, Err}
-use Rattle.access_model.specs.{Holders.{held_by}, Replies.map_next}
-use Rattle.access_model.specs.declared.{actions.{Action.Action, Holders.Holders}, errors.GateError.GateError}
-use Rattle.cpu_words.specs.{Hooks.HookAnswer, Names.IsWord}
-use Rattle.freeze_levels.specs.Freezes.{found_holders, freeze_next, freeze_after, at_freeze}
-use Rattle.freeze_levels.specs.{declared.freezes.{Freeze.Freeze, FreezeStep.FreezeStep}}
-use Rattle.gate_world.specs.Configs.{IsWithin, extents_of}
-use Rattle.gate_world.specs.{Fits.{FreezeFits, PhaseFits, Fits, ActionFits}, Holdings.{Holdings, held_after}}
-use Rattle.gate_world.specs.{Views.phase_after, declared.{config.Config.Config, work.Phase.Phase}}
-use Rattle.gate_schedules.proofs.frames.{Cases.both}
+-- What fits after a step of a freeze, of the closing of a level and of its reopening.
+use Rattle.gate_schedules.proofs.Prelude.{Action, Config, Err, Fits, FreezeStep, GateError, Holdings, HookAnswer, IsWithin, Option, Phase, PhaseFits}
+use Rattle.gate_schedules.proofs.Prelude.{arith, common_steps, false, held_after, if◌then◌else◌, map_next, phase_after, true, ℕ, ◌≡◌}
+use Rattle.access_model.specs.{Holders.held_by, declared.actions.Holders.Holders}
+use Rattle.cpu_words.specs.Names.{IsWord}
+use Rattle.freeze_levels.specs.{Freezes.{found_holders, freeze_next, freeze_after, at_freeze}, declared.freezes.Freeze.Freeze}
+use Rattle.gate_world.specs.{Configs.extents_of, Fits.{FreezeFits, ActionFits}}
+use Rattle.gate_schedules.proofs.frames.Cases.{both}
 
--- so it is of each event of a freeze
+-- so it is of each step of a freeze
 pub freeze_word : (c : Config) (x : Freeze) (s : FreezeStep) (hook : HookAnswer) → FreezeFits c x.holder s →
     IsWord (extents_of c) (freeze_next x s hook).0
 freeze_word c x s hook f = grind arith
@@ -36,7 +31,7 @@ pub freeze_acts : (x : Freeze) (s : FreezeStep) (held : Holdings) (found : ℕ) 
 freeze_acts x s held found hook = (freeze_moves x s found hook held).0
 
 module _ (c : Config) (within : IsWithin c) where
-  -- what comes after each event of a freeze fits what its action leaves
+  -- what comes after each step of a freeze fits what its action leaves
   pub freeze_goes : (t : ℕ) (held : Holdings) (x : Freeze) (s : FreezeStep) (found : ℕ) (hook : HookAnswer) →
       PhaseFits c t held (Phase.Freezes (at_freeze x s)) →
       Fits c t (held_after (freeze_after x s found hook).1 held) (phase_after (map_next Phase.Freezes (freeze_after x s found hook).0))

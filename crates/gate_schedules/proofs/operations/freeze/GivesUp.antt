@@ -1,53 +1,43 @@
--- The events of a freeze that waits for somebody inside a level: it sums again, or gives the level up and leaves its rcu_sync.
-use Rattle.gate_schedules.proofs.frames.{PhaseSubstitution.{alike_of, made_keeps}, Stages.{IsStageEvent, stages_in}}
-use Rattle.gate_schedules.proofs.levels.{GivenUp.{leaving_at, summing_at, unblocked_levels}, LevelPositions.{HasPosition, left_world, position_after_opening}}
-use Rattle.gate_schedules.proofs.levels.{PositionRoles.{closing_first, closing_says, closing_says_none, say_back, stands_so}, UpWrite.up_write_levels}
-use Rattle.gate_schedules.proofs.operations.freeze.{Closes.closes, Fits.freeze_goes}
-use Rattle.gate_schedules.proofs.operations.freeze.Stages.{FitsHere, IsHere, Keeps, freeze_stands, goes_to, here_fits, here_stands, here_tree, here_writes, view_at}
-use Rattle.gate_schedules.proofs.writers.Parts.{WriterLaw, freeze_comes, freeze_work, freezes_write, whole_writer}
-use Rattle.gate_schedules.proofs.writers.Stages.{none_leaves, stays_there}
+-- The steps of a freeze that waits for somebody inside a level: it sums again, or gives the level up and leaves its rcu_sync.
+use Rattle.gate_schedules.proofs.Prelude.{Action, Config, Err, FreezeStep, HookAnswer, IsGood, IsWithin, List, Next, None, Ok, Option, Phase, Reply}
+use Rattle.gate_schedules.proofs.Prelude.{Some, StepKeeps, Touch, Traced, View, WordName, Words, World, ap, arith, found_by, held_of, left, map_next}
+use Rattle.gate_schedules.proofs.Prelude.{owns, phase_after, put, read, refl, stage_role_of, subst, sym, tree_role_of, ℕ, ◌<◌, ◌∙◌, ◌≡◌, ◌≤◌}
+use Rattle.gate_schedules.proofs.{frames.{PhaseSubstitution.{alike_of, made_keeps}, Stages.IsStageEvent}, levels.GivenUp.summing_at}
+use Rattle.gate_schedules.proofs.levels.{GivenUp.unblocked_levels, LevelPositions.{HasPosition, position_after_opening}, PositionRoles.closing_says}
+use Rattle.gate_schedules.proofs.levels.{PositionRoles.{closing_says_none, say_back, stands_so}, UpWrite.up_write_levels}
+use Rattle.gate_schedules.proofs.operations.freeze.{Closes.closes, Fits.freeze_goes, Stages.{FitsHere, IsHere, Keeps, freeze_stands, goes_to}}
+use Rattle.gate_schedules.proofs.{operations.freeze.Stages.{here_fits, here_stands, here_tree, here_writes, view_at}, writers.Parts.WriterLaw}
+use Rattle.gate_schedules.proofs.writers.{Parts.{freeze_comes, freeze_work, freezes_write, whole_writer}, Stages.{none_leaves, stays_there}}
 use Rattle.gate_schedules.proofs.writers.Words.{tree_beside, up_write_counts_none, up_write_words, writer_at_level}
-use Rattle.access_model.specs.{Replies.map_next, declared.{actions.Action.Action, replies.{Next.Next, Reply.Reply}}}
-use Rattle.cpu_words.specs.{Hooks.HookAnswer, Touches.{found_by, left}, Words.{Words, put, read}, declared.{events.Touch.Touch, names.WordName.WordName}}
-use Rattle.freeze_levels.specs.{Freezes.{after_undoing, at_freeze, freeze_closed, freeze_undone}, declared.freezes.{Freeze.Freeze, FreezeStep.FreezeStep}}
+use Rattle.freeze_levels.specs.{Freezes.{after_undoing, at_freeze, freeze_closed, freeze_undone}, declared.freezes.Freeze.Freeze}
 use Rattle.freeze_levels.specs.holder_laws.Roles.{Apart}
-use Rattle.gate_world.specs.{SameRoles.{SameRoles, rephased}, Configs.IsWithin, Levels.{level_added_by, level_taken_by}, Roles.{down_count_role, place_of}}
-use Rattle.gate_world.specs.{Rules.{IsGood, StepKeeps, holder_role_of, owns, stage_role_of}, Trees.tree_role_of}
-use Rattle.gate_world.specs.{Views.{added_by, held_of, phase_after, taken_by, view_with}, Worlds.World}
-use Rattle.gate_world.specs.declared.{config.Config.Config, views.{Traced.Traced, View.View}, work.Phase.Phase}
+use Rattle.gate_world.specs.{Levels.{level_added_by, level_taken_by}, Roles.{down_count_role, place_of}, Rules.holder_role_of, SameRoles.SameRoles}
+use Rattle.gate_world.specs.{SameRoles.rephased, Views.{added_by, taken_by, view_with}}
 use Rattle.gated_tree.specs.Roles.{Out as OffTree}
-use Rattle.percpu_rwsem.specs.{SyncWords.on_exit, Transitions.{transition_after, transition_next}, Writers.{down_write_next, exit_made, sum_begun}}
-use Rattle.percpu_rwsem.specs.declared.{transitions.{Transition.Transition, TransitionNext.TransitionNext}, writers.{DownWrite.DownWrite, UpWrite.UpWrite}}
-use Rattle.percpu_rwsem.specs.declared.writers.{DownWriteStep.DownWriteStep, UpWriteStep.UpWriteStep}
-use Rattle.freeze_laws.specs.levels.Operations.{down_write_role}
-use Rattle.freeze_laws.{proofs.stages.Facts.at_level, specs.stages.{Events.{Stays, Unblocks}, Roles.{Before, Closing, Freezing, bit}}}
-use Rattle.std.proofs.Common.{ap, arith, nat_lt, refl, subst, sym, ℕ, ◌<◌, ◌∙◌, ◌≡◌, ◌≤◌}
-use Rattle.std.specs.Prelude.{Err, List, None, Ok, Option, Some}
+use Rattle.percpu_rwsem.specs.{SyncWords.on_exit, Transitions.{transition_after, transition_next}, Writers.{down_write_next, exit_made}}
+use Rattle.percpu_rwsem.specs.declared.{transitions.{Transition.Transition, TransitionNext.TransitionNext}, writers.DownWrite.DownWrite}
+use Rattle.percpu_rwsem.specs.declared.writers.{UpWrite.UpWrite, UpWriteStep.UpWriteStep}
+use Rattle.freeze_laws.{proofs.stages.Facts.at_level, specs.{levels.Operations.down_write_role, stages.{Events.{Stays, Unblocks}, Roles.Before}}}
+use Rattle.freeze_laws.specs.stages.Roles.{Closing, Freezing, bit}
+use Rattle.std.proofs.Common.{nat_lt}
 
--- a freeze that waits stands with all parts of the rule as it did when its sum began
+-- a freeze that waits stands with all conjuncts of the invariant as it did when its sum began
 waits_alike : (x : Freeze) (d : DownWrite) →
     SameRoles (Some (Phase.Freezes (at_freeze x (FreezeStep.Waits d)))) (Some (Phase.Freezes (at_freeze x (FreezeStep.Closes d))))
 waits_alike x d = refl
 
--- what comes after an event by which it leaves the rcu_sync of a level that it has given up
+-- what comes after a step by which it leaves the rcu_sync of a level that it has given up
 abbrev undone_then : Freeze → ℕ → ℕ → TransitionNext → Option Phase
 undone_then x level code n = phase_after (map_next Phase.Freezes (after_undoing x level code n))
 
 -- has the lock as before,
 undone_owns : (x : Freeze) (level code : ℕ) → 1 ≤ level → level ≤ 3 → (n : TransitionNext) → owns (undone_then x level code n) ≡ bit (nat_lt 1 level)
-undone_owns x level code low high (TransitionNext.More transition) = refl
-undone_owns x level code low high TransitionNext.Undefined = refl
-undone_owns x level code low high (TransitionNext.Made state) =
-    at_level (λ i. owns (Some (Phase.Freezes (at_freeze x (freeze_undone i code)))) ≡ bit (nat_lt 1 i)) (refl, refl, refl) level low high
+undone_owns x level code low high n = grind (arith, at_level, owns)
 
 -- is still at the stage of that level,
 undone_stage : (x : Freeze) (level code : ℕ) → 1 ≤ level → level ≤ 3 → (n : TransitionNext) →
     stage_role_of (undone_then x level code n) ≡ Freezing level Before (nat_lt 1 level)
-undone_stage x level code low high (TransitionNext.More transition) = refl
-undone_stage x level code low high TransitionNext.Undefined = refl
-undone_stage x level code low high (TransitionNext.Made state) =
-    at_level (λ i. stage_role_of (Some (Phase.Freezes (at_freeze x (freeze_undone i code)))) ≡ Freezing i Before (nat_lt 1 i)) (refl, refl, refl)
-    level low high
+undone_stage x level code low high n = grind (arith, at_level, stage_role_of)
 
 -- does nothing at the tree,
 undone_tree : (x : Freeze) (level code : ℕ) (trace : List Traced) (n : TransitionNext) → tree_role_of trace (undone_then x level code n) ≡ OffTree
@@ -73,7 +63,7 @@ undone_stands x level code low high transition (TransitionNext.Made state) =
     level low high
 
 module _ (c : Config) (lim : IsWithin c) (w : World) (good : IsGood c w) (t : ℕ) (lt : t < c.tasks) (x : Freeze) where
-  -- the law of an event of the closing of a level, whole
+  -- the law of a step of the closing of a level, whole
   closes_keeps : (hook : HookAnswer) (d : DownWrite) → IsHere c lim w good t lt x (FreezeStep.Closes d) →
       StepKeeps c w t hook (Phase.Freezes (at_freeze x (FreezeStep.Closes d)))
   closes_keeps hook d e =
@@ -82,7 +72,7 @@ module _ (c : Config) (lim : IsWithin c) (w : World) (good : IsGood c w) (t : �
       (freeze_work c w (at_freeze x (FreezeStep.Closes d)) hook f.5) (closes c lim w good t lt x hook d d.step e)
 
 module _ (c : Config) (lim : IsWithin c) (w : World) (good : IsGood c w) (t : ℕ) (lt : t < c.tasks) (x : Freeze) where
-  -- the hook has answered that it is to wait: its next event is that of the closing of the level
+  -- the hook has answered that it is to wait: its next step is that of the closing of the level
   waits_on : (d : DownWrite) (answer : Unit {0}) → IsHere c lim w good t lt x (FreezeStep.Waits d) →
       Keeps c lim w good t lt x (Ok answer) (FreezeStep.Waits d)
   waits_on d answer e =
@@ -124,7 +114,7 @@ module _ (c : Config) (lim : IsWithin c) (w : World) (good : IsGood c w) (t : �
       (role, refl) refl tt (none_leaves c w good t lt) (sym (ap holder_role_of e))
 
   module _ (hook : HookAnswer) (level : ℕ) (transition : Transition) (code : ℕ) where
-    -- the up-write of which its event is one
+    -- the up-write of which its step is one
     abbrev leaving : UpWrite
     leaving = record { level = level; step = UpWriteStep.Exits transition }
 
@@ -188,7 +178,7 @@ module _ (c : Config) (lim : IsWithin c) (w : World) (good : IsGood c w) (t : �
       (record { stage_same = refl; sb_same = refl; remount_same = refl; block_same = refl; node_same = refl })
       (undone_stage x level code f.5.0 f.5.1 (next_here hook level (Transition.Exchanges from to) code) ∙ sym (ap stage_role_of e)))
 
-  -- each event of a freeze that waits
+  -- each step of a freeze that waits
   pub waits : (hook : HookAnswer) (d : DownWrite) → IsHere c lim w good t lt x (FreezeStep.Waits d) →
       Keeps c lim w good t lt x hook (FreezeStep.Waits d)
   waits (Ok answer) d e = waits_on d answer e

@@ -1,16 +1,15 @@
--- All that is proved of a freeze, from the law of its events and from what its trace tells.
+-- All that is proved of a freeze, from the law of its steps and from what its trace tells.
+use Rattle.gate_schedules.proofs.Prelude.{Config, Fits, Fitting, FreezeStep, IsGood, Op, Phase, PhaseFits, Some, Stages, World, after_step, held_of}
+use Rattle.gate_schedules.proofs.Prelude.{refl, stage_role_of, subst, ℕ, ◌<◌, ◌≡◌}
 use Rattle.access_model.specs.declared.actions.Holder.{Holder}
-use Rattle.freeze_levels.specs.declared.freezes.{Freeze.Freeze, FreezeStep.FreezeStep}
+use Rattle.freeze_levels.specs.declared.freezes.Freeze.{Freeze}
 use Rattle.gate_schedules.proofs.frames.{Agreeing.none_agree, OperationLaws.{OpLaws, PhaseLaws, word_among}, Snapshots.completes_none}
-use Rattle.gate_schedules.proofs.operations.freeze.{Causes.{freeze_own, freeze_stays}, Events.freeze_keeps, Fits.{freeze_acts, freeze_goes, freeze_word}}
-use Rattle.gate_schedules.proofs.operations.freeze.{Runs.freeze_runs, Trace.{freeze_restores, freeze_short, freeze_tells}, Waits.freeze_waits}
-use Rattle.gate_world.specs.{Fits.{Fits, PhaseFits}, Roles.freeze_stage_role, Rules.{Fitting, IsGood, Stages, stage_role_of}, Views.held_of}
-use Rattle.gate_world.specs.{Worlds.{World, after_step}, declared.{config.Config.Config, operations.Op.Op, work.Phase.Phase}}
+use Rattle.gate_schedules.proofs.operations.freeze.{Causes.{freeze_own, freeze_stays}, Events.freeze_keeps, Fits.{freeze_acts, freeze_goes}}
+use Rattle.gate_schedules.proofs.operations.freeze.{Fits.freeze_word, Runs.freeze_runs, Trace.{freeze_restores, freeze_traces}, Waits.freeze_waits}
+use Rattle.gate_world.specs.Roles.{freeze_stage_role}
 use Rattle.freeze_laws.specs.stages.Roles.{KnowsStage}
-use Rattle.std.proofs.Common.{refl, subst, ℕ, ◌<◌, ◌≡◌}
-use Rattle.std.specs.Prelude.{Some}
 
--- what a freeze says of its task's accesses, in a good world
+-- what a freeze says of its task's accesses, in a good state
 fits_here : (c : Config) (x : Freeze) (w : World) → IsGood c w → (t : ℕ) → t < c.tasks → (w.views t).phase ≡ Some (Phase.Freezes x) →
     PhaseFits c t (held_of (w.views t)) (Phase.Freezes x)
 fits_here c x w good t lt e = subst (Fits c t (held_of (w.views t))) e (good Fitting t lt)
@@ -48,7 +47,6 @@ freeze_op c holder = record {
   room_agrees = λ held seen same there. refl;
   restores = λ refusal trace before order. freeze_restores holder refusal trace before;
   file = λ t held order room. tt;
-  tells = freeze_tells c holder;
-  short = freeze_short c holder;
+  traces = freeze_traces c holder;
   most_small = λ within. tt;
 }

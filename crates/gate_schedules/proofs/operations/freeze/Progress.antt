@@ -1,23 +1,21 @@
 -- A freeze runs out where it finds `umount` free at its locks, nobody inside a section, and nothing counted at the levels that it has to pass.
-use Rattle.access_model.specs.{Holders.held_by, declared.replies.Next.Next}
-use Rattle.cpu_words.specs.{Hooks.HookAnswer, Touches.found_by, Words.{Words, read}}
-use Rattle.finite_sums.specs.Sums.{total}
-use Rattle.freeze_levels.specs.{Freezes.{after_clearing, after_closing, after_reopening, after_undoing, at_freeze, freeze_after, freeze_fails, freeze_next}, Holders.holders_in}
-use Rattle.freeze_levels.specs.declared.freezes.{Freeze.Freeze, FreezeStep.FreezeStep}
-use Rattle.gate_schedules.proofs.{operations.{calls.Progress.clear_falls, deadlocks.RankDecreases.{after_event, falls_as}}}
-use Rattle.gate_schedules.proofs.writers.Progress.{DownFalls, down_falls, up_falls}
-use Rattle.gate_world.specs.{Fits.{Fits, FreezeFits, PhaseFits}, Levels.sync_role_of, Roles.{freeze_position, position_sync, sync_beside}, Rules.{Fitting, IsGood}}
-use Rattle.gate_world.specs.{Views.held_of, Worlds.{World, found_at, words_after}, declared.{config.Config.Config, work.Phase.Phase}}
-use Rattle.node_words.specs.{Phases.{clear_after, clear_next}, declared.marks.ClearMarks.{ClearMarks}}
+use Rattle.gate_schedules.proofs.Prelude.{Config, Err, Fits, Fitting, FreezeStep, HookAnswer, IsGood, Next, Ok, Phase, PhaseFits, Words, World, ap}
+use Rattle.gate_schedules.proofs.Prelude.{arith, cases_Bool, eq-eqb, eqb_tells, found_at, found_by, held_of, inl, inr, nat_lt, read, refl, subst}
+use Rattle.gate_schedules.proofs.Prelude.{sync_role_of, total, words_after, ℕ, ◌+◌, ◌<◌, ◌∙◌, ◌≡◌, ◌≤◌}
+use Rattle.access_model.specs.Holders.{held_by}
+use Rattle.freeze_levels.specs.Freezes.{after_clearing, after_closing, after_reopening, after_undoing, at_freeze, freeze_after, freeze_fails}
+use Rattle.freeze_levels.specs.{Freezes.freeze_next, Holders.holders_in, declared.freezes.Freeze.Freeze}
+use Rattle.gate_schedules.proofs.operations.{calls.Progress.clear_falls, deadlocks.RankDecreases.{after_event, falls_as}}
+use Rattle.gate_schedules.{proofs.writers.Progress.{DownFalls, down_falls, up_falls}, specs.operations.Ranks.{closed_rank, closing_rank, down_rank}}
+use Rattle.gate_schedules.specs.operations.{Ranks.{exchange_rank, freeze_rank, rank, reopens_rank, up_rank}, Unblocked.RankDecreases}
+use Rattle.gate_schedules.specs.operations.Unblocked.{FreezeIsUnblocked, IsUnblocked, LevelsAreFree, NobodyInside, NothingCounted, PhaseEnds}
+use Rattle.gate_world.specs.{Fits.FreezeFits, Roles.{freeze_position, position_sync, sync_beside}}
+use Rattle.node_words.specs.{Phases.{clear_after, clear_next}, declared.marks.ClearMarks.ClearMarks}
 use Rattle.freeze_laws.{proofs.stages.Facts.at_level, specs.levels.Operations.{down_write_role, up_write_role}}
-use Rattle.percpu_rwsem.specs.{SyncWords.on_exit, Transitions.transition_after}
-use Rattle.percpu_rwsem.specs.Writers.{down_write_after, down_write_next, exit_made, up_write_after, up_write_next}
-use Rattle.percpu_rwsem.specs.declared.{transitions.{Transition.Transition, TransitionNext.TransitionNext}}
+use Rattle.percpu_rwsem.specs.{SyncWords.on_exit, Transitions.transition_after, Writers.{down_write_after, down_write_next, exit_made}}
+use Rattle.percpu_rwsem.specs.{Writers.{up_write_after, up_write_next}, declared.transitions.{Transition.Transition, TransitionNext.TransitionNext}}
 use Rattle.percpu_rwsem.specs.declared.writers.{DownWrite.DownWrite, DownWriteStep.DownWriteStep, UpWrite.UpWrite, UpWriteStep.UpWriteStep}
-use Rattle.gate_schedules.specs.operations.Ranks.{closed_rank, closing_rank, down_rank, exchange_rank, freeze_rank, rank, reopens_rank, up_rank}
-use Rattle.gate_schedules.specs.operations.Unblocked.{RankDecreases, FreezeIsUnblocked, IsUnblocked, LevelsAreFree, NobodyInside, NothingCounted, PhaseEnds}
-use Rattle.std.proofs.{Common.{ap, arith, inl, inr, refl, subst, ℕ, ◌+◌, ◌<◌, ◌∙◌, ◌≡◌, ◌≤◌}, lemmas.Bool.{cases_Bool, eq-eqb, Decides.eqb_tells}}
-use Rattle.std.specs.Prelude.{Err, Ok, nat_lt, ◌%◌, ◌*◌, ◌-◌}
+use Rattle.std.specs.Prelude.{◌%◌, ◌*◌, ◌-◌}
 
 module _ (w : Words) (d : DownWrite) where
   down_sections : (s : DownWriteStep) → (after_event w (down_write_next d s)).section ≡ w.section
@@ -35,12 +33,12 @@ up_sections w u s = grind arith
 up_umount : (w : Words) (u : UpWrite) (s : UpWriteStep) → (after_event w (up_write_next u s)).umount ≡ w.umount
 up_umount w u s = grind arith
 
--- what comes after an event of a freeze, with these words
+-- what comes after a step of a freeze, with these words
 abbrev FreezeFalls : Config → Words → ℕ → Next Freeze → Type 0
 FreezeFalls c after n next = RankDecreases (λ (y : Freeze). freeze_rank after y y.step) (λ (y : Freeze). FreezeIsUnblocked c after y.step) n next
 
 module _ (c : Config) (after : Words) (x : Freeze) (even : NobodyInside c after) where
-  -- after an event of the closing of a level
+  -- after a step of the closing of a level
   closes_falls : (d : DownWrite) (n : ℕ) (next : Next DownWrite) → (d.level ≡ 1 → after.umount ≡ 0) → LevelsAreFree c after (FreezeStep.Closes d) →
       DownFalls after d n next → FreezeFalls c after (n + closed_rank x d.level + 1) (after_closing x d.level next)
   closes_falls d n next lock levels h = grind arith
@@ -50,14 +48,14 @@ module _ (c : Config) (after : Words) (x : Freeze) (even : NobodyInside c after)
       FreezeFalls c after (closing_rank x + n + 11) (after_clearing x next)
   cleans_falls n next some levels h = grind arith
 
-  -- after an event by which the rcu_sync of a level is left that was given up
+  -- after a step by which the rcu_sync of a level is left that was given up
   undoes_falls : (level r code : ℕ) (transition : Transition) (n : TransitionNext) → (level ≡ 1 → after.umount ≡ 0) →
       RankDecreases (reopens_rank after) (λ (y : UpWrite). Unit {0}) (r + 3 * (level - 1) + 1)
       (exit_made (record { level = level; step = UpWriteStep.Exits transition }) n) →
       1 ≤ level → FreezeFalls c after (r + 3 * level) (after_undoing x level code n)
   undoes_falls level r code transition n lock h low = grind arith
 
-  -- after an event of the reopening of a level
+  -- after a step of the reopening of a level
   reopens_falls : (level r code : ℕ) (next : Next UpWrite) →
       RankDecreases (reopens_rank after) (λ (y : UpWrite). Unit {0}) (r + 3 * (level - 1) + 1) next →
       FreezeFalls c after (r + 3 * (level - 1) + 1) (after_reopening x level code next)

@@ -1,18 +1,21 @@
--- Each event of a freeze is one of each level, or leaves it.
-use Rattle.std.{proofs.Common.{◌≡◌, ℕ, ◌-◌, ◌<◌, refl, ap, arith, subst}, specs.Prelude.{◌==◌, if◌then◌else◌, Option, Some, None, Ok, Err}}
-use Rattle.access_model.specs.{Holders.nobody, Replies.map_next, declared.{errors.GateError.GateError, replies.{Next.Next, Reply.Reply}}}
-use Rattle.cpu_words.specs.{Hooks.HookAnswer, Words.Words}
-use Rattle.node_words.specs.{Nodes.{node_after}, Phases.{clears_at}, declared.marks.ClearMarks.{ClearMarks}}
+-- Each step of a freeze is one of each level, or leaves it.
+use Rattle.gate_schedules.proofs.Prelude.{Config, Err, FreezeStep, GateError, HookAnswer, IsGood, IsWithin, Next, None, Ok, Option, Phase, Reply}
+use Rattle.gate_schedules.proofs.Prelude.{Some, Stages, Words, World, after_step, ap, arith, found_at, if◌then◌else◌, map_next, phase_after, refl}
+use Rattle.gate_schedules.proofs.Prelude.{stage_role_of, subst, words_after, ℕ, ◌<◌, ◌==◌, ◌≡◌}
+use Rattle.std.proofs.Common.{◌-◌}
+use Rattle.access_model.specs.Holders.{nobody}
+use Rattle.node_words.specs.{Nodes.node_after, Phases.clears_at, declared.marks.ClearMarks.ClearMarks}
 use Rattle.freeze_levels.specs.{Freezes.{at_freeze, freeze_closes, freeze_fails, freeze_after, freeze_locked, after_clearing}, Holders.holders_in}
-use Rattle.freeze_levels.specs.declared.freezes.{Freeze.Freeze, FreezeStep.FreezeStep}
+use Rattle.freeze_levels.specs.declared.freezes.Freeze.{Freeze}
 use Rattle.freeze_laws.{proofs.stages.Facts.at_level, specs.{levels.Operations.down_write_role, stages.Roles.{has_position, is_full}}}
-use Rattle.percpu_rwsem.specs.{SyncWords.on_exit, Transitions.transition_after, Writers.sum_begun}
-use Rattle.percpu_rwsem.specs.declared.{transitions.Transition.Transition, writers.UpWriteStep.UpWriteStep}
-use Rattle.gate_world.specs.{Configs.IsWithin, Fits.DownWriteFits, Roles.{LevelPosition, closed_to, open_from, down_count_role}, Rules.{IsGood, Stages, stage_role_of}, Views.{phase_after, view_after}}
-use Rattle.gate_world.specs.{Worlds.{World, after_step, words_after, found_at, value_at}, declared.{config.Config.Config, work.Phase.Phase}}
+use Rattle.percpu_rwsem.specs.{SyncWords.on_exit, Transitions.transition_after, Writers.sum_begun, declared.transitions.Transition.Transition}
+use Rattle.percpu_rwsem.specs.declared.writers.UpWriteStep.{UpWriteStep}
+use Rattle.gate_world.specs.{Fits.DownWriteFits, Roles.{LevelPosition, closed_to, open_from, down_count_role}, Views.view_after, Worlds.value_at}
 use Rattle.gate_schedules.proofs.{frames.{Frames.SameLevelWords, OperationLaws.by_bool}, levels.DownWrite.entered_by_nobody}
-use Rattle.gate_schedules.proofs.levels.{GivenUp.summing_at, Runs.{levels_stay_runs, down_write_runs, up_write_runs, unblocked_runs}, PositionRoles.{closing_first, closing_next, closing_says, closing_says_none, stands_so}}
-use Rattle.gate_schedules.proofs.{levels.{LevelPositions.{HasPosition, LevelsRun}, FreezeCompletes.freezes_runs}, operations.freeze.Closes.{after_closing_stands, stands_then as stands_closing}}
+use Rattle.gate_schedules.proofs.levels.{FreezeCompletes.freezes_runs, GivenUp.summing_at, LevelPositions.{HasPosition, LevelsRun}}
+use Rattle.gate_schedules.proofs.levels.PositionRoles.{closing_first, closing_next, closing_says, closing_says_none, stands_so}
+use Rattle.gate_schedules.proofs.levels.Runs.{levels_stay_runs, down_write_runs, up_write_runs, unblocked_runs}
+use Rattle.gate_schedules.proofs.operations.freeze.Closes.{after_closing_stands, stands_then as stands_closing}
 use Rattle.gate_schedules.proofs.operations.freeze.{Events.stands_then as stands_reopening, Fits.found_cases, GivesUp.undone_stands}
 use Rattle.gate_schedules.proofs.operations.freeze.Stages.{freeze_stands, idle_stands, IsHere, here_fits, here_knows, here_stands}
 
@@ -34,14 +37,14 @@ found_stands : (x : Freeze) (some other : FreezeStep) (found : ℕ) (stand : Opt
 found_stands x some other found stand first second = grind arith
 
 module _ (c : Config) (lim : IsWithin c) (w : World) (good : IsGood c w) (t : ℕ) (lt : t < c.tasks) (x : Freeze) where
-  -- the event of this step is one of each level
+  -- the step of this program point is one of each level
   abbrev Runs : HookAnswer → FreezeStep → Type 0
   Runs hook s = LevelsRun c w (after_step w t (Phase.Freezes (at_freeze x s)) hook)
 
   abbrev words_then : HookAnswer → FreezeStep → Words
   words_then hook s = words_after w.words (Phase.Freezes (at_freeze x s)) hook
 
-  -- an event that leaves the words of the levels, and how the freeze stands with them
+  -- a step that leaves the words of the levels, and how the freeze stands with them
   leaves : (hook : HookAnswer) (s : FreezeStep) (stand : Option LevelPosition) → SameLevelWords w.words (words_then hook s) →
       HasPosition (w.views t).phase stand →
       HasPosition (phase_after (map_next Phase.Freezes (freeze_after x s (found_at w.words (Phase.Freezes (at_freeze x s)) hook) hook).0)) stand →
@@ -198,7 +201,7 @@ module _ (c : Config) (lim : IsWithin c) (w : World) (good : IsGood c w) (t : �
   freeze_run hook (FreezeStep.Releases answer) e =
       leaves hook (FreezeStep.Releases answer) None (assumption) (here_stands c lim w good t lt x (FreezeStep.Releases answer) e) idle_stands
 
--- each event of a freeze is one of each level
+-- each step of a freeze is one of each level
 pub freeze_runs : (c : Config) → IsWithin c → (w : World) → IsGood c w → (t : ℕ) → t < c.tasks → (hook : HookAnswer) (x : Freeze) →
     (w.views t).phase ≡ Some (Phase.Freezes x) → LevelsRun c w (after_step w t (Phase.Freezes x) hook)
 freeze_runs c lim w good t lt hook x e = freeze_run c lim w good t lt x hook x.step e

@@ -1,31 +1,33 @@
--- The events of a freeze on `umount`, the stage and the superblock's flag, and its clearing of marks.
-use Rattle.gate_world.specs.Roles.{freeze_owns}
-use Rattle.gate_world.specs.{Configs.{IsWithin, model_limits}, Fits.{Fits, FreezeFits, PhaseFits}, Roles.{LevelPosition, closed_to, open_from, freeze_holder_role}}
-use Rattle.gate_world.specs.{Roles.{freeze_stage_role, freeze_position, freeze_tree_role}, Rules.{Fitting, Holding, Holds, IsGood, OwnerHolds, Stages, Tree}}
-use Rattle.gate_world.specs.{Rules.{holder_role_of, holder_roles, owns, stage_role_of}, Shown.shown, Trees.{tree_bounds, tree_of, tree_role_of, tree_roles}}
-use Rattle.gate_world.specs.{Views.{held_of, view_with}, Worlds.World, declared.{config.Config.Config, views.View.View, work.Phase.Phase}}
-use Rattle.access_model.specs.{Holders.{held_by, is_unheld, nobody, with_holder}, declared.actions.{Action.Action, Holders.Holders}}
-use Rattle.access_model.specs.declared.{errors.GateError.GateError, replies.{Next.Next, Reply.Reply}}
-use Rattle.cpu_words.specs.{Hooks.HookAnswer, Words.Words, declared.{events.{Event.Event, Touch.Touch}, names.WordName.WordName}}
-use Rattle.finite_sums.specs.Sums.{total, update}
-use Rattle.freeze_levels.specs.{Freezes.{at_freeze, freeze_closes, freeze_fails}, Holders.{holders_in, word_of}, declared.freezes.Freeze.Freeze}
-use Rattle.freeze_levels.specs.declared.freezes.FreezeStep.{FreezeStep}
-use Rattle.freeze_levels.specs.holder_laws.{Events.{Finds, Freezes as FreezesHolders, HoldsFirst, Joins}, Roles.{Apart, Fills, Found, HolderRole, between, minds}}
-use Rattle.gate_schedules.proofs.frames.{Cases.both, Frames.SameLevelCounts, Holders.{holders_after, holders_at, holders_move, holders_stay, nobody_minds}}
-use Rattle.gate_schedules.proofs.{frames.Stages.{IsStageEvent, nobody_owns, owners_alike, stages_in}, levels.PositionRoles.{closing_first, closing_next, closing_says, closing_says_none, stands_so}}
-use Rattle.gate_schedules.proofs.{levels.{LevelPositions.{LevelsHold, HasPosition, left_world}, FreezeCompletes.freezes_all}, operations.freeze.Fits.found_cases}
-use Rattle.gate_schedules.proofs.{trees.worlds.Trees.{sealed_frozen, tree_after, tree_then}, writers.Owner.{lock_given, lock_taken, owner_stays}}
-use Rattle.gate_schedules.proofs.writers.Parts.{AsksWhere, IsWriter, SameAtMounts, WriterKeeps, WriterLaw, freezes_write, idle_writes}
-use Rattle.gate_schedules.proofs.writers.Stages.{opened_tree, stays_there, stored_levels, stored_tree, writer_beside, writer_holds, writer_stores}
-use Rattle.gated_tree.specs.Roles.{HasNoCharge, Out as OffTree, TreeState, sealed_by}
+-- The steps of a freeze on `umount`, the stage and the superblock's flag, and its clearing of marks.
+use Rattle.gate_schedules.proofs.Prelude.{Action, Config, Err, Fits, Fitting, FreezeStep, GateError, Holds, HookAnswer, IsGood, IsWithin, Next, None}
+use Rattle.gate_schedules.proofs.Prelude.{Ok, Option, Phase, PhaseFits, Reply, Result, Some, Stages, Touch, Tree, View, WordName, Words, World, ap}
+use Rattle.gate_schedules.proofs.Prelude.{arith, eqb_tells, held_of, if◌then◌else◌, inl, inr, owns, refl, shown, stage_role_of, subst, sym, total}
+use Rattle.gate_schedules.proofs.Prelude.{tree_bounds, tree_role_of, update, ℕ, ◌+◌, ◌<◌, ◌∙◌, ◌∷◌, ◌≡◌}
+use Rattle.gate_world.specs.{Configs.model_limits, Fits.FreezeFits, Roles.{freeze_owns, LevelPosition, closed_to, open_from, freeze_holder_role}}
+use Rattle.gate_world.specs.{Roles.{freeze_stage_role, freeze_position, freeze_tree_role}, Rules.{Holding, OwnerHolds, holder_role_of, holder_roles}}
+use Rattle.gate_world.specs.{Trees.{tree_of, tree_roles}, Views.view_with}
+use Rattle.access_model.specs.{Holders.{held_by, is_unheld, nobody, with_holder}, declared.actions.Holders.Holders}
+use Rattle.cpu_words.specs.declared.events.Event.{Event}
 use Rattle.freeze_levels.proofs.holder_laws.{HolderLaws.{finds_some, roles_tell}, Words.{is_nobody, none_held, unpack_pack}}
-use Rattle.freeze_laws.proofs.stages.Facts.{at_level}
-use Rattle.freeze_laws.specs.stages.Events.{Advances, Begins, Completes, Fails, GivesUp as GivesUpStage, FreezesAtOnce, Happens, HoldsOne, LetsGo, LoadsSb, LoadsStage as FindsStage}
-use Rattle.freeze_laws.specs.stages.Events.{Locks as LocksStage, LocksAgain as LocksStageAgain, Recalls, Releases as ReleasesStage, StageEvent, Stays, Syncs}
-use Rattle.freeze_laws.specs.stages.{Events.{action_of as stage_action_of, playing}, Roles.{Before, HasPassed, KnowsStage, Owning, Reopening, StageRole, is_full}}
-use Rattle.std.proofs.{Common.{ap, arith, inl, inr, refl, subst, sym, ℕ, ◌+◌, ◌<◌, ◌∙◌, ◌≡◌}, lemmas.Bool.Decides.eqb_tells}
-use Rattle.std.specs.Prelude.{Err, None, Ok, Option, Result, Some, false, if◌then◌else◌, true, ◌∷◌}
-use Rattle.gate_schedules.specs.trees.Events.{Event as TreeEvent, Leaves, Seals, turned}
+use Rattle.freeze_levels.specs.{Freezes.{at_freeze, freeze_closes, freeze_fails}, Holders.{holders_in, word_of}, declared.freezes.Freeze.Freeze}
+use Rattle.freeze_levels.specs.holder_laws.{Events.{Finds, Freezes as FreezesHolders, HoldsFirst, Joins}, Roles.{Apart, Fills, Found, HolderRole}}
+use Rattle.freeze_levels.specs.holder_laws.Roles.{between, minds}
+use Rattle.gate_schedules.proofs.frames.{Cases.both, Frames.SameLevelCounts, Holders.{holders_after, holders_at, holders_move, holders_stay}}
+use Rattle.gate_schedules.proofs.frames.{Holders.nobody_minds, Stages.{IsStageEvent, nobody_owns, owners_alike, stages_in}}
+use Rattle.gate_schedules.proofs.levels.{FreezeCompletes.freezes_all, LevelPositions.{LevelsHold, HasPosition, left_world}}
+use Rattle.gate_schedules.proofs.levels.PositionRoles.{closing_first, closing_next, closing_says, closing_says_none, stands_so}
+use Rattle.gate_schedules.proofs.{operations.freeze.Fits.found_cases, trees.worlds.Trees.{sealed_frozen, tree_after, tree_then}}
+use Rattle.gate_schedules.proofs.writers.{Owner.{lock_given, lock_taken, owner_stays}, Parts.{AsksWhere, IsWriter, SameAtMounts, WriterKeeps}}
+use Rattle.gate_schedules.proofs.writers.{Parts.{WriterLaw, freezes_write, idle_writes}, Stages.{opened_tree, stays_there, stored_levels}}
+use Rattle.gate_schedules.{proofs.writers.Stages.{stored_tree, writer_beside, writer_holds, writer_stores}, specs.trees.Events.Event as TreeEvent}
+use Rattle.gate_schedules.specs.trees.Events.{Leaves, Seals, turned}
+use Rattle.gated_tree.specs.Roles.{HasNoCharge, Out as OffTree, TreeState, sealed_by}
+use Rattle.freeze_laws.{proofs.stages.Facts.at_level, specs.stages.Events.{Advances, Begins, Completes, Fails, GivesUp as GivesUpStage}}
+use Rattle.freeze_laws.specs.stages.Events.{FreezesAtOnce, Happens, HoldsOne, LetsGo, LoadsSb, LoadsStage as FindsStage, Locks as LocksStage}
+use Rattle.freeze_laws.specs.stages.Events.{LocksAgain as LocksStageAgain, Recalls, Releases as ReleasesStage, StageEvent, Stays, Syncs}
+use Rattle.freeze_laws.specs.stages.{Events.{action_of as stage_action_of, playing}, Roles.{Before, HasPassed, KnowsStage, Owning, Reopening}}
+use Rattle.freeze_laws.specs.stages.Roles.{StageRole, is_full}
+use Rattle.std.specs.Prelude.{false, true}
 
 pub freeze_stands : (x : Freeze) → HasPosition (Some (Phase.Freezes x)) (freeze_position x.step)
 freeze_stands x = record { counts = λ i one three. refl; syncs = λ i one three. refl; outside = refl }
@@ -38,7 +40,7 @@ module _ (c : Config) (lim : IsWithin c) (w : World) (good : IsGood c w) (t : �
   abbrev pub IsHere : FreezeStep → Type 0
   IsHere s = (w.views t).phase ≡ Some (Phase.Freezes (at_freeze x s))
 
-  -- the law of its event
+  -- the law of its step
   abbrev pub Keeps : HookAnswer → FreezeStep → Type 0
   Keeps hook s = WriterKeeps c w t hook (Phase.Freezes (at_freeze x s))
 
@@ -46,7 +48,7 @@ module _ (c : Config) (lim : IsWithin c) (w : World) (good : IsGood c w) (t : �
   abbrev pub FitsHere : FreezeStep → Type 0
   FitsHere s = PhaseFits c t (held_of (w.views t)) (Phase.Freezes (at_freeze x s))
 
-  -- so it does in a good world
+  -- so it does in a good state
   pub here_fits : (s : FreezeStep) → IsHere s → FitsHere s
   here_fits s e = subst (Fits c t (held_of (w.views t))) e (good Fitting t lt)
 
@@ -66,7 +68,7 @@ module _ (c : Config) (lim : IsWithin c) (w : World) (good : IsGood c w) (t : �
   pub goes_to : (s s' : FreezeStep) → IsHere s → FreezeFits c x.holder s' → FitsHere s'
   goes_to s s' e fit = let f : FitsHere s = here_fits s e in (f.0, f.1, f.2, f.3, f.4, fit)
 
-  -- the view after an event of this word and touch, after which this step comes
+  -- the view after a step of this word and touch, after which this program point comes
   abbrev pub view_at : WordName × Touch → ℕ → HookAnswer → FreezeStep → Option Action → View
   view_at n value hook s action = view_with (w.views t) n value hook (Next.Go (Phase.Freezes (at_freeze x s)), action)
 
@@ -283,7 +285,7 @@ module _ (c : Config) (lim : IsWithin c) (w : World) (good : IsGood c w) (t : �
       at_level (λ i. IsHere (FreezeStep.GivesUp i code) → Keeps hook (FreezeStep.GivesUp i code))
       (gives_up_first hook code, gives_up_second hook code, gives_up_third hook code) level f.5.0 f.5.1 e
 
-  -- an event that leaves all words but `umount`, after which this step comes
+  -- a step that leaves all words but `umount`, after which this program point comes
   beside : (s s' : FreezeStep) (e : IsHere s) (n value : ℕ) (word : WordName) (touch : Touch) (hook : HookAnswer) (stand : Option LevelPosition)
       (kind : StageEvent) →
       let v : View = view_at (word, touch) value hook s' None in

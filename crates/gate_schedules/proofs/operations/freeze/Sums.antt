@@ -1,22 +1,20 @@
--- What the trace of an operation says while it closes a level: which events are added to it, and why it waits.
-use Rattle.std.proofs.Common.{◌≡◌, ℕ, suc, ◌+◌, ◌<◌, ◌⊎◌, true, refl, ap, ◌∙◌, subst, inl, inr, add-one, arith}
-use Rattle.std.proofs.lemmas.Bool.{ltb-true, ltb-false, cases_Bool, Decides.eqb_tells}
-use Rattle.std.specs.Prelude.{nat_lt, Option, Some, None, List, ◌∷◌}
-use Rattle.access_model.specs.declared.{actions.Action.Action, replies.Next.Next}
-use Rattle.cpu_words.specs.{Hooks.HookAnswer, Touches.{wrap_add, event_of, found_by}, declared.sums.Sum.Sum}
-use Rattle.percpu_rwsem.specs.{SyncWords.{unpack, on_enter, on_callback}, Transitions.transition_after}
-use Rattle.percpu_rwsem.specs.Writers.{down_write_next, down_write_after, enter_step, callback_step, passed_awaited, sum_begun}
-use Rattle.percpu_rwsem.specs.declared.{grace.Grace.{Grace}, sync_word.SyncWord.{SyncWord}, transitions.TransitionNext.{TransitionNext}}
-use Rattle.percpu_rwsem.specs.declared.writers.{DownWrite.DownWrite, DownWriteStep.DownWriteStep}
-use Rattle.gate_world.specs.Configs.{IsWithin}
-use Rattle.gate_world.specs.traces.Found.{found_sealed, found_complete, stored_stage, cleans, newest, finds_readers, IsLevelSum, sum_of_newest, FoundInside, level_opened}
-use Rattle.gate_world.specs.{Views.with_hook, declared.{config.Config.Config, views.Traced.Traced}}
+-- What the trace of an operation says while it closes a level: which steps are added to it, and why it waits.
+use Rattle.gate_schedules.proofs.Prelude.{Action, Config, HookAnswer, IsWithin, List, Next, None, Option, Some, Traced, ap, arith, cases_Bool}
+use Rattle.gate_schedules.proofs.Prelude.{eqb_tells, found_by, inl, inr, nat_lt, refl, subst, suc, true, ℕ, ◌+◌, ◌<◌, ◌∙◌, ◌∷◌, ◌≡◌}
+use Rattle.std.proofs.{Common.{◌⊎◌, add-one}, lemmas.Bool.{ltb-true, ltb-false}}
+use Rattle.cpu_words.specs.{Touches.{wrap_add, event_of}, declared.sums.Sum.Sum}
+use Rattle.percpu_rwsem.specs.{SyncWords.{unpack, on_enter, on_callback}, Transitions.transition_after, Writers.{down_write_next, down_write_after}}
+use Rattle.percpu_rwsem.specs.{Writers.{enter_step, callback_step, passed_awaited, sum_begun}, declared.grace.Grace.Grace}
+use Rattle.percpu_rwsem.specs.declared.{sync_word.SyncWord.SyncWord, transitions.TransitionNext.TransitionNext, writers.DownWrite.DownWrite}
+use Rattle.percpu_rwsem.specs.declared.writers.DownWriteStep.{DownWriteStep}
+use Rattle.gate_world.specs.{Views.with_hook, traces.Found.{found_sealed, found_complete, stored_stage, cleans, newest, finds_readers, IsLevelSum}}
+use Rattle.gate_world.specs.traces.Found.{sum_of_newest, FoundInside, level_opened}
 
 -- the closing of this level, among the tasks and processors of a configuration, at a step
 abbrev pub closing_at : Config → ℕ → DownWriteStep → DownWrite
 closing_at c i s = record { level = i; tasks = c.tasks; processors = c.processors; step = s }
 
--- the sum of a step under way is what the newest events found
+-- the sum of a program point under way is what the newest steps found
 abbrev pub ClosingSays : Config → ℕ → DownWriteStep → List Traced → Type 0
 ClosingSays c i (DownWriteStep.Sums sum) trace =
     (sum.words < c.processors) × IsLevelSum i sum.words trace × (sum.total ≡ sum_of_newest sum.words trace)
@@ -26,11 +24,11 @@ ClosingSays c i s trace = Unit {0}
 abbrev pub ClosingGoes : Config → ℕ → List Traced → DownWrite → Type 0
 ClosingGoes c i trace d = (s : DownWriteStep) × (d ≡ closing_at c i s) × ClosingSays c i s trace
 
--- the newest event found readers or another writer, or the newest events a sum other than 0
+-- the newest step found readers or another writer, or the newest steps a sum other than 0
 abbrev pub FoundOthers : Config → List Traced → Type 0
 FoundOthers c trace = (newest finds_readers trace ≡ true) ⊎ FoundInside c.processors trace
 
--- What the trace says by what comes after an event of the closing of a level, which added this: only the last event adds an action, the
+-- What the trace says by what comes after a step of the closing of a level, which added this: only the last step adds an action, the
 -- pass of the level.
 abbrev pub ClosingNext : Config → ℕ → List Traced → Next DownWrite → Option Action → Type 0
 ClosingNext c i trace (Next.Go d) action = ClosingGoes c i trace d × (action ≡ None)
@@ -44,19 +42,19 @@ FoundAsBefore trace earlier =
     (found_complete trace ≡ found_complete earlier) × (level_opened trace ≡ level_opened earlier)
 
 module _ (c : Config) (lim : IsWithin c) (i value : ℕ) (hook : HookAnswer) (earlier : List Traced) where
-  -- the trace after the event of a step
+  -- the trace after the step at a program point
   abbrev pub closing_trace : DownWriteStep → List Traced
   closing_trace s =
       with_hook (event_of (down_write_next (closing_at c i s) s).0 (down_write_next (closing_at c i s) s).1 value) hook ∷ earlier
 
-  -- what the event of a step found
+  -- what the step at a program point found
   abbrev pub closing_found : DownWriteStep → ℕ
   closing_found s = found_by (down_write_next (closing_at c i s) s).1 value
 
   pub closing_leaves : (s : DownWriteStep) → FoundAsBefore (closing_trace s) earlier
   closing_leaves s = grind arith
 
-  -- what the trace says after the event of a step
+  -- what the trace says after the step at a program point
   abbrev AfterClosing : DownWriteStep → Type 0
   AfterClosing s =
       ClosingNext c i (closing_trace s) (down_write_after (closing_at c i s) s (closing_found s)).0

@@ -1,24 +1,23 @@
 -- Traces of a freeze of the superblock.
-use Rattle.std.proofs.Common.{◌≡◌, ℕ, zero, suc, ◌-◌, ◌≤◌, Bool, true, false, refl, sym, ap, ◌∙◌, subst, inl, inr, arith}
-use Rattle.std.proofs.lemmas.{Bool.{eq-eqb, ne_eqb, cases_Bool, Decides.eqb_tells}, Nat.Bits.and_pow}
-use Rattle.std.specs.Prelude.{◌==◌, if◌then◌else◌, Option, Result, Ok, Err, List, [], ◌∷◌, ◌++◌, bit_and}
-use Rattle.access_model.specs.{Holders.nobody, Replies.map_next}
-use Rattle.access_model.specs.declared.{actions.{Action.Action, Holder.Holder}, errors.GateError.GateError, replies.{Next.Next, Reply.Reply}}
-use Rattle.cpu_words.specs.{Hooks.HookAnswer, Touches.{event_of, found_by}, declared.{events.Touch.Touch, names.WordName.WordName}}
-use Rattle.node_words.specs.{Nodes.{dirty_in, node_after}, Phases.{clears_at}, declared.marks.ClearMarks.{ClearMarks}}
+use Rattle.gate_schedules.proofs.Prelude.{Action, Bool, Config, Err, FreezeStep, GateError, HookAnswer, IsWithin, List, Next, Ok, Op, Option, Phase}
+use Rattle.gate_schedules.proofs.Prelude.{Reply, Result, Touch, Traced, WordName, [], ap, arith, cases_Bool, eq-eqb, eqb_tells, false, found_by}
+use Rattle.gate_schedules.proofs.Prelude.{if◌then◌else◌, inl, inr, map_next, refl, subst, suc, sym, true, zero, ℕ, ◌==◌, ◌∙◌, ◌∷◌, ◌≡◌, ◌≤◌}
+use Rattle.std.{proofs.{Common.◌-◌, lemmas.{Bool.ne_eqb, Nat.Bits.and_pow}}, specs.Prelude.bit_and}
+use Rattle.access_model.specs.{Holders.nobody, declared.actions.Holder.Holder}
+use Rattle.cpu_words.specs.Touches.{event_of}
+use Rattle.node_words.specs.{Nodes.{dirty_in, node_after}, Phases.clears_at, declared.marks.ClearMarks.ClearMarks}
 use Rattle.mount_counts.specs.Phases.{has_flag}
 use Rattle.percpu_rwsem.specs.{SyncWords.on_exit, Transitions.{transition_next, transition_after}, Writers.{down_write_after, exit_made}}
-use Rattle.percpu_rwsem.specs.declared.transitions.{Transition.Transition, TransitionNext.TransitionNext}
-use Rattle.percpu_rwsem.specs.declared.writers.{DownWrite.DownWrite, DownWriteStep.DownWriteStep, UpWrite.UpWrite, UpWriteStep.UpWriteStep}
-use Rattle.freeze_levels.specs.{Freezes.{after_closing, after_clearing, after_reopening, after_undoing, at_freeze, closing_waits}, Levels.reopening}
-use Rattle.freeze_levels.specs.declared.freezes.{Freeze.Freeze, FreezeStep.FreezeStep}
-use Rattle.gate_world.specs.{Operations.{two_levels_closed, all_levels_closed, failed_adds, word_decided}, Configs.IsWithin, traces.TraceStates.{IsTrace, state_of_trace}}
-use Rattle.gate_world.specs.traces.Found.{found_sealed, found_complete, gave_up, level_opened, stored_stage, cleans, ReadAnswer}
-use Rattle.gate_world.specs.{traces.Traces.{actions_of, IsHonestAnswer, Tells, IsShort, most_events}, Views.{actions_after, with_hook}}
-use Rattle.gate_world.specs.declared.{config.Config.Config, operations.Op.Op, views.Traced.Traced, work.Phase.Phase}
-use Rattle.gate_schedules.proofs.operations.freeze.Sums.{ClosingSays, ClosingNext, FoundAsBefore, closing_at, closing_trace, closing_found, closing_leaves}
-use Rattle.gate_schedules.proofs.operations.freeze.Sums.{closing_event}
-use Rattle.gate_schedules.proofs.traces.{Cleans.{LeaveAccesses, cleans_leave}, TraceInvariant.{InvariantAfter, InvariantAfterStep, IsInductive, event_at, tells, is_short}}
+use Rattle.percpu_rwsem.specs.declared.{transitions.{Transition.Transition, TransitionNext.TransitionNext}, writers.DownWrite.DownWrite}
+use Rattle.percpu_rwsem.specs.declared.writers.{DownWriteStep.DownWriteStep, UpWrite.UpWrite, UpWriteStep.UpWriteStep}
+use Rattle.freeze_levels.specs.Freezes.{after_closing, after_clearing, after_reopening, after_undoing, at_freeze, closing_waits}
+use Rattle.freeze_levels.specs.declared.freezes.Freeze.{Freeze}
+use Rattle.gate_world.specs.{Operations.{two_levels_closed, all_levels_closed, failed_adds, word_decided}, Views.{actions_after, with_hook}}
+use Rattle.gate_world.specs.traces.{Found.{found_sealed, found_complete, gave_up, level_opened, stored_stage, cleans, ReadAnswer}, Traces.actions_of}
+use Rattle.gate_world.specs.traces.Traces.{IsHonestAnswer}
+use Rattle.gate_schedules.proofs.operations.freeze.Sums.{ClosingSays, ClosingNext, FoundAsBefore, closing_at, closing_trace, closing_found}
+use Rattle.gate_schedules.proofs.{operations.freeze.Sums.{closing_leaves, closing_event}, traces.Cleans.{LeaveAccesses, cleans_leave}}
+use Rattle.gate_schedules.proofs.traces.TraceInvariant.{InvariantAfter, InvariantAfterStep, IsInductive, event_at, TraceLaws, traces_tell}
 
 -- a freeze of the superblock by a task, at this step
 abbrev pub freeze_of : Config → ℕ → Holder → FreezeStep → Freeze
@@ -69,7 +68,7 @@ GaveUpSay level code trace added =
     (1 ≤ level) × (level ≤ 3) × (reopened (level - 1) (Action.Stage 0 ∷ added) ≡ failed_adds level trace) × (level_opened trace ≡ level) ×
     ReadAnswer (WordName.Block level) (Err code) trace
 
--- while a level is reopened, it is closed until its first event
+-- while a level is reopened, it is closed until its first step
 abbrev IsReopening : ℕ → UpWriteStep → List Traced → List Action → Type 0
 IsReopening (suc i) UpWriteStep.ClearsBlock trace added = AreLeft (suc i) trace added
 IsReopening (suc i) (UpWriteStep.Exits transition) trace added = AreLeft i trace added
@@ -128,16 +127,7 @@ mark_bit word =
 -- what is added before a level is closed stays so while the trace leaves what it speaks of
 closing_stays : (i : ℕ) (trace earlier : List Traced) (added : List Action) → FoundAsBefore trace earlier → IsClosing i earlier added →
     IsClosing i trace added
-closing_stays zero trace earlier added l h = absurd h
-closing_stays (suc zero) trace earlier added l h = ((h.0.0, (l.0 ∙ h.0.1.0, l.3 ∙ h.0.1.1), l.1 ∙ h.0.2, l.4 ∙ h.0.3), l.2 ∙ h.1)
-closing_stays (suc (suc zero)) trace earlier added l h = ((h.0.0, (l.0 ∙ h.0.1.0, l.3 ∙ h.0.1.1), l.1 ∙ h.0.2, l.4 ∙ h.0.3), l.2 ∙ h.1)
-closing_stays (suc (suc (suc zero))) trace earlier added l h = (
-  h.0 ∙ ap (λ (marks : List Action). Action.Stage 3 ∷ (marks ++ (Action.Pass 2 ∷ (Action.Stage 2 ∷ (Action.Pass 1 ∷ (Action.Stage 1 ∷ [])))))) (sym l.2),
-  (l.0 ∙ h.1.0, l.3 ∙ h.1.1),
-  l.1 ∙ h.2,
-  l.4 ∙ h.3,
-)
-closing_stays (suc (suc (suc (suc i)))) trace earlier added l h = absurd h
+closing_stays i trace earlier added l h = grind arith
 
 -- what a hook that failed leaves is the same while the trace leaves what it speaks of
 failed_same : (g : ℕ) (trace earlier : List Traced) → stored_stage 3 trace ≡ stored_stage 3 earlier → cleans trace ≡ cleans earlier →
@@ -162,26 +152,20 @@ closing_says : (c : Config) (t : ℕ) (holder : Holder) (i : ℕ) (s : DownWrite
     (action : Option Action) → IsClosing i (e ∷ earlier) added → ClosingNext c i (e ∷ earlier) n action →
     InvariantAfter (FreezeAt c t holder) c (Op.Freeze holder) (e ∷ earlier)
     (map_next Phase.Freezes (after_closing (freeze_of c t holder (FreezeStep.Closes (closing_at c i s))) i n)) (actions_after action added)
-closing_says c t holder i s e earlier added (Next.Wait d) action level h =
-    let x : Freeze = freeze_of c t holder (FreezeStep.Closes (closing_at c i s)) in
-    either_waits (λ z. InvariantAfter (FreezeAt c t holder) c (Op.Freeze holder) (e ∷ earlier) (Next.Wait (Phase.Freezes (at_freeze x z)))
-    (actions_after action added)) d d.step
-    (wait_says c t holder i x e earlier added d action (FreezeStep.Closes d) refl (λ k. k) level h)
-    (wait_says c t holder i x e earlier added d action (FreezeStep.Waits d) refl (λ k. k) level h)
-closing_says c t holder i s e earlier added n action level h = grind arith
+closing_says c t holder i s e earlier added n action level h = grind (arith, closing_at, either_waits, wait_says)
 
--- an event that gives `umount` back leaves what is told
+-- a step that gives `umount` back leaves what is told
 lock_leaves : (c : Config) (holder : Holder) (answer : Result Reply GateError) (value : ℕ) (hook : HookAnswer) (earlier : List Traced)
     (added : List Action) → Answers c holder answer earlier added →
     Answers c holder answer (with_hook (event_of WordName.Umount (Touch.Store 0) value) hook ∷ earlier) added
 lock_leaves c holder answer value hook earlier added h = grind arith
 
 module _ (c : Config) (lim : IsWithin c) (t : ℕ) (holder : Holder) (value : ℕ) (earlier : List Traced) (added : List Action) where
-  -- the trace after the event of a step
+  -- the trace after the step at a program point
   abbrev longer : HookAnswer → FreezeStep → List Traced
   longer hook step = with_hook (event_at (freeze_at c t holder step) value hook) hook ∷ earlier
 
-  -- what the trace says after the event of a step
+  -- what the trace says after the step at a program point
   abbrev TraceAfterStep : HookAnswer → FreezeStep → Type 0
   TraceAfterStep hook step = InvariantAfterStep (FreezeAt c t holder) c (Op.Freeze holder) (freeze_at c t holder step) value hook earlier added
 
@@ -202,7 +186,7 @@ module _ (c : Config) (lim : IsWithin c) (t : ℕ) (holder : Holder) (value : �
   loads_superblock : (hook : HookAnswer) → StepSays c holder FreezeStep.LoadsSuperblock earlier added → TraceAfterStep hook FreezeStep.LoadsSuperblock
   loads_superblock hook h = grind arith
 
-  -- an event of the closing of a level
+  -- a step of the closing of a level
   closes : (hook : HookAnswer) (d : DownWrite) → ClosesSay c d earlier added → TraceAfterStep hook (FreezeStep.Closes d)
   closes hook d h =
       let i : ℕ = h.0 in
@@ -235,46 +219,12 @@ module _ (c : Config) (lim : IsWithin c) (t : ℕ) (holder : Holder) (value : �
       ]
 
   sets_fs : (hook : HookAnswer) → StepSays c holder FreezeStep.SetsFs earlier added → TraceAfterStep hook FreezeStep.SetsFs
-  sets_fs (Ok answer) h = (
-    FreezeStep.Closes (closing_at c 3 (DownWriteStep.Enters Transition.Loads)),
-    refl,
-    (3, DownWriteStep.Enters Transition.Loads, refl, (ap (λ (l : List Action). Action.Stage 3 ∷ l) h.0, h.1, refl, h.3), tt),
-  )
-  sets_fs (Err code) h =
-      let trace : List Traced = longer (Err code) FreezeStep.SetsFs in (
-        FreezeStep.Reopens (reopening 2) code,
-        refl,
-        (
-          2,
-          UpWriteStep.ClearsBlock,
-          refl,
-          (
-            subst (λ g. reopened 2 (Action.Stage 0 ∷ added) ≡ failed_adds g trace) (sym h.3)
-                (rw h.2 (ap (λ (l : List Action). Action.Reopen 1 ∷ (Action.Reopen 2 ∷ (Action.Stage 0 ∷ l))) h.0)),
-            omega arith,
-          ),
-          subst (λ g. ReadAnswer (word_decided g) (Err code) trace) (sym h.3) (inl (refl, refl, refl)),
-        ),
-      )
+  sets_fs (Ok answer) h = grind arith
+  sets_fs (Err code) h = grind arith
 
   sets_complete : (hook : HookAnswer) → StepSays c holder FreezeStep.SetsComplete earlier added → TraceAfterStep hook FreezeStep.SetsComplete
-  sets_complete (Ok answer) h = (FreezeStep.Holds nobody, refl, rw (h.1.1, h.1.0) (ap (λ (l : List Action). Action.Stage 4 ∷ l) h.0))
-  sets_complete (Err code) h =
-      let trace : List Traced = longer (Err code) FreezeStep.SetsComplete in (
-        FreezeStep.Reopens (reopening 3) code,
-        refl,
-        (
-          3,
-          UpWriteStep.ClearsBlock,
-          refl,
-          (
-            subst (λ g. reopened 3 (Action.Stage 0 ∷ added) ≡ failed_adds g trace) (sym h.3)
-                (rw h.2 (ap (λ (l : List Action). Action.Reopen 1 ∷ (Action.Reopen 2 ∷ (Action.Reopen 3 ∷ (Action.Stage 0 ∷ l)))) h.0)),
-            omega arith,
-          ),
-          subst (λ g. ReadAnswer (word_decided g) (Err code) trace) (sym h.3) (inl (refl, refl, refl)),
-        ),
-      )
+  sets_complete (Ok answer) h = grind arith
+  sets_complete (Err code) h = grind arith
 
   -- a level is being left, or it is left and the level below it comes
   leaves_on : (i code : ℕ) (from : Transition) (trace : List Traced) (n : TransitionNext) → AreLeft i trace added →
@@ -284,23 +234,9 @@ module _ (c : Config) (lim : IsWithin c) (t : ℕ) (holder : Holder) (value : �
       (after_reopening (freeze_of c t holder (FreezeStep.Reopens (record { level = suc i; step = UpWriteStep.Exits from }) code)) (suc i) code
       (exit_made (record { level = suc i; step = UpWriteStep.Exits from }) n)))
       added
-  leaves_on i code from trace (TransitionNext.More more) h said = (
-    FreezeStep.Reopens (record { level = suc i; step = UpWriteStep.Exits more }) code,
-    refl,
-    (suc i, UpWriteStep.Exits more, refl, h, said),
-  )
-  leaves_on i code from trace TransitionNext.Undefined h said = (
-    FreezeStep.Reopens (record { level = suc i; step = UpWriteStep.Exits Transition.Loads }) code,
-    refl,
-    (suc i, UpWriteStep.Exits Transition.Loads, refl, h, said),
-  )
-  leaves_on zero code from trace (TransitionNext.Made state) h said = (FreezeStep.Releases (Err (GateError.Hook code)), refl, (h.0, said))
-  leaves_on (suc i) code from trace (TransitionNext.Made state) h said =
-      let down : suc (suc i) - 1 ≡ suc i = omega arith in
-      let some : (suc i == 0) ≡ false = ne_eqb (suc i) 0 (λ e. absurd (omega (arith, e))) in
-      rw (down, some) (FreezeStep.Reopens (reopening (suc i)) code, refl, (suc i, UpWriteStep.ClearsBlock, refl, h, said))
+  leaves_on i code from trace n h said = grind arith
 
-  -- an event on a level's words leaves what is left, and which answer was read
+  -- a step on a level's words leaves what is left, and which answer was read
   still_left : (hook : HookAnswer) (code i n : ℕ) (transition : Transition) → AreLeft n earlier added →
       ReadAnswer (word_decided (gave_up earlier)) (Err code) earlier →
       let trace : List Traced = with_hook (event_of (transition_next i transition).0 (transition_next i transition).1 value) hook ∷ earlier in
@@ -311,10 +247,7 @@ module _ (c : Config) (lim : IsWithin c) (t : ℕ) (holder : Holder) (value : �
   -- a level is reopened
   reopens : (hook : HookAnswer) (i : ℕ) → AreLeft (suc i) earlier added →
       AreLeft i (with_hook (event_of (WordName.Block (suc i)) (Touch.Store 0) value) hook ∷ earlier) (Action.Reopen (suc i) ∷ added)
-  reopens hook zero h = (h.0 ∙ failed_same (gave_up earlier) _ earlier refl refl, omega arith)
-  reopens hook (suc zero) h = (h.0 ∙ failed_same (gave_up earlier) _ earlier refl refl, omega arith)
-  reopens hook (suc (suc zero)) h = (h.0 ∙ failed_same (gave_up earlier) _ earlier refl refl, omega arith)
-  reopens hook (suc (suc (suc i))) h = absurd (omega (arith, h.1))
+  reopens hook i h = grind (arith, failed_same)
 
   reopening_event : (hook : HookAnswer) (code i : ℕ) (s : UpWriteStep) → IsReopening i s earlier added →
       ReadAnswer (word_decided (gave_up earlier)) (Err code) earlier → TraceAfterStep hook (FreezeStep.Reopens (record { level = i; step = s }) code)
@@ -323,13 +256,9 @@ module _ (c : Config) (lim : IsWithin c) (t : ℕ) (holder : Holder) (value : �
       let now = still_left hook code (suc i) i transition h said in
       leaves_on i code transition (longer hook (FreezeStep.Reopens (record { level = suc i; step = UpWriteStep.Exits transition }) code))
       (transition_after on_exit transition (found_by (transition_next (suc i) transition).1 value)) now.0 now.1
-  reopening_event hook code (suc i) UpWriteStep.ClearsBlock h said = (
-    FreezeStep.Reopens (record { level = suc i; step = UpWriteStep.Exits Transition.Loads }) code,
-    refl,
-    (suc i, UpWriteStep.Exits Transition.Loads, refl, reopens hook i h, inr said),
-  )
+  reopening_event hook code (suc i) UpWriteStep.ClearsBlock h said = grind (arith, reopens)
 
-  -- where the hook has answered Ok, an event of a freeze that waits is one of the closing of its level
+  -- where the hook has answered Ok, a step of a freeze that waits is one of the closing of its level
   waits_on : (answer : Unit {0}) (d : DownWrite) → ClosesSay c d earlier added → TraceAfterStep (Ok answer) (FreezeStep.Waits d)
   waits_on answer d h =
       let i : ℕ = h.0 in
@@ -346,19 +275,7 @@ module _ (c : Config) (lim : IsWithin c) (t : ℕ) (holder : Holder) (value : �
   -- else it gives the level up
   unblocks : (code i : ℕ) → IsClosing i earlier added →
       GaveUpSay i code (with_hook (event_of (WordName.Block i) (Touch.Store 0) value) (Err code) ∷ earlier) added
-  unblocks code zero h = absurd h
-  unblocks code (suc zero) h =
-      (omega arith, omega arith, ap (λ (l : List Action). Action.Stage 0 ∷ l) h.0.0, refl, inl (refl, refl, refl))
-  unblocks code (suc (suc zero)) h =
-      (omega arith, omega arith, ap (λ (l : List Action). Action.Reopen 1 ∷ (Action.Stage 0 ∷ l)) h.0.0, refl, inl (refl, refl, refl))
-  unblocks code (suc (suc (suc zero))) h = (
-    omega arith,
-    omega arith,
-    ap (λ (l : List Action). Action.Reopen 1 ∷ (Action.Reopen 2 ∷ (Action.Stage 0 ∷ l))) h.0,
-    refl,
-    inl (refl, refl, refl),
-  )
-  unblocks code (suc (suc (suc (suc i)))) h = absurd h
+  unblocks code i h = grind arith
 
   -- the rcu_sync of the level is being left, or it is left
   undone_on : (level code : ℕ) (x : Freeze) (trace : List Traced) (n : TransitionNext) →
@@ -375,15 +292,8 @@ module _ (c : Config) (lim : IsWithin c) (t : ℕ) (holder : Holder) (value : �
 
   undoes : (hook : HookAnswer) (level code : ℕ) (transition : Transition) → GaveUpSay level code earlier added →
       TraceAfterStep hook (FreezeStep.Undoes level transition code)
-  undoes hook level code Transition.Loads h =
-      undone_on level code (freeze_of c t holder (FreezeStep.Undoes level Transition.Loads code))
-      (longer hook (FreezeStep.Undoes level Transition.Loads code)) (transition_after on_exit Transition.Loads value) (λ z. refl)
-      (h.0, h.1, h.2 ∙ failed_same level _ earlier refl refl, h.3, inr h.4)
-  undoes hook level code (Transition.Exchanges from to) h =
-      undone_on level code (freeze_of c t holder (FreezeStep.Undoes level (Transition.Exchanges from to) code))
-      (longer hook (FreezeStep.Undoes level (Transition.Exchanges from to) code))
-      (transition_after on_exit (Transition.Exchanges from to) (found_by (transition_next level (Transition.Exchanges from to)).1 value)) (λ z. refl)
-      (h.0, h.1, h.2 ∙ failed_same level _ earlier refl refl, h.3, inr h.4)
+  undoes hook level code Transition.Loads h = grind (arith, undone_on)
+  undoes hook level code (Transition.Exchanges from to) h = grind (arith, undone_on)
 
   locks_to_undo : (hook : HookAnswer) (code : ℕ) → GaveUpSay 1 code earlier added → TraceAfterStep hook (FreezeStep.LocksToUndo code)
   locks_to_undo hook code h = grind arith
@@ -391,45 +301,9 @@ module _ (c : Config) (lim : IsWithin c) (t : ℕ) (holder : Holder) (value : �
   -- stage 0 is stored
   gives_up : (hook : HookAnswer) (code level : ℕ) → GaveUpSay level code earlier added → TraceAfterStep hook (FreezeStep.GivesUp level code)
   gives_up hook code zero h = absurd (omega (arith, h.0))
-  gives_up hook code (suc zero) h =
-      let trace : List Traced = longer hook (FreezeStep.GivesUp 1 code) in (
-        FreezeStep.Releases (Err (GateError.Hook code)),
-        refl,
-        (
-          subst (λ g. Action.Stage 0 ∷ added ≡ failed_adds g trace) (sym h.3) (h.2 ∙ failed_same 1 trace earlier refl refl),
-          subst (λ g. ReadAnswer (word_decided g) (Err code) trace) (sym h.3) (inr h.4),
-        ),
-      )
-  gives_up hook code (suc (suc zero)) h =
-      let trace : List Traced = longer hook (FreezeStep.GivesUp 2 code) in (
-        FreezeStep.Reopens (reopening 1) code,
-        refl,
-        (
-          1,
-          UpWriteStep.ClearsBlock,
-          refl,
-          (
-            subst (λ g. reopened 1 (Action.Stage 0 ∷ added) ≡ failed_adds g trace) (sym h.3) (h.2 ∙ failed_same 2 trace earlier refl refl),
-            omega arith,
-          ),
-          subst (λ g. ReadAnswer (word_decided g) (Err code) trace) (sym h.3) (inr h.4),
-        ),
-      )
-  gives_up hook code (suc (suc (suc zero))) h =
-      let trace : List Traced = longer hook (FreezeStep.GivesUp 3 code) in (
-        FreezeStep.Reopens (reopening 2) code,
-        refl,
-        (
-          2,
-          UpWriteStep.ClearsBlock,
-          refl,
-          (
-            subst (λ g. reopened 2 (Action.Stage 0 ∷ added) ≡ failed_adds g trace) (sym h.3) (h.2 ∙ failed_same 3 trace earlier refl refl),
-            omega arith,
-          ),
-          subst (λ g. ReadAnswer (word_decided g) (Err code) trace) (sym h.3) (inr h.4),
-        ),
-      )
+  gives_up hook code (suc zero) h = grind arith
+  gives_up hook code (suc (suc zero)) h = grind arith
+  gives_up hook code (suc (suc (suc zero))) h = grind arith
   gives_up hook code (suc (suc (suc (suc level)))) h = absurd (omega (arith, h.1))
 
   freeze_event : (hook : HookAnswer) (step : FreezeStep) → StepSays c holder step earlier added → TraceAfterStep hook step
@@ -440,8 +314,7 @@ module _ (c : Config) (lim : IsWithin c) (t : ℕ) (holder : Holder) (value : �
   freeze_event hook (FreezeStep.Holds beside) h = (FreezeStep.Releases (Ok Reply.Unit), refl, (ap (λ (l : List Action). Action.Hold holder ∷ l) h, tt))
   freeze_event hook FreezeStep.CompletesReadOnly h = (FreezeStep.Holds nobody, refl, rw (h.2, h.1) (ap (λ (l : List Action). Action.Stage 4 ∷ l) h.0))
   freeze_event hook FreezeStep.SetsWrite h = (FreezeStep.Unlocks, refl, ((ap (λ (l : List Action). Action.Stage 1 ∷ l) h.0.0, h.0.1, h.0.2, h.0.3), h.1))
-  freeze_event hook FreezeStep.Unlocks h =
-      (FreezeStep.Closes (closing_at c 1 (DownWriteStep.Enters Transition.Loads)), refl, (1, DownWriteStep.Enters Transition.Loads, refl, h, tt))
+  freeze_event hook FreezeStep.Unlocks h = grind arith
   freeze_event hook (FreezeStep.Closes d) h = closes hook d h
   freeze_event (Ok answer) (FreezeStep.Waits d) h = waits_on answer d h
   freeze_event (Err code) (FreezeStep.Waits d) h =
@@ -451,11 +324,7 @@ module _ (c : Config) (lim : IsWithin c) (t : ℕ) (holder : Holder) (value : �
   freeze_event hook (FreezeStep.LocksToUndo code) h = locks_to_undo hook code h
   freeze_event hook (FreezeStep.GivesUp level code) h = gives_up hook code level h
   freeze_event hook FreezeStep.LocksAgain h = locks_again hook h
-  freeze_event hook FreezeStep.SetsPageFault h = (
-    FreezeStep.Closes (closing_at c 2 (DownWriteStep.Enters Transition.Loads)),
-    refl,
-    (2, DownWriteStep.Enters Transition.Loads, refl, ((ap (λ (l : List Action). Action.Stage 2 ∷ l) h.0.0, h.0.1, h.0.2, h.0.3), h.1), tt),
-  )
+  freeze_event hook FreezeStep.SetsPageFault h = grind arith
   freeze_event hook (FreezeStep.Cleans marks) h = clears hook marks h
   freeze_event hook FreezeStep.SetsFs h = sets_fs hook h
   freeze_event hook FreezeStep.SetsComplete h = sets_complete hook h
@@ -472,25 +341,12 @@ freeze_inductive c lim t holder = record {
   short = λ trace phase added here. tt;
 }
 
--- every trace of a freeze tells what is to be told
-pub freeze_tells : (c : Config) (holder : Holder) → IsWithin c → (t : ℕ) (trace : List Traced) → IsTrace c t (Op.Freeze holder) trace →
-    Tells c (Op.Freeze holder) trace (state_of_trace c t (Op.Freeze holder) trace).comes (state_of_trace c t (Op.Freeze holder) trace).added
-freeze_tells c holder lim t trace h = tells (FreezeAt c t holder) c t (Op.Freeze holder) (freeze_inductive c lim t holder) trace h
-
-pub freeze_short : (c : Config) (holder : Holder) → IsWithin c → (t : ℕ) (trace : List Traced) → IsTrace c t (Op.Freeze holder) trace →
-    IsShort (most_events c (Op.Freeze holder)) trace
-freeze_short c holder lim t trace h = is_short (FreezeAt c t holder) c t (Op.Freeze holder) (freeze_inductive c lim t holder) trace h
+pub freeze_traces : (c : Config) (holder : Holder) → IsWithin c → TraceLaws c (Op.Freeze holder)
+freeze_traces c holder lim = traces_tell (λ t. FreezeAt c t holder) c (Op.Freeze holder) (λ t. freeze_inductive c lim t holder)
 
 -- what a freeze has added whose hook failed does so, whichever level it gave up
 failed_leaves : (g : ℕ) (trace : List Traced) (before : List Action) → LeaveAccesses (failed_adds g trace) before
-failed_leaves zero trace before =
-    let closed : LeaveAccesses (two_levels_closed trace) before =
-    cleans_leave trace (Action.Pass 2 ∷ (Action.Stage 2 ∷ (Action.Pass 1 ∷ (Action.Stage 1 ∷ [])))) before refl in
-    elim (cases_Bool (stored_stage 3 trace)) [ inl f ↦ rw f closed | inr f ↦ rw f closed ]
-failed_leaves (suc zero) trace before = refl
-failed_leaves (suc (suc zero)) trace before = refl
-failed_leaves (suc (suc (suc g))) trace before =
-    cleans_leave trace (Action.Pass 2 ∷ (Action.Stage 2 ∷ (Action.Pass 1 ∷ (Action.Stage 1 ∷ [])))) before refl
+failed_leaves g trace before = grind (arith, cleans_leave)
 
 -- what a freeze has added where it is refused leaves what its task held
 pub freeze_restores : (holder : Holder) (refusal : GateError) (trace : List Traced) (before : List Action) →

@@ -1,24 +1,22 @@
 -- A freeze waits only where another task has `umount`, where one is inside a read-side section, or where something was counted at the level
 -- that it closes, and is refused only for its cause.
-use Rattle.std.proofs.Common.{◌≡◌, ℕ, ◌+◌, ◌%◌, ◌<◌, ◌≤◌, true, refl, sym, ap, ◌∙◌, subst, inl, inr, arith}
-use Rattle.std.proofs.lemmas.Bool.{cases_Bool, ltb-false, eq-eqb, Decides.eqb_tells}
-use Rattle.std.specs.Prelude.{nat_lt, Some, Ok, Err, List, ◌⊎◌}
-use Rattle.access_model.specs.{Replies.map_next, declared.{errors.GateError.GateError, replies.Next.Next}}
-use Rattle.cpu_words.specs.{Hooks.HookAnswer, Touches.{found_by, wrap_add}, Words.read, declared.sums.Sum.Sum}
-use Rattle.node_words.specs.{Phases.{clear_after}, declared.marks.ClearMarks.{ClearMarks}}
+use Rattle.gate_schedules.proofs.Prelude.{Config, Err, FreezeStep, GateError, HookAnswer, IsGood, List, Next, Ok, Phase, Some, World, after_of, ap}
+use Rattle.gate_schedules.proofs.Prelude.{arith, cases_Bool, eq-eqb, eqb_tells, found_at, found_by, inl, inr, inside, level_in, map_next, nat_lt}
+use Rattle.gate_schedules.proofs.Prelude.{owns, read, refl, subst, sym, sync_role_of, true, ℕ, ◌+◌, ◌<◌, ◌∙◌, ◌≡◌, ◌≤◌}
+use Rattle.std.{proofs.{Common.◌%◌, lemmas.Bool.ltb-false}, specs.Prelude.◌⊎◌}
+use Rattle.cpu_words.specs.{Touches.wrap_add, declared.sums.Sum.Sum}
+use Rattle.node_words.specs.{Phases.clear_after, declared.marks.ClearMarks.ClearMarks}
 use Rattle.percpu_rwsem.specs.{Graces.{is_first, passed_on}, SyncWords.{is_passed, is_queued, on_exit}, Transitions.transition_after}
-use Rattle.percpu_rwsem.specs.declared.transitions.TransitionNext.{TransitionNext}
 use Rattle.percpu_rwsem.specs.Writers.{down_write_after, down_write_next, at_down_write, sections_awaited, up_write_after}
-use Rattle.percpu_rwsem.specs.declared.{grace.Grace.Grace, sync_word.GpState.GpState}
+use Rattle.percpu_rwsem.specs.declared.{grace.Grace.Grace, sync_word.GpState.GpState, transitions.TransitionNext.TransitionNext}
 use Rattle.percpu_rwsem.specs.declared.writers.{DownWrite.DownWrite, DownWriteStep.DownWriteStep, UpWrite.UpWrite, UpWriteStep.UpWriteStep}
-use Rattle.freeze_levels.specs.{Freezes.{at_freeze, after_closing, after_clearing, after_reopening, after_undoing}, declared.freezes.{Freeze.Freeze, FreezeStep.FreezeStep}}
-use Rattle.freeze_laws.proofs.levels.CitedLaws.{writers_find}
-use Rattle.freeze_laws.specs.levels.{Changes.{state_found, state_found_in}, Events.SyncLevelHolds, Operations.down_write_role}
-use Rattle.freeze_laws.specs.levels.Roles.{Entered, entered, entering, closed}
-use Rattle.gate_world.specs.{Fits.{DownWriteStepFits, FreezeFits}, refusals.KeptCauses.{DownWriteCause, FreezeCause}, LevelRuns.level_in, Levels.{inside, sync_role_of}}
-use Rattle.gate_world.specs.{Rules.{owns, IsGood, Sections}, refusals.Waits.{HasCulprit, HasReason}, Work.after_of, Worlds.{World, found_at}}
-use Rattle.gate_world.specs.declared.{config.Config.Config, work.Phase.Phase}
-use Rattle.gate_schedules.proofs.{frames.Owners.umount_taken, levels.{DownWrite.queued_passed, Worlds.level_right}, operations.freeze.Causes.level_ends}
+use Rattle.freeze_levels.specs.{Freezes.{at_freeze, after_closing, after_clearing, after_reopening, after_undoing}, declared.freezes.Freeze.Freeze}
+use Rattle.freeze_laws.{proofs.levels.CitedLaws.writers_find, specs.levels.{Changes.{state_found, state_found_in}, Events.SyncLevelHolds}}
+use Rattle.freeze_laws.specs.levels.{Operations.down_write_role, Roles.{Entered, entered, entering, closed}}
+use Rattle.gate_world.specs.{Fits.{DownWriteStepFits, FreezeFits}, Rules.Sections, refusals.KeptCauses.{DownWriteCause, FreezeCause}}
+use Rattle.gate_world.specs.refusals.Waits.{HasCulprit, HasReason}
+use Rattle.gate_schedules.proofs.{frames.Owners.umount_taken, levels.{DownWrite.queued_passed, Worlds.level_right}}
+use Rattle.gate_schedules.proofs.operations.freeze.Causes.{level_ends}
 
 state_passed : (s : GpState) → Some s ≡ Some GpState.Passed → is_passed s ≡ true
 state_passed s h = grind arith
@@ -128,9 +126,7 @@ module _ (c : Config) (w : World) (earlier : List World) (good : IsGood c w) (t 
   reopening_waits s u step level code found = grind arith
 
   undoing_waits : (s : FreezeStep) (level code : ℕ) (n : TransitionNext) → Waits s (after_undoing x level code n)
-  undoing_waits s level code (TransitionNext.More transition) = tt
-  undoing_waits s level code TransitionNext.Undefined = tt
-  undoing_waits s level code (TransitionNext.Made state) = tt
+  undoing_waits s level code n = grind arith
 
   clearing_waits : (s : FreezeStep) (marks : ClearMarks) (found : ℕ) → Waits s (after_clearing x (clear_after marks found).0)
   clearing_waits s marks found = elim (cases_Bool (nat_lt (marks.node + 1) marks.nodes)) [ inl h ↦ rw h tt | inr h ↦ rw h tt ]

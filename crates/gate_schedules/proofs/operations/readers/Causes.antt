@@ -1,17 +1,16 @@
--- The cause of a down-read's wait or refusal, along a schedule: the level was closed when it last asked. What is said here of a task that
+-- The cause of a down-read's wait or refusal, along an execution: the level was closed when it last asked. What is said here of a task that
 -- asks as a down-read does serves an operation that goes through one as a part of its own.
-use Rattle.std.proofs.{Common.{◌≡◌, ℕ, ◌+◌, ◌≤◌, Bool, true, false, refl, sym, ap, subst, ◌∙◌, inl, inr, arith}, lemmas.Bool.Decides.eqb_tells}
-use Rattle.std.specs.Prelude.{◌==◌, ◌&&◌, if◌then◌else◌, ◌⊎◌, Some, List, ◌∷◌}
-use Rattle.finite_sums.specs.Sums.{total}
+use Rattle.gate_schedules.proofs.Prelude.{Bool, Config, DownRead, HookAnswer, IsGood, List, Next, Some, SyncAt, World, ap, arith, eqb_tells, false}
+use Rattle.gate_schedules.proofs.Prelude.{found_at, if◌then◌else◌, inl, inr, is_frozen_whole, map_next, phase_after, refl, subst, sym, sync_role_of}
+use Rattle.gate_schedules.proofs.Prelude.{total, true, ℕ, ◌+◌, ◌==◌, ◌∙◌, ◌∷◌, ◌≡◌, ◌≤◌}
+use Rattle.std.specs.Prelude.{◌&&◌, ◌⊎◌}
 use Rattle.finite_sums.proofs.Totals.{HasPlace, total_place}
-use Rattle.access_model.specs.{Replies.map_next, declared.replies.Next.{Next, TheVariants.{Go, Wait, Done}}}
-use Rattle.cpu_words.specs.Hooks.{HookAnswer}
-use Rattle.percpu_rwsem.specs.{Readers.{down_read_after, at_down_read, left_blocked}, SyncWords.unpack, declared.readers.DownRead.DownRead}
-use Rattle.percpu_rwsem.specs.declared.readers.DownReadStep.{DownReadStep, TheVariants.{LoadsSync, LoadsBlock, CountsDown, LeavesBlocked}}
+use Rattle.access_model.specs.declared.replies.Next.TheVariants.{Go, Wait, Done}
+use Rattle.percpu_rwsem.specs.{Readers.{down_read_after, at_down_read, left_blocked}, SyncWords.unpack, declared.readers.DownReadStep.DownReadStep}
+use Rattle.percpu_rwsem.specs.declared.readers.DownReadStep.TheVariants.{LoadsSync, LoadsBlock, CountsDown, LeavesBlocked}
 use Rattle.freeze_laws.specs.levels.{Operations.down_read_role, Roles.{SyncRole, closed}}
-use Rattle.gate_world.specs.{refusals.Causes.{last_asked, asks_level, read_asks, WasClosed}, refusals.KeptCauses.{ReadCause, CauseOf}, Levels.{sync_role_of, is_frozen_whole}}
-use Rattle.gate_world.specs.{Roles.sync_role_if, Rules.{IsGood, SyncAt, SyncHoldsIn}, Views.phase_after, Worlds.{World, found_at}}
-use Rattle.gate_world.specs.declared.{config.Config.Config, work.Phase.TheVariants.DownReads}
+use Rattle.gate_world.specs.{Roles.sync_role_if, Rules.SyncHoldsIn, declared.work.Phase.TheVariants.DownReads, refusals.Causes.last_asked}
+use Rattle.gate_world.specs.refusals.{Causes.{asks_level, read_asks, WasClosed}, KeptCauses.{ReadCause, CauseOf}}
 use Rattle.gate_schedules.proofs.{frames.OperationLaws.by_bool, operations.readers.Trace.by_word}
 
 -- a task has closed a level once at most
@@ -55,28 +54,28 @@ block_closed c w good t i l1 l3 apart set =
           )
     ]
 
--- the last question, one world on
+-- the last question, one state on
 module _ (t : ℕ) (w : World) (earlier : List World) where
   -- where the task doesn't ask, it is as before
   pub asked_skips : asks_level (w.views t).phase ≡ false → last_asked t (w ∷ earlier) ≡ last_asked t earlier
   asked_skips h = rw h refl
 
-  -- where it asks, it is in this world
+  -- where it asks, it is in this state
   pub asked_stands : asks_level (w.views t).phase ≡ true → last_asked t (w ∷ earlier) ≡ Some w
   asked_stands h = rw h refl
 
 module _ (c : Config) (t : ℕ) (w next : World) (earlier : List World) where
-  -- a cause that is kept stays in a world in which the task doesn't ask
+  -- a cause that is kept stays in a state in which the task doesn't ask
   cause_skips : (i : ℕ) → asks_level (next.views t).phase ≡ false → WasClosed c t i (last_asked t (w ∷ earlier)) →
       WasClosed c t i (last_asked t (next ∷ (w ∷ earlier)))
   cause_skips i skip h = subst (WasClosed c t i) (sym (asked_skips t next (w ∷ earlier) skip)) h
 
-  -- a task whose view another entry leaves alone
+  -- a task whose view another transition leaves alone
   pub read_stays : (i : ℕ) (s : DownReadStep) → asks_level (next.views t).phase ≡ read_asks s → ReadCause c t w earlier i s →
       ReadCause c t next (w ∷ earlier) i s
   read_stays i s e h = grind arith
 
-  -- in the next world the task asks where this comes next and asks
+  -- in the next state the task asks where this comes next and asks
   abbrev pub AsksNext : Next DownRead → Type 0
   AsksNext (Go r) = asks_level (next.views t).phase ≡ read_asks r.step
   AsksNext (Wait r) = asks_level (next.views t).phase ≡ read_asks r.step
@@ -89,7 +88,7 @@ module _ (c : Config) (t : ℕ) (w next : World) (earlier : List World) where
   HasNextCause (Done answer) = Unit {0}
 
   module _ (good : IsGood c w) (r : DownRead) (l1 : 1 ≤ r.level) (l3 : r.level ≤ 3) where
-    -- what comes after an event that this step leads to has its cause
+    -- what comes after a step that this program point leads to has its cause
     abbrev OwnCause : DownReadStep → ℕ → Type 0
     OwnCause s found = asks_level (w.views t).phase ≡ read_asks s → closed (sync_role_of r.level (w.views t).phase) ≡ 0 →
         ReadCause c t w earlier r.level s → AsksNext (down_read_after r s found).0 → HasNextCause (down_read_after r s found).0
@@ -106,7 +105,7 @@ module _ (c : Config) (t : ℕ) (w next : World) (earlier : List World) where
               (block_closed c w good t r.level l1 l3 apart f.1))
         ]
 
-    -- so it is after each event
+    -- so it is after each step
     pub read_own : (hook : HookAnswer) (s : DownReadStep) → OwnCause s (found_at w.words (DownReads (at_down_read r s)) hook)
     read_own hook LoadsSync asks apart h next_asks =
         by_word (λ s. HasNextCause (Go (at_down_read r s))) tt tt tt (unpack (w.words.sync r.level))

@@ -1,21 +1,19 @@
--- The event of an end.
-use Rattle.std.{proofs.Common.{◌≡◌, ℕ, ◌<◌, false, refl, sym, ap, subst, arith}, specs.Prelude.{Option, Some, Ok}}
-use Rattle.finite_sums.{proofs.Totals.{update_at}, specs.Sums.update}
-use Rattle.access_model.specs.declared.{actions.{Action.Action, Gate.Gate}, replies.{Next.Next, Reply.Reply}}
-use Rattle.cpu_words.specs.{Hooks.HookAnswer, Words.Words}
+-- The step of an end.
+use Rattle.gate_schedules.proofs.Prelude.{Action, Config, Fits, Fitting, HookAnswer, IsGood, IsWithin, Next, Ok, Option, Phase, PhaseFits, Reply}
+use Rattle.gate_schedules.proofs.Prelude.{Some, StepKeeps, View, Words, World, ap, arith, false, held_of, inside, refl, subst, sym, sync_role_of}
+use Rattle.gate_schedules.proofs.Prelude.{update, update_at, ℕ, ◌<◌, ◌≡◌}
+use Rattle.access_model.specs.declared.actions.Gate.{Gate}
 use Rattle.percpu_rwsem.specs.declared.readers.UpRead.{UpRead}
-use Rattle.gate_world.specs.{Configs.IsWithin, Fits.{PhaseFits, Fits}, Levels.{level_role_of, sync_role_of, inside}, Rules.{IsGood, StepKeeps, Fitting}}
-use Rattle.gate_world.specs.{Views.{held_of, holds_level}, Worlds.World, declared.{config.Config.Config, views.View.View, work.Phase.Phase}}
-use Rattle.gate_schedules.proofs.levels.Counts.{SameElsewhere, words_down, view_down, down_beside, leaves}
-use Rattle.gate_schedules.proofs.levels.Parts.{SameOffLevels, IsAtLevels, SameAtMounts, end_at_levels, reads_at_levels, level_parts, level_shown, sync_left_at}
-use Rattle.gate_schedules.proofs.levels.Parts.{sections_left_at}
+use Rattle.gate_world.specs.{Levels.level_role_of, Views.holds_level}
+use Rattle.gate_schedules.proofs.levels.{Counts.{SameElsewhere, words_down, view_down, down_beside, leaves}, Parts.{SameOffLevels, IsAtLevels}}
+use Rattle.gate_schedules.proofs.levels.Parts.{SameAtMounts, end_at_levels, reads_at_levels, level_parts, level_shown, sync_left_at, sections_left_at}
 
 module _ (c : Config) (lim : IsWithin c) (w : World) (good : IsGood c w) (t : ℕ) (lt : t < c.tasks) (hook : HookAnswer) (u : UpRead)
     (e : (w.views t).phase ≡ Some (Phase.UpReads u)) where
   end_fits : PhaseFits c t (held_of (w.views t)) (Phase.UpReads u)
   end_fits = subst (Fits c t (held_of (w.views t))) e (good Fitting t lt)
 
-  -- what comes after its event, and the action that this adds
+  -- what comes after its step, and the action that this adds
   abbrev ended : Next Phase × Option Action
   ended = (Next.Done (Ok Reply.Unit), Some (Action.Return (Gate.Level u.level)))
 
@@ -50,7 +48,7 @@ module _ (c : Config) (lim : IsWithin c) (w : World) (good : IsGood c w) (t : �
       (sync_left_at c w good t lt end_words end_view end_beside end_was end_now refl refl (λ j. sym (ap (sync_role_of j) e)))
       (sections_left_at c w good t lt end_words end_view end_beside end_was end_now refl (sym (ap inside e)))
 
--- The event of an end keeps the rule, and returns its task's access to the level.
+-- The step of an end keeps the invariant, and returns its task's access to the level.
 pub end_keeps : (c : Config) → IsWithin c → (w : World) → IsGood c w → (t : ℕ) → t < c.tasks → (hook : HookAnswer) → (u : UpRead) →
     (w.views t).phase ≡ Some (Phase.UpReads u) → StepKeeps c w t hook (Phase.UpReads u)
 end_keeps c lim w good t lt hook u e = (

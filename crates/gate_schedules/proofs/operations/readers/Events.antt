@@ -1,30 +1,26 @@
--- Each event of a start.
-use Rattle.access_model.specs.{Actions.IsAllowed, Replies.map_next, declared.actions.{Action.{Action, TheVariants.Grant}, Gate.TheVariants.Level}}
-use Rattle.access_model.specs.declared.replies.{Next.{Next, TheVariants.{Done, Go}}, Reply.TheVariants.Unit as UnitReply}
-use Rattle.cpu_words.specs.{Hooks.HookAnswer, Touches.wrap_add, Words.{Words, put, read}, declared.events.Touch.{Touch, TheVariants.{Add, Load, Sub}}}
-use Rattle.cpu_words.specs.declared.names.WordName.{WordName, TheVariants.{Block, LevelCount, Section, Sync}}
+-- Each step of a start.
+use Rattle.gate_schedules.proofs.Prelude.{Action, AtLevel, Bool, Config, DownRead, Fits, Fitting, Holdings, HookAnswer, IsGood, IsWithin, Next, None}
+use Rattle.gate_schedules.proofs.Prelude.{Ok, Option, Phase, Some, StepKeeps, Touch, View, WordName, Words, World, after_step, ap, arith, eqb_tells}
+use Rattle.gate_schedules.proofs.Prelude.{false, held_of, inl, inr, map_next, nat_lt, phase_after, put, read, refl, shown, subst, sym, sync_role_of}
+use Rattle.gate_schedules.proofs.Prelude.{true, true≢false, update, update_at, update_same, ℕ, ◌+◌, ◌<◌, ◌==◌, ◌∙◌, ◌≡◌, ◌≤◌}
+use Rattle.access_model.specs.{Actions.IsAllowed, declared.actions.{Action.TheVariants.Grant, Gate.TheVariants.Level}}
+use Rattle.access_model.specs.declared.replies.{Next.TheVariants.{Done, Go}, Reply.TheVariants.Unit as UnitReply}
+use Rattle.cpu_words.{proofs.gate_counts.LevelLaws.{is_granted, is_refused}, specs.{Touches.wrap_add, declared.events.Touch.TheVariants.{Add, Load}}}
+use Rattle.cpu_words.specs.declared.{events.Touch.TheVariants.Sub, names.WordName.TheVariants.{Block, LevelCount, Section, Sync}}
 use Rattle.cpu_words.specs.gate_counts.Levels.{Out as CountsNot}
-use Rattle.finite_sums.proofs.Totals.{update_at, update_same}
-use Rattle.finite_sums.specs.Sums.{update}
-use Rattle.cpu_words.proofs.gate_counts.LevelLaws.{is_granted, is_refused}
-use Rattle.gate_schedules.proofs.frames.Frames.{count_none, level_view_as}
-use Rattle.gate_schedules.proofs.levels.Counts.{LevelHoldsAfter, SameElsewhere, backs_off, bit_room, count_on, down_beside, enters_fast, held_bit}
-use Rattle.gate_schedules.proofs.levels.Counts.{level_follows, seeks, up_beside, words_down, words_up}
-use Rattle.gate_schedules.proofs.levels.Parts.{IsAtLevels, SameOffLevels, SameAtMounts, beside_levels, counts_left_at, level_parts, level_shown, level_still}
-use Rattle.gate_schedules.proofs.levels.Parts.{reads_at_levels}
-use Rattle.gate_schedules.proofs.{levels.Worlds.{fast_finds_open, not_passed, sync_on}, operations.readers.Levels.{LevelsHold, read_levels}}
-use Rattle.gate_world.specs.{Configs.{IsWithin, model_limits}, Fits.{Fits, ReadFits, ReadStepFits}, Holdings.Holdings, Levels.{at_level, level_role_of}}
-use Rattle.gate_world.specs.{Levels.sync_role_of, Operations.holds_none_from, Roles.{count_role_if, read_count_role}, Rules.{AtLevel, Fitting, IsGood, Moves}}
-use Rattle.gate_world.specs.{Rules.StepKeeps, Shown.shown, Views.{has_open, held_at, held_of, holds_level, phase_after, view_with}, Worlds.World}
-use Rattle.gate_world.specs.{Worlds.after_step, declared.{config.Config.Config, views.View.View, work.Phase.{Phase, TheVariants.DownReads}}}
+use Rattle.gate_schedules.proofs.{frames.Frames.{count_none, level_view_as}, levels.Counts.{LevelHoldsAfter, SameElsewhere, backs_off, bit_room}}
+use Rattle.gate_schedules.proofs.levels.Counts.{count_on, down_beside, enters_fast, held_bit, level_follows, seeks, up_beside, words_down, words_up}
+use Rattle.gate_schedules.proofs.levels.Parts.{IsAtLevels, SameOffLevels, SameAtMounts, beside_levels, counts_left_at, level_parts, level_shown}
+use Rattle.gate_schedules.proofs.levels.{Parts.{level_still, reads_at_levels}, Worlds.{fast_finds_open, not_passed, sync_on}}
+use Rattle.gate_schedules.proofs.operations.readers.Levels.{LevelsHold, read_levels}
+use Rattle.gate_world.specs.{Configs.model_limits, Fits.{ReadFits, ReadStepFits}, Levels.{at_level, level_role_of}, Operations.holds_none_from}
+use Rattle.gate_world.specs.{Roles.{count_role_if, read_count_role}, Rules.Moves, Views.{has_open, held_at, holds_level, view_with}}
+use Rattle.gate_world.specs.declared.work.Phase.TheVariants.{DownReads}
 use Rattle.freeze_laws.specs.levels.Roles.{Fast}
-use Rattle.percpu_rwsem.specs.{Readers.{at_down_read, left_blocked, step_found}, SyncWords.unpack, declared.readers.DownRead.DownRead}
-use Rattle.percpu_rwsem.specs.declared.readers.DownReadStep.{DownReadStep, TheVariants.{CountsDown, CountsUpFast, CountsUpSlow, EntersSection}}
-use Rattle.percpu_rwsem.specs.declared.{readers.DownReadStep.TheVariants.{LeavesAdmitted, LeavesBlocked, LoadsBlock, LoadsSync}}
-use Rattle.percpu_rwsem.specs.declared.sync_word.{SyncWord.SyncWord}
-use Rattle.std.proofs.Common.{Bool, ap, arith, false, inl, inr, refl, subst, suc, sym, true, true≢false, zero, ℕ, ◌+◌, ◌<◌, ◌∙◌, ◌≡◌, ◌≤◌}
-use Rattle.std.proofs.lemmas.Bool.Decides.{eqb_tells, nat_tests}
-use Rattle.std.specs.Prelude.{None, Ok, Option, Some, nat_lt, not, ◌&&◌, ◌==◌, ◌||◌}
+use Rattle.percpu_rwsem.specs.{Readers.{at_down_read, left_blocked, step_found}, SyncWords.unpack, declared.readers.DownReadStep.DownReadStep}
+use Rattle.percpu_rwsem.specs.declared.readers.DownReadStep.TheVariants.{CountsDown, CountsUpFast, CountsUpSlow, EntersSection, LeavesAdmitted}
+use Rattle.percpu_rwsem.specs.declared.{readers.DownReadStep.TheVariants.{LeavesBlocked, LoadsBlock, LoadsSync}, sync_word.SyncWord.SyncWord}
+use Rattle.std.{proofs.lemmas.Bool.Decides.nat_tests, specs.Prelude.{not, ◌&&◌, ◌||◌}}
 
 -- a level that isn't held, of those that are to be free
 or_left : (a b : Bool) → b ≡ false → (b || not a) ≡ true → a ≡ false
@@ -42,13 +38,7 @@ not_below k i h = grind (arith, nat_tests)
 
 -- who holds no level from one up holds none of these
 pub none_from : (levels : ℕ → Bool) (i j : ℕ) → holds_none_from i levels ≡ true → 1 ≤ i → i ≤ j → j ≤ 3 → levels j ≡ false
-none_from levels i zero h l1 le l3 = absurd (omega arith)
-none_from levels i (suc zero) h l1 le l3 = or_left (levels 1) (nat_lt 1 i) (not_below 1 i le) (and_both _ _ h).0
-none_from levels i (suc (suc zero)) h l1 le l3 =
-    or_left (levels 2) (nat_lt 2 i) (not_below 2 i le) (and_both _ _ (and_both _ _ h).1).0
-none_from levels i (suc (suc (suc zero))) h l1 le l3 =
-    or_left (levels 3) (nat_lt 3 i) (not_below 3 i le) (and_both _ _ (and_both _ _ h).1).1
-none_from levels i (suc (suc (suc (suc j)))) h l1 le l3 = absurd (omega arith)
+none_from levels i j h l1 le l3 = grind (arith, or_left, nat_lt, not_below, and_both)
 
 -- What is so of the step that a sync word leads to.
 record IsPath (s : DownReadStep) : Type 0 where
@@ -81,11 +71,11 @@ module _ (c : Config) (lim : IsWithin c) (w : World) (good : IsGood c w) (t : �
   abbrev FitsHere : DownReadStep → Type 0
   FitsHere s = ReadFits c t (held_of (w.views t)) (at_down_read r s)
 
-  -- the rule says so
+  -- the invariant says so
   fits_here : (s : DownReadStep) → IsAt s → FitsHere s
   fits_here s e = subst (Fits c t (held_of (w.views t))) e (good Fitting t lt)
 
-  -- its event leaves the rcu_sync of each level, and the sections
+  -- its step leaves the rcu_sync of each level, and the sections
   levels_hold : (s : DownReadStep) → IsAt s → LevelsHold c (after_step w t (DownReads (at_down_read r s)) hook)
   levels_hold s e =
       let f : FitsHere s = fits_here s e in
@@ -131,7 +121,7 @@ module _ (c : Config) (lim : IsWithin c) (w : World) (good : IsGood c w) (t : �
   section_beside : SameOffLevels w.words section_words
   section_beside = refl
 
-  -- such an addition keeps the rule, and leaves the shown model
+  -- such an addition keeps the invariant, and leaves the shown state
   abbrev SectionKeeps : Next DownRead → Type 0
   SectionKeeps n =
       let next : World = record { words = section_words; views = update w.views t (section_view n) } in
@@ -168,7 +158,7 @@ module _ (c : Config) (lim : IsWithin c) (w : World) (good : IsGood c w) (t : �
       turns LeavesBlocked (left_blocked r r.wait) e refl (blocked_counts r r.wait)
       (blocked_fits c t (held_of (w.views t)) r r.wait (fits_here LeavesBlocked e)) (levels_hold LeavesBlocked e)
 
-  -- the world after an event on this word, in which its task comes to this
+  -- the state after a step on this word, in which its task comes to this
   abbrev then_view : WordName × Touch → Next DownRead × Option Action → View
   then_view next after =
       view_with (w.views t) next (read w.words next.0) hook (map_next DownReads after.0, after.1)
@@ -194,7 +184,7 @@ module _ (c : Config) (lim : IsWithin c) (w : World) (good : IsGood c w) (t : �
         level_still c w good t lt ws v beside (at_levels LoadsSync e) (reads_at_levels n) mounts refl,
       )
 
-  -- at other levels it counts nowhere before and after an event that leaves what the task holds
+  -- at other levels it counts nowhere before and after a step that leaves what the task holds
   same_elsewhere : (s s' : DownReadStep) → IsAt s → (v : View) → v.phase ≡ Some (DownReads (at_down_read r s')) →
       holds_level v ≡ holds_level (w.views t) → SameElsewhere r.level (w.views t) v
   same_elsewhere s s' e v q held = grind arith
@@ -267,7 +257,7 @@ module _ (c : Config) (lim : IsWithin c) (w : World) (good : IsGood c w) (t : �
   block_beside : SameOffLevels w.words block_words
   block_beside = λ k. record (beside_levels w.words) { block = update_same w.words.block r.level k }
 
-  -- the world after it, from what it leaves of the counts of the task's own level
+  -- the state after it, from what it leaves of the counts of the task's own level
   block_law : (s' : DownReadStep) (a : Option Action) → IsAt LoadsBlock →
       let v : View = then_view (Block r.level, Load) (Go (at_down_read r s'), a) in
       held_at v ≡ held_at (w.views t) → has_open v ≡ has_open (w.views t) → ReadStepFits r.level (holds_level v) s' → SameElsewhere r.level (w.views t) v →
@@ -349,7 +339,7 @@ module _ (c : Config) (lim : IsWithin c) (w : World) (good : IsGood c w) (t : �
   each_step LeavesAdmitted e = leaves_admitted e
   each_step LeavesBlocked e = leaves_blocked e
 
--- Each event of a start keeps the rule, and moves the shown model by its action or not at all.
+-- Each step of a start keeps the invariant, and moves the shown state by its action or not at all.
 pub read_keeps : (c : Config) → IsWithin c → (w : World) → IsGood c w → (t : ℕ) → t < c.tasks → (hook : HookAnswer) → (r : DownRead) →
     (w.views t).phase ≡ Some (DownReads r) → StepKeeps c w t hook (DownReads r)
 read_keeps c lim w good t lt hook r e = each_step c lim w good t lt hook r r.step e

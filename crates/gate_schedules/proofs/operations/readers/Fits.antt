@@ -1,23 +1,12 @@
--- What fits after an event of a down-read, an up-read and a callback.
-use Rattle.std.proofs.lemmas.Grind.{common_steps}
-use Rattle.std.proofs.Common.{◌≡◌, ℕ, ◌<◌, ◌≤◌, Bool, true, false, refl, arith}
-use Rattle.std.specs.Prelude.{◌&&◌, None, Ok, Err}
-use Rattle.access_model.specs.declared.{replies.Next.{Next}}
-use Rattle.access_model.specs.{declared.replies.Next.TheVariants.{Go, Wait, Done}, Replies.{map_next}}
+-- What fits after a step of a down-read, an up-read and a callback.
+use Rattle.gate_schedules.proofs.Prelude.{Bool, Config, DownRead, Err, Fits, Holdings, IsWithin, Next, None, Ok, PhaseFits, arith, common_steps}
+use Rattle.gate_schedules.proofs.Prelude.{held_after, map_next, phase_after, true, ℕ, ◌<◌, ◌≡◌, ◌≤◌}
+use Rattle.access_model.specs.declared.replies.Next.TheVariants.{Go, Wait, Done}
 use Rattle.cpu_words.specs.Names.{IsWord}
-use Rattle.percpu_rwsem.specs.declared.readers.{DownRead.{DownRead}, DownReadStep.{DownReadStep}}
-use Rattle.percpu_rwsem.specs.declared.callbacks.{Callback.{Callback}, CallbackStep.{CallbackStep}}
-use Rattle.percpu_rwsem.specs.{Readers.{down_read_next, down_read_after}}
-use Rattle.percpu_rwsem.specs.Callbacks.{callback_next, callback_after, at_callback}
-use Rattle.gate_world.specs.declared.{config.Config.{Config}, work.Phase.TheVariants.{DownReads, Callbacks}}
-use Rattle.gate_world.specs.{Configs.{IsWithin, extents_of}, Views.{phase_after}, Operations.{holds_none_from, is_level_number}}
-use Rattle.gate_world.specs.{Fits.{ReadStepFits, ReadFits, GraceFits, PhaseFits, Fits, ActionFits}, Holdings.{Holdings, held_after}}
-
--- each is true where both are
-pub both_true : (a b : Bool) → (a && b) ≡ true → (a ≡ true) × (b ≡ true)
-both_true true true e = (refl, refl)
-both_true true false e = (refl, e)
-both_true false b e = absurd (cc)
+use Rattle.percpu_rwsem.specs.{Callbacks.{callback_next, callback_after, at_callback}, Readers.{down_read_next, down_read_after}}
+use Rattle.percpu_rwsem.specs.declared.{callbacks.{Callback.Callback, CallbackStep.CallbackStep}, readers.DownReadStep.DownReadStep}
+use Rattle.gate_world.specs.{Configs.extents_of, Fits.{ReadStepFits, ReadFits, GraceFits, ActionFits}, Operations.{holds_none_from, is_level_number}}
+use Rattle.gate_world.specs.declared.work.Phase.TheVariants.{DownReads, Callbacks}
 
 -- a number that is a level's
 pub level_there : (i : ℕ) → is_level_number i ≡ true → (1 ≤ i) × (i ≤ 3)
@@ -32,7 +21,7 @@ module _ (h k : ℕ → Bool) (levels : (i : ℕ) → 1 ≤ i → i ≤ 3 → h 
   pub read_step_agrees : (i : ℕ) (s : DownReadStep) → 1 ≤ i → i ≤ 3 → ReadStepFits i h s → ReadStepFits i k s
   read_step_agrees i s l1 l3 f = grind arith
 
--- the word of each event of a down-read is there
+-- the word of each step of a down-read is there
 pub read_there : (c : Config) (t : ℕ) → t < c.tasks → (r : DownRead) (s : DownReadStep) → 1 ≤ r.level → r.level ≤ 3 →
     r.cpu < c.processors → r.task ≡ t → IsWord (extents_of c) (down_read_next r s).0
 read_there c t lt r s l1 l3 p same = grind arith
@@ -42,7 +31,7 @@ pub read_acts : (held : Holdings) (r : DownRead) (s : DownReadStep) (found : ℕ
     ActionFits held (down_read_after r s found).1
 read_acts held r s found l1 l3 = grind arith
 
--- What comes after an event of a down-read at this level, on this processor, fits these accesses; and where it ends well, the level is
+-- What comes after a step of a down-read at this level, on this processor, fits these accesses; and where it ends well, the level is
 -- held. So an operation that goes on inside the level knows that it is.
 abbrev pub ReadGoes : Config → ℕ → ℕ → ℕ → Holdings → Next DownRead → Type 0
 ReadGoes c t i p held (Go r) = ReadFits c t held r × (r.level ≡ i) × (r.cpu ≡ p)
@@ -51,27 +40,27 @@ ReadGoes c t i p held (Done (Ok reply)) = held.levels i ≡ true
 ReadGoes c t i p held (Done (Err refusal)) = Unit {0}
 
 module _ (c : Config) (t : ℕ) (r : DownRead) (l1 : 1 ≤ r.level) (l3 : r.level ≤ 3) (p : r.cpu < c.processors) (same : r.task ≡ t) where
-  -- so it is after each event
+  -- so it is after each step
   pub read_goes : (held : Holdings) (s : DownReadStep) (found : ℕ) → ReadStepFits r.level held.levels s →
       ReadGoes c t r.level r.cpu (held_after (down_read_after r s found).1 held) (down_read_after r s found).0
   read_goes held s found h = grind (arith, common_steps)
 
--- what comes after an event of a down-read that stands alone fits
+-- what comes after a step of a down-read that stands alone fits
 pub read_fits : (c : Config) (t i p : ℕ) (held : Holdings) (n : Next DownRead) → ReadGoes c t i p held n →
     Fits c t held (phase_after (map_next DownReads n))
 read_fits c t i p held n h = grind arith
 
--- the word of each event of a callback is there
+-- the word of each step of a callback is there
 pub callback_there : (c : Config) (b : Callback) (s : CallbackStep) → 1 ≤ b.level → b.level ≤ 3 → GraceFits c.tasks s →
     IsWord (extents_of c) (callback_next b s).0
 callback_there c b s l1 l3 f = grind arith
 
--- no event of a callback adds an action
+-- no step of a callback adds an action
 pub callback_acts_none : (b : Callback) (s : CallbackStep) (found : ℕ) → (callback_after b s found).1 ≡ None
 callback_acts_none b s found = grind arith
 
 module _ (c : Config) (within : IsWithin c) (t : ℕ) (held : Holdings) (b : Callback) where
-  -- what comes after each event of a callback fits
+  -- what comes after each step of a callback fits
   pub callback_goes : (s : CallbackStep) (found : ℕ) → PhaseFits c t held (Callbacks (at_callback b s)) →
       Fits c t held (phase_after (map_next Callbacks (callback_after b s found).0))
   callback_goes s found f = grind arith

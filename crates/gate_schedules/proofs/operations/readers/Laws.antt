@@ -1,17 +1,17 @@
 -- All that is proved of a start and of an end.
-use Rattle.gate_schedules.proofs.frames.{Frames.{count_none, sync_none}, OperationLaws.{IsSmall, OpLaws, PhaseLaws, by_bool}, Snapshots.completes_none}
-use Rattle.gate_schedules.proofs.operations.readers.{Causes.{asks_next, next_cause, read_not_closed, read_own, read_stays}, EndEvents.end_keeps}
-use Rattle.gate_schedules.proofs.operations.readers.Events.{read_keeps}
-use Rattle.gate_schedules.proofs.operations.readers.Fits.{none_from_agree, read_acts, read_fits, read_goes, read_step_agrees, read_there}
-use Rattle.gate_schedules.proofs.operations.readers.{Runs.{end_runs, read_runs}, Trace.{EndAt, StartAt, end_inductive, start_inductive}, Waits.{read_waits, start_waits}}
-use Rattle.gate_schedules.proofs.traces.TraceInvariant.{is_short, is_short_well, tells, tells_well}
-use Rattle.gate_world.specs.{SameRoles.no_roles, refusals.Causes.asks_level, Fits.Fits, Holdings.held_after, Levels.sync_role_of, Operations.is_level_number}
-use Rattle.gate_world.specs.{Rules.Fitting, traces.Traces.most_events, Views.held_of, Worlds.{World, after_step, found_at}, declared.config.Config.Config}
-use Rattle.gate_world.specs.declared.{operations.Op.TheVariants.{End, Start}, work.Phase.TheVariants.{DownReads, UpReads}}
+use Rattle.gate_schedules.proofs.Prelude.{Bool, Config, DownRead, Fits, Fitting, Some, World, after_step, ap, arith, found_at, held_after, held_of}
+use Rattle.gate_schedules.proofs.Prelude.{nat_lt, refl, subst, sym, sync_role_of, true, ℕ, ◌+◌, ◌<◌, ◌∙◌, ◌≡◌, ◌≤◌}
+use Rattle.gate_schedules.proofs.frames.{Frames.{count_none, sync_none}, OperationLaws.{IsSmall, OpLaws, PhaseLaws, by_bool}}
+use Rattle.gate_schedules.proofs.{frames.Snapshots.completes_none, operations.readers.Causes.{asks_next, next_cause, read_not_closed, read_own}}
+use Rattle.gate_schedules.proofs.operations.readers.{Causes.read_stays, EndEvents.end_keeps, Events.read_keeps, Fits.{none_from_agree, read_acts}}
+use Rattle.gate_schedules.proofs.operations.readers.{Fits.{read_fits, read_goes, read_step_agrees, read_there}, Runs.{end_runs, read_runs}}
+use Rattle.gate_schedules.proofs.operations.readers.{Trace.{EndAt, StartAt, end_inductive, start_inductive}, Waits.{read_waits, start_waits}}
+use Rattle.gate_schedules.proofs.traces.TraceInvariant.{traces_tell, traces_given_reads}
+use Rattle.gate_world.specs.{Operations.is_level_number, SameRoles.no_roles, declared.operations.Op.TheVariants.{End, Start}}
+use Rattle.gate_world.specs.{declared.work.Phase.TheVariants.{DownReads, UpReads}, refusals.Causes.asks_level, traces.Traces.most_events}
 use Rattle.freeze_laws.specs.levels.Roles.{closed}
-use Rattle.percpu_rwsem.specs.{Readers.down_read_after, declared.readers.{DownRead.DownRead, UpRead.UpRead}}
-use Rattle.std.proofs.{Common.{Bool, ap, arith, refl, subst, sym, true, ℕ, ◌+◌, ◌-◌, ◌<◌, ◌∙◌, ◌≡◌, ◌≤◌}}
-use Rattle.std.specs.Prelude.{Some, nat_lt, ◌&&◌}
+use Rattle.percpu_rwsem.specs.{Readers.down_read_after, declared.readers.UpRead.UpRead}
+use Rattle.std.{proofs.Common.◌-◌, specs.Prelude.◌&&◌}
 
 -- of each phase of a start
 pub read_phase : (c : Config) (r : DownRead) → PhaseLaws c (DownReads r)
@@ -71,8 +71,7 @@ start_op c i p wait = record {
   room_agrees = λ held seen same there. refl;
   restores = λ refusal trace before order. refl;
   file = λ t held order room. tt;
-  tells = λ within t trace h. tells_well (StartAt i p t wait) c t (Start i p wait) (start_inductive c t i p wait) trace h;
-  short = λ within t trace h. is_short_well (StartAt i p t wait) c t (Start i p wait) (start_inductive c t i p wait) trace h;
+  traces = λ within. traces_given_reads (λ t. StartAt i p t wait) c (Start i p wait) (λ t. start_inductive c t i p wait);
   most_small = λ within. by_bool wait (λ b. IsSmall (most_events c (Start i p b))) tt (omega arith);
 }
 
@@ -88,7 +87,6 @@ end_op c i p = record {
   room_agrees = λ held seen same there. refl;
   restores = λ refusal trace before order. refl;
   file = λ t held order room. tt;
-  tells = λ within t trace h. tells (EndAt i p) c t (End i p) (end_inductive c t i p) trace h;
-  short = λ within t trace h. is_short (EndAt i p) c t (End i p) (end_inductive c t i p) trace h;
+  traces = λ within. traces_tell (λ t. EndAt i p) c (End i p) (λ t. end_inductive c t i p);
   most_small = λ within. omega arith;
 }

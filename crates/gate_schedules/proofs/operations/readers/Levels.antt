@@ -1,22 +1,18 @@
--- Events of a down-read leave the rcu_sync of each level, and the sections.
-use Rattle.std.proofs.{Common.{◌≡◌, ℕ, ◌-◌, ◌<◌, ◌≤◌, refl, sym, ap, ◌∙◌, subst, inl, inr, arith}, lemmas.Bool.Decides.{eqb_tells}}
-use Rattle.std.specs.Prelude.{Some, Bool, true, false, ◌==◌}
-use Rattle.finite_sums.specs.Sums.{update}
-use Rattle.access_model.specs.{Replies.map_next, declared.replies.Next.{Next}}
-use Rattle.cpu_words.specs.{Hooks.HookAnswer, Touches.found_by, Words.read, declared.{events.Touch.Touch, names.WordName.WordName}}
-use Rattle.percpu_rwsem.specs.{Readers.{at_down_read, down_read_next, down_read_after, left_blocked}, declared.readers.DownRead.DownRead}
-use Rattle.percpu_rwsem.specs.declared.readers.DownReadStep.{DownReadStep, TheVariants.{EntersSection, LoadsSync, CountsUpFast, CountsUpSlow, LoadsBlock}}
-use Rattle.percpu_rwsem.specs.declared.readers.DownReadStep.TheVariants.{CountsDown, LeavesAdmitted, LeavesBlocked}
-use Rattle.freeze_laws.specs.levels.{Events.{SyncLevelHolds, SyncStep}, Operations.{down_read_role, down_read_inside, left_by, by_next, HoldsOfNext}}
-use Rattle.freeze_laws.specs.levels.Roles.{Out as IsApart, fast}
-use Rattle.freeze_laws.proofs.levels.ReadOperations.{down_reads_are_there}
-use Rattle.gate_world.specs.{LevelRuns.level_in, Levels.{sync_role_of, inside}, Roles.sync_role_if, Rules.{IsGood, SyncAt, Sections, Holds}, Views.view_after}
-use Rattle.gate_world.specs.{Views.phase_after, Worlds.{World, after_step}, declared.{config.Config.Config, views.View.View}}
-use Rattle.gate_world.specs.declared.work.Phase.TheVariants.{DownReads}
-use Rattle.gate_schedules.proofs.levels.Worlds.{sync_on, sync_off, IsOfLevel, IsEventAt, found_level, level_there, turned_words, sync_turned, sections_turned}
-use Rattle.gate_schedules.proofs.levels.Worlds.{sync_elsewhere}
+-- Steps of a down-read leave the rcu_sync of each level, and the sections.
+use Rattle.gate_schedules.proofs.Prelude.{Config, DownRead, Holds, HookAnswer, IsGood, Next, Some, SyncAt, SyncStep, Touch, View, WordName, World}
+use Rattle.gate_schedules.proofs.Prelude.{after_step, ap, arith, eqb_tells, found_by, inl, inr, inside, level_in, map_next, phase_after, read, refl}
+use Rattle.gate_schedules.proofs.Prelude.{subst, sym, sync_role_of, update, ℕ, ◌<◌, ◌==◌, ◌∙◌, ◌≡◌, ◌≤◌}
+use Rattle.std.{proofs.Common.◌-◌, specs.Prelude.{Bool, true, false}}
+use Rattle.percpu_rwsem.specs.{Readers.{at_down_read, down_read_next, down_read_after, left_blocked}, declared.readers.DownReadStep.DownReadStep}
+use Rattle.percpu_rwsem.specs.declared.readers.DownReadStep.TheVariants.{EntersSection, LoadsSync, CountsUpFast, CountsUpSlow, LoadsBlock, CountsDown}
+use Rattle.percpu_rwsem.specs.declared.readers.DownReadStep.TheVariants.{LeavesAdmitted, LeavesBlocked}
+use Rattle.freeze_laws.{proofs.levels.ReadOperations.down_reads_are_there, specs.levels.{Events.SyncLevelHolds, Operations.down_read_role}}
+use Rattle.freeze_laws.specs.levels.{Operations.{down_read_inside, left_by, by_next, HoldsOfNext}, Roles.{Out as IsApart, fast}}
+use Rattle.gate_world.specs.{Roles.sync_role_if, Rules.Sections, Views.view_after, declared.work.Phase.TheVariants.DownReads}
+use Rattle.gate_schedules.proofs.levels.Worlds.{sync_on, sync_off, IsOfLevel, IsEventAt, found_level, level_there, turned_words, sync_turned}
+use Rattle.gate_schedules.proofs.levels.Worlds.{sections_turned, sync_elsewhere}
 
--- what the rule says of the rcu_sync of each level, and of the sections
+-- what the invariant says of the rcu_sync of each level, and of the sections
 abbrev pub LevelsHold : Config → World → Type 0
 LevelsHold c w = ((i : ℕ) → Holds c w (SyncAt i)) × Holds c w Sections
 
@@ -30,7 +26,7 @@ pub keeps_level : (r : DownRead) (s : DownReadStep) (found : ℕ) →
     HoldsOfNext (λ (x : DownRead). x.level ≡ r.level) (down_read_after r s found).0
 keeps_level r s found = grind arith
 
--- at its level, the role of what comes after an event is the one of its step
+-- at its level, the role of what comes after a step is the one of its program point
 role_next : (i : ℕ) (n : Next DownRead) → HoldsOfNext (λ (x : DownRead). x.level ≡ i) n →
     by_next (λ (x : DownRead). down_read_role x.step) IsApart n ≡ sync_role_of i (phase_after (map_next DownReads n))
 role_next i n h = grind arith
@@ -45,7 +41,7 @@ pub inside_next : (n : Next DownRead) →
     by_next (λ (x : DownRead). down_read_inside x.step) 0 n ≡ inside (phase_after (map_next DownReads n))
 inside_next n = grind arith
 
--- each event of a down-read is of a word of its level
+-- each step of a down-read is of a word of its level
 pub word_of_level : (r : DownRead) (s : DownReadStep) → IsOfLevel r.level (down_read_next r s).0
 word_of_level r s = grind arith
 
@@ -61,7 +57,7 @@ blocked_outside r false = refl
 
 module _ (c : Config) (w : World) (good : IsGood c w) (hook : HookAnswer) (r : DownRead) (lt : r.task < c.tasks) (one : 1 ≤ r.level)
     (three : r.level ≤ 3) (s : DownReadStep) (e : (w.views r.task).phase ≡ Some (DownReads (at_down_read r s))) where
-  -- the world after its event
+  -- the state after its step
   abbrev pub after_event : World
   after_event = after_step w r.task (DownReads (at_down_read r s)) hook
 
@@ -69,11 +65,11 @@ module _ (c : Config) (w : World) (good : IsGood c w) (hook : HookAnswer) (r : D
   abbrev pub seen_after : View
   seen_after = view_after (w.views r.task) (DownReads (at_down_read r s)) (read w.words (down_read_next r s).0) hook
 
-  -- its role before the event
+  -- its role before the step
   role_now : sync_role_of r.level (w.views r.task).phase ≡ down_read_role s
   role_now = ap (sync_role_of r.level) e ∙ sync_on r.level (down_read_role s)
 
-  -- the event is one of its level
+  -- the step is one of its level
   pub steps_there : SyncStep c.tasks (level_in w r.level)
       (record (left_by (level_in w r.level) r.task (down_read_next r s) (read w.words (down_read_next r s).0)
       (sync_role_of r.level seen_after.phase)) { inside = update (level_in w r.level).inside r.task (inside seen_after.phase) })
@@ -103,7 +99,7 @@ module _ (c : Config) (w : World) (good : IsGood c w) (hook : HookAnswer) (r : D
       level_there c w good r.task lt r.level (down_read_next r s).0 (down_read_next r s).1 (word_of_level r s) seen_after one three
       steps_there
 
-  -- an event that changes no section word leaves the other levels
+  -- a step that changes no section word leaves the other levels
   unturned : IsEventAt r.level (down_read_next r s).0 (down_read_next r s).1 → LevelsHold c after_event
   unturned is = (
     λ i. elim (eqb_tells i r.level) [
@@ -116,7 +112,7 @@ module _ (c : Config) (w : World) (good : IsGood c w) (hook : HookAnswer) (r : D
     own_level.sections.odd,
   )
 
-  -- an addition to its section word is an event of each level
+  -- an addition to its section word is a step of each level
   turned : (v : View) → down_read_role s ≡ IsApart → ((i : ℕ) → sync_role_of i v.phase ≡ IsApart) →
       inside v.phase ≡ 1 - down_read_inside s →
       LevelsHold c (record { words = turned_words c w good r.task lt; views = update w.views r.task v })
@@ -146,7 +142,7 @@ read_levels_at c w good hook r lt one three LeavesBlocked e =
     turned c w good hook r lt one three LeavesBlocked e (seen_after c w good hook r lt one three LeavesBlocked e) refl
     (blocked_apart r r.wait) (blocked_outside r r.wait)
 
--- each event of a down-read leaves what the rule says of the rcu_sync of each level and of the sections
+-- each step of a down-read leaves what the invariant says of the rcu_sync of each level and of the sections
 pub read_levels : (c : Config) (w : World) → IsGood c w → (t : ℕ) → t < c.tasks → (hook : HookAnswer) (r : DownRead) → r.task ≡ t →
     1 ≤ r.level → r.level ≤ 3 → (w.views t).phase ≡ Some (DownReads r) → LevelsHold c (after_step w t (DownReads r) hook)
 read_levels c w good t lt hook r own one three e =

@@ -1,11 +1,8 @@
 -- A start whose level is open, or that doesn't wait, an end, and a write access whose level and mount are open run out.
-use Rattle.std.proofs.{Common.{◌≡◌, true, false, ap, ◌∙◌, arith}}
-use Rattle.cpu_words.specs.{Touches.{left, found_by}, Words.{Words, read, put}}
-use Rattle.percpu_rwsem.specs.{Readers.{down_read_next, down_read_after}}
-use Rattle.percpu_rwsem.specs.declared.readers.{DownRead.{DownRead}, DownReadStep.{DownReadStep}, UpRead.{UpRead}}
-use Rattle.composite_ops.specs.{write_access.Phases.{next as write_next, after as write_after}, declared.write_access.phases.WritePhase.WritePhase}
-use Rattle.gate_world.specs.{traces.TraceStates.WordIsValid, Worlds.{words_after, found_at}, declared.{config.Config.Config, work.Phase.TheVariants.{DownReads, UpReads}}}
-use Rattle.gate_world.specs.declared.work.Phase.TheVariants.{Writes}
+use Rattle.gate_schedules.proofs.Prelude.{Config, DownRead, Words, ap, arith, false, found_at, found_by, left, put, read, true, words_after, ◌∙◌, ◌≡◌}
+use Rattle.percpu_rwsem.specs.{Readers.{down_read_next, down_read_after}, declared.readers.{DownReadStep.DownReadStep, UpRead.UpRead}}
+use Rattle.composite_ops.specs.{declared.write_access.phases.WritePhase.WritePhase, write_access.Phases.{next as write_next, after as write_after}}
+use Rattle.gate_world.specs.{declared.work.Phase.TheVariants.{DownReads, UpReads, Writes}, traces.TraceStates.WordIsValid}
 use Rattle.gate_schedules.proofs.{frames.ValidWords.events_may_be, operations.deadlocks.RankDecreases.falls_as}
 use Rattle.gate_schedules.specs.operations.{Progress.is_admitted, Ranks.{rank, read_rank, write_rank}, Unblocked.{IsUnblocked, ReadIsUnblocked}}
 use Rattle.gate_schedules.specs.operations.Unblocked.{WriteIsUnblocked, RankDecreases, PhaseEnds}
@@ -20,7 +17,7 @@ module _ (w : Words) (r : DownRead) where
       (put w (down_read_next r s).0 (left (down_read_next r s).1 (read w (down_read_next r s).0))).block r.level ≡ w.block r.level
   read_block s = ap (λ f. f r.level) (read_blocks s)
 
-  -- each event of a down-read, whose sync word is one
+  -- each step of a down-read, whose sync word is one
   pub read_falls : (after : Words) → (s : DownReadStep) → WordIsValid (down_read_next r s).0 (read w (down_read_next r s).0) →
       (r.wait ≡ true → is_admitted s ≡ false → after.block r.level ≡ 0) →
       (r.wait ≡ true → is_admitted s ≡ false → w.block r.level ≡ 0) →
@@ -43,7 +40,7 @@ read_ends c r = record {
 pub end_ends : (c : Config) (u : UpRead) → PhaseEnds c (UpReads u)
 end_ends c u = record { falls = λ lim w good t lt hook at free. tt }
 
--- each event of a write access
+-- each step of a write access
 write_falls : (w : Words) (x : WritePhase) → WriteIsUnblocked w x → WordIsValid (write_next x).0 (read w (write_next x).0) →
     let after : Words = put w (write_next x).0 (left (write_next x).1 (read w (write_next x).0)) in
     RankDecreases write_rank (WriteIsUnblocked after) (write_rank x) (write_after x (found_by (write_next x).1 (read w (write_next x).0))).0

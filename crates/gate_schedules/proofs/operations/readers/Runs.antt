@@ -1,41 +1,36 @@
--- Each event of a down-read, of an up-read and of a callback is one of each level's kinds of event.
-use Rattle.std.proofs.lemmas.Grind.{common_steps}
-use Rattle.access_model.specs.{Replies.map_next}
-use Rattle.std.proofs.{Common.{arith, ap, inl, inr, refl, subst, sym, ℕ, ◌-◌, ◌<◌, ◌∙◌, ◌≡◌, ◌≤◌}, lemmas.Bool.Decides.{eqb_tells}}
-use Rattle.cpu_words.specs.{Hooks.HookAnswer, Touches.{found_by, left, wrap_add}, Words.{put, read}, declared.events.Touch.{Touch}}
-use Rattle.cpu_words.specs.declared.names.WordName.{WordName, TheVariants.{Section}}
-use Rattle.finite_sums.proofs.Totals.{update_same}
-use Rattle.finite_sums.specs.Sums.{update}
+-- Each step of a down-read, of an up-read and of a callback is one of each level's kinds of step.
+use Rattle.gate_schedules.proofs.Prelude.{Config, DownRead, Fits, Fitting, HookAnswer, IsGood, Some, SyncStep, Touch, View, WordName, World}
+use Rattle.gate_schedules.proofs.Prelude.{after_step, ap, arith, common_steps, eqb_tells, found_by, held_of, inl, inr, inside, is_frozen_whole, left}
+use Rattle.gate_schedules.proofs.Prelude.{level_in, map_next, phase_after, put, read, refl, subst, sym, sync_role_of, update, update_same, ℕ, ◌<◌}
+use Rattle.gate_schedules.proofs.Prelude.{◌==◌, ◌∙◌, ◌≡◌, ◌≤◌}
+use Rattle.std.proofs.Common.{◌-◌}
+use Rattle.cpu_words.specs.{Touches.wrap_add, declared.names.WordName.TheVariants.Section}
 use Rattle.gate_schedules.proofs.levels.{Steps.{level_kept, level_moved, level_stays}, Worlds.{IsEventAt, IsOfLevel, sync_off}}
 use Rattle.gate_schedules.proofs.operations.callback.Events.{event_of_level, seen_after as callback_seen, stays_apart, stays_outside}
-use Rattle.gate_schedules.proofs.operations.callback.Events.{steps_there as callback_steps, word_of_level as callback_word}
-use Rattle.gate_schedules.proofs.operations.readers.Levels.{apart_if, blocked_apart, blocked_outside, keeps_level, role_elsewhere, seen_after, steps_there}
+use Rattle.gate_schedules.proofs.operations.{callback.Events.{steps_there as callback_steps, word_of_level as callback_word}, readers.Levels.apart_if}
+use Rattle.gate_schedules.proofs.operations.readers.Levels.{blocked_apart, blocked_outside, keeps_level, role_elsewhere, seen_after, steps_there}
 use Rattle.gate_schedules.proofs.operations.readers.Levels.{word_of_level}
-use Rattle.gate_world.specs.{Fits.Fits, LevelRuns.level_in, Levels.{inside, is_frozen_whole, sync_role_of}, Roles.sync_role_if, Rules.{Fitting, IsGood}}
-use Rattle.gate_world.specs.{Views.{held_of, phase_after, view_after}, Worlds.{World, after_step}, declared.{config.Config.Config, views.View.View}}
-use Rattle.gate_world.specs.declared.work.Phase.TheVariants.{Callbacks, DownReads, UpReads}
-use Rattle.freeze_laws.specs.levels.{Events.{SyncStep, TurnsSection}, Operations.{down_read_inside, down_read_role, left_by}, Roles.{Out as IsApart, fast}}
-use Rattle.percpu_rwsem.specs.{Callbacks.callback_next, Readers.{at_down_read, down_read_after, down_read_next}}
-use Rattle.percpu_rwsem.specs.declared.{callbacks.Callback.Callback, readers.{DownRead.DownRead, DownReadStep.{DownReadStep, TheVariants.CountsDown}}}
-use Rattle.percpu_rwsem.specs.declared.readers.DownReadStep.TheVariants.{CountsUpFast, CountsUpSlow, EntersSection, LeavesAdmitted, LeavesBlocked, LoadsBlock}
-use Rattle.percpu_rwsem.specs.declared.readers.{DownReadStep.TheVariants.LoadsSync, UpRead.UpRead}
-use Rattle.std.specs.Prelude.{Some, ◌==◌}
+use Rattle.gate_world.specs.{Roles.sync_role_if, Views.view_after, declared.work.Phase.TheVariants.{Callbacks, DownReads, UpReads}}
+use Rattle.freeze_laws.specs.levels.{Events.TurnsSection, Operations.{down_read_inside, down_read_role, left_by}, Roles.{Out as IsApart, fast}}
+use Rattle.percpu_rwsem.specs.{Callbacks.callback_next, Readers.{at_down_read, down_read_after, down_read_next}, declared.callbacks.Callback.Callback}
+use Rattle.percpu_rwsem.specs.declared.readers.DownReadStep.{TheVariants.{CountsDown, CountsUpFast, CountsUpSlow, EntersSection}, DownReadStep}
+use Rattle.percpu_rwsem.specs.declared.readers.{DownReadStep.TheVariants.{LeavesAdmitted, LeavesBlocked, LoadsBlock, LoadsSync}, UpRead.UpRead}
 
 module _ (w : World) (t : ℕ) (v : View) where
-  -- a level with one of its words put, and the task's part in it, is the level of the world with these
+  -- a level with one of its words put, and the task's part in it, is the level of the state with these
   put_there : (i : ℕ) (name : WordName) → IsOfLevel i name → (touch : Touch) →
       (record (left_by (level_in w i) t (name, touch) (read w.words name) (sync_role_of i v.phase)) {
         inside = update (level_in w i).inside t (inside v.phase);
       }) ≡ level_in (record { words = put w.words name (left touch (read w.words name)); views = update w.views t v }) i
   put_there i name e touch = grind arith
 
-  -- an event at one level leaves another one, where the task's part in that is the same
+  -- a step at one level leaves another one, where the task's part in that is the same
   stays_there : (i j : ℕ) → (j ≡ i → ⊥) → (name : WordName) (touch : Touch) → IsEventAt i name touch →
       inside v.phase ≡ inside (w.views t).phase → sync_role_of j v.phase ≡ sync_role_of j (w.views t).phase →
       level_in (record { words = put w.words name (left touch (read w.words name)); views = update w.views t v }) j ≡ level_in w j
   stays_there i j ne name touch is same role = grind (arith, common_steps)
 
-  -- so an event at one level is one of each level's
+  -- so a step at one level is one of each level's
   runs_at : (tasks : ℕ) → t < tasks → (i : ℕ) (name : WordName) (touch : Touch) → IsOfLevel i name → IsEventAt i name touch →
       inside v.phase ≡ inside (w.views t).phase →
       ((j : ℕ) → (j ≡ i → ⊥) → sync_role_of j v.phase ≡ sync_role_of j (w.views t).phase) →
@@ -77,14 +72,14 @@ module _ (w : World) (t : ℕ) (v : View) where
     );
   }
 
--- an event of a down-read that changes no section word leaves it inside its section
+-- a step of a down-read that changes no section word leaves it inside its section
 stays_inside : (r : DownRead) (s : DownReadStep) (found : ℕ) → IsEventAt r.level (down_read_next r s).0 (down_read_next r s).1 →
     inside (phase_after (map_next DownReads (down_read_after r s found).0)) ≡ down_read_inside s
 stays_inside r s found is = grind arith
 
 module _ (c : Config) (w : World) (good : IsGood c w) (hook : HookAnswer) (r : DownRead) (lt : r.task < c.tasks) (one : 1 ≤ r.level)
     (three : r.level ≤ 3) where
-  -- the event of this step is one of each level's
+  -- the step of this program point is one of each level's
   abbrev Runs : DownReadStep → Type 0
   Runs s = (w.views r.task).phase ≡ Some (DownReads (at_down_read r s)) → (i : ℕ) →
       SyncStep c.tasks (level_in w i) (level_in (after_step w r.task (DownReads (at_down_read r s)) hook) i)
@@ -125,7 +120,7 @@ module _ (c : Config) (w : World) (good : IsGood c w) (hook : HookAnswer) (r : D
       runs_turns LeavesBlocked (seen_after c w good hook r lt one three LeavesBlocked e) e refl (blocked_apart r r.wait)
       (blocked_outside r r.wait)
 
--- each event of a down-read is one of each level's
+-- each step of a down-read is one of each level's
 pub read_runs : (c : Config) (w : World) → IsGood c w → (t : ℕ) → t < c.tasks → (hook : HookAnswer) (r : DownRead) →
     (w.views t).phase ≡ Some (DownReads r) → (i : ℕ) → SyncStep c.tasks (level_in w i) (level_in (after_step w t (DownReads r) hook) i)
 read_runs c w good t lt hook r e =
@@ -143,7 +138,7 @@ end_runs c w t lt hook u e i =
     level_stays c.tasks t lt (level_in w i) (level_in (after_step w t (UpReads u) hook) i)
     (level_kept w t i (after_step w t (UpReads u) hook).words v refl refl refl refl (sym (ap inside e)) (sym (ap (sync_role_of i) e)))
 
--- each event of a callback is one of each level's
+-- each step of a callback is one of each level's
 pub callback_runs : (c : Config) (w : World) → IsGood c w → (t : ℕ) → t < c.tasks → (hook : HookAnswer) (b : Callback) →
     (w.views t).phase ≡ Some (Callbacks b) → (i : ℕ) → SyncStep c.tasks (level_in w i) (level_in (after_step w t (Callbacks b) hook) i)
 callback_runs c w good t lt hook b e =

@@ -1,24 +1,24 @@
 -- Traces of a start and of an end. What is said of a down-read is said of it alone, so that an operation that goes through one as a part of
--- its own has it too, after so many events of its own.
-use Rattle.std.proofs.{Common.{◌≡◌, ℕ, ◌≤◌, Bool, true, false, arith}}
-use Rattle.std.specs.Prelude.{◌+◌, Option, Ok, Err, List, [], ◌∷◌, length}
-use Rattle.access_model.specs.{declared.actions.{Action.{Action, TheVariants.{Grant}}, Gate.TheVariants.Level}}
-use Rattle.access_model.specs.declared.{errors.GateError.TheVariants.Again, replies.Next.{Next, TheVariants.{Go, Wait, Done}}}
-use Rattle.cpu_words.specs.{Hooks.HookAnswer, Touches.{event_of, found_by}}
-use Rattle.percpu_rwsem.specs.{Readers.{down_read_next, down_read_after, step_found}, declared.readers.DownRead.DownRead}
-use Rattle.percpu_rwsem.specs.declared.readers.DownReadStep.{DownReadStep, TheVariants.{EntersSection, LoadsSync, CountsUpFast, CountsUpSlow, LoadsBlock}}
-use Rattle.percpu_rwsem.specs.declared.{readers.DownReadStep.TheVariants.{CountsDown, LeavesAdmitted, LeavesBlocked}}
-use Rattle.percpu_rwsem.specs.declared.sync_word.{SyncWord.SyncWord}
-use Rattle.gate_world.specs.{traces.TraceStates.{WordIsValid}, traces.Found.{newest, finds_closed, backed_off, left_closed, found_closed}}
-use Rattle.gate_world.specs.{Views.{with_hook, actions_after}, declared.{config.Config.Config, operations.Op.TheVariants.{Start, End}}}
-use Rattle.gate_world.specs.declared.{views.Traced.Traced, work.Phase.{Phase, TheVariants.{DownReads, UpReads}}}
+-- its own has it too, after so many steps of its own.
+use Rattle.gate_schedules.proofs.Prelude.{Action, Bool, Config, DownRead, Err, HookAnswer, List, Next, Ok, Option, Phase, Traced, [], arith, false}
+use Rattle.gate_schedules.proofs.Prelude.{found_by, true, ℕ, ◌∷◌, ◌≡◌, ◌≤◌}
+use Rattle.std.specs.Prelude.{◌+◌, length}
+use Rattle.access_model.specs.declared.{actions.{Action.TheVariants.Grant, Gate.TheVariants.Level}, errors.GateError.TheVariants.Again}
+use Rattle.access_model.specs.declared.replies.Next.TheVariants.{Go, Wait, Done}
+use Rattle.cpu_words.specs.Touches.{event_of}
+use Rattle.percpu_rwsem.specs.{Readers.{down_read_next, down_read_after, step_found}, declared.readers.DownReadStep.DownReadStep}
+use Rattle.percpu_rwsem.specs.declared.readers.DownReadStep.TheVariants.{EntersSection, LoadsSync, CountsUpFast, CountsUpSlow, LoadsBlock, CountsDown}
+use Rattle.percpu_rwsem.specs.declared.{readers.DownReadStep.TheVariants.{LeavesAdmitted, LeavesBlocked}, sync_word.SyncWord.SyncWord}
+use Rattle.gate_world.specs.{Views.{with_hook, actions_after}, declared.{operations.Op.TheVariants.{Start, End}, work.Phase.TheVariants.DownReads}}
+use Rattle.gate_world.specs.{declared.work.Phase.TheVariants.UpReads, traces.Found.{newest, finds_closed, backed_off, left_closed, found_closed}}
+use Rattle.gate_world.specs.traces.TraceStates.{WordIsValid}
 use Rattle.gate_schedules.proofs.traces.TraceInvariant.{IsInductive, IsInductiveGivenReads}
 
 -- a down-read of this level, processor, task and wait, at a step
 abbrev pub read_at : ℕ → ℕ → ℕ → Bool → DownReadStep → DownRead
 read_at i p t wait s = record { level = i; cpu = p; task = t; wait = wait; step = s }
 
--- how many events a down-read that waits for nobody has done before a step, at most
+-- how many steps a down-read that waits for nobody has done before a program point, at most
 abbrev pub events_before : DownReadStep → ℕ
 events_before EntersSection = 0
 events_before LoadsSync = 1
@@ -40,12 +40,12 @@ HasFound i CountsDown trace = (newest (finds_closed i) trace ≡ true) × (found
 HasFound i LeavesBlocked trace = (backed_off i trace ≡ true) × (found_closed i trace ≡ true)
 HasFound i s trace = Unit {0}
 
--- what the trace says at a step, where the down-read came after so many events
+-- what the trace says at a program point, where the down-read came after so many steps
 abbrev pub ReadSays : ℕ → ℕ → Bool → DownReadStep → List Traced → List Action → Type 0
 ReadSays base i wait s trace added =
     (added ≡ read_added i s) × (wait ≡ false → length trace ≤ base + events_before s) × HasFound i s trace
 
--- What the trace says by what comes after an event of a down-read, whatever operation it stands in: the next step's, where it waits that it
+-- What the trace says by what comes after a step of a down-read, whatever operation it stands in: the next program point's, where it waits that it
 -- left the level closed, where it ends well its grant, and where it is refused that it found the level closed and doesn't wait.
 abbrev pub ReadNext : ℕ → ℕ → ℕ → ℕ → Bool → List Traced → List Action → Next DownRead → Type 0
 ReadNext base i p t wait trace added (Go r) = (s : DownReadStep) × (r ≡ read_at i p t wait s) × ReadSays base i wait s trace added
@@ -61,7 +61,7 @@ pub by_word : (P : DownReadStep → Type 0) → P LoadsSync → P CountsUpFast �
 by_word P again fast slow word = grind arith
 
 module _ (base i p t : ℕ) (value : ℕ) (hook : HookAnswer) (earlier : List Traced) (added : List Action) where
-  -- what the trace says after the event of a step
+  -- what the trace says after the step at a program point
   abbrev pub TraceAfterStep : Bool → DownReadStep → Type 0
   TraceAfterStep wait s =
       let r : DownRead = read_at i p t wait s in
@@ -69,7 +69,7 @@ module _ (base i p t : ℕ) (value : ℕ) (hook : HookAnswer) (earlier : List Tr
       ReadNext base i p t wait (with_hook (event_of (down_read_next r s).0 (down_read_next r s).1 value) hook ∷ earlier)
       (actions_after (down_read_after r s found).1 added) (down_read_after r s found).0
 
-  -- each event of a down-read keeps what its trace says: its sync word is one, so it is loaded once
+  -- each step of a down-read keeps what its trace says: its sync word is one, so it is loaded once
   pub read_event : (wait : Bool) (s : DownReadStep) → WordIsValid (down_read_next (read_at i p t wait s) s).0 value →
       ReadSays base i wait s earlier added → TraceAfterStep wait s
   read_event wait s may h = grind arith
@@ -86,6 +86,6 @@ start_inductive c t i p wait = grind arith
 abbrev pub EndAt : ℕ → ℕ → List Traced → Phase → List Action → Type 0
 EndAt i p trace phase added = (phase ≡ UpReads (record { level = i; cpu = p })) × (trace ≡ []) × (added ≡ [])
 
--- its one event is its last
+-- its one step is its last
 pub end_inductive : (c : Config) (t i p : ℕ) → IsInductive (EndAt i p) c t (End i p)
 end_inductive c t i p = grind arith

@@ -1,19 +1,19 @@
--- The causes of a remount's refusals, along a schedule.
-use Rattle.std.proofs.Common.{◌≡◌, ℕ, suc, ◌+◌, ◌<◌, Bool, true, false, refl, sym, subst, ap, ◌∙◌, inl, inr, arith}
-use Rattle.std.proofs.lemmas.Bool.{ltb-false, ne_eqb, cases_Bool, Decides.eqb_tells}
-use Rattle.std.specs.Prelude.{nat_lt, Option, Some, None, Result, Ok, Err, List, ◌∷◌, ◌==◌, not, if◌then◌else◌}
-use Rattle.access_model.specs.declared.{errors.GateError.GateError, replies.Reply.Reply}
-use Rattle.cpu_words.specs.{Hooks.HookAnswer, Touches.wrap_add, Words.Words, declared.{names.WordName.WordName, sums.Sum.Sum}}
-use Rattle.mount_counts.specs.{Phases.has_flag, Remounts.{at_remount, remount_from, past_mount, let_go, leave_holds, give_up, remount_summed, past_node}}
-use Rattle.mount_counts.specs.{Sets.{with_mount, without_lowest}, declared.{remounts.{Remount.Remount, RemountStep.RemountStep}, sets.MountSet.MountSet}}
-use Rattle.gate_world.specs.refusals.Causes.{all_counted, words_read, mount_summed, moments_of_sum, AreOfMount, SomeWasCounted, was_removed}
-use Rattle.gate_world.specs.refusals.Causes.{last_removed, looks_at_removed}
-use Rattle.gate_world.specs.{refusals.KeptCauses.{RemountAnswerCause, RemountCause, CauseOf}, Remounts.RemountFits, Rules.IsGood, Views.phase_after, Work.after_of}
-use Rattle.gate_world.specs.{Worlds.{words_after, World, found_at}, declared.{config.Config.Config, work.Phase.Phase}}
-use Rattle.gate_schedules.proofs.{frames.{OperationLaws.by_bool, Words.load_same}, mounts.SumCauses.{counted_stays, sum_starts, sum_stays, sum_takes, sum_ends}}
-use Rattle.gate_schedules.proofs.traces.Moments.{sum_skips, sum_begins}
+-- The causes of a remount's refusals, along an execution.
+use Rattle.gate_schedules.proofs.Prelude.{Bool, Config, Err, GateError, HookAnswer, IsGood, List, None, Ok, Option, Phase, Reply, Result, Some}
+use Rattle.gate_schedules.proofs.Prelude.{WordName, Words, World, after_of, ap, arith, cases_Bool, eqb_tells, false, found_at, if◌then◌else◌, inl}
+use Rattle.gate_schedules.proofs.Prelude.{inr, nat_lt, phase_after, refl, subst, suc, sym, true, words_after, ℕ, ◌+◌, ◌<◌, ◌==◌, ◌∙◌, ◌∷◌, ◌≡◌}
+use Rattle.std.{proofs.lemmas.Bool.{ltb-false, ne_eqb}, specs.Prelude.not}
+use Rattle.cpu_words.specs.{Touches.wrap_add, declared.sums.Sum.Sum}
+use Rattle.mount_counts.specs.{Phases.has_flag, Remounts.{at_remount, remount_from, past_mount, let_go, leave_holds, give_up, remount_summed}}
+use Rattle.mount_counts.specs.{Remounts.past_node, Sets.{with_mount, without_lowest}, declared.remounts.{Remount.Remount, RemountStep.RemountStep}}
+use Rattle.mount_counts.specs.declared.sets.MountSet.{MountSet}
+use Rattle.gate_world.specs.{Remounts.RemountFits, refusals.Causes.{all_counted, words_read, mount_summed, moments_of_sum, AreOfMount}}
+use Rattle.gate_world.specs.refusals.{Causes.{SomeWasCounted, was_removed, last_removed, looks_at_removed}, KeptCauses.RemountAnswerCause}
+use Rattle.gate_world.specs.refusals.KeptCauses.{RemountCause, CauseOf}
+use Rattle.gate_schedules.proofs.{frames.{OperationLaws.by_bool, Words.load_same}, mounts.SumCauses.{counted_stays, sum_starts, sum_stays, sum_takes}}
+use Rattle.gate_schedules.proofs.{mounts.SumCauses.sum_ends, traces.Moments.{sum_skips, sum_begins}}
 
--- a task whose next event is a load of `removed` looks at it, any other doesn't
+-- a task whose next step is a load of `removed` looks at it, any other doesn't
 removed_skips : (t : ℕ) (w : World) (earlier : List World) → looks_at_removed (w.views t).phase ≡ false →
     last_removed t (w ∷ earlier) ≡ last_removed t earlier
 removed_skips t w earlier h = rw h refl
@@ -28,7 +28,7 @@ some_stays : (c : Config) (t : ℕ) (w : World) (earlier : List World) → words
 some_stays c t w earlier e h =
     (h.0, h.1, subst (AreOfMount t h.0) (sym (sum_skips t w earlier e)) h.2, counted_stays c t h.0 w earlier e h.3)
 
--- the worlds of a sum of a mount are of that mount: where it begins
+-- the states of a sum of a mount are of that mount: where it begins
 of_mount_begins : (t m : ℕ) (w : World) (earlier : List World) → words_read (w.views t).phase ≡ Some 0 →
     mount_summed (w.views t).phase ≡ Some m → AreOfMount t m (moments_of_sum t (w ∷ earlier))
 of_mount_begins t m w earlier e at = subst (AreOfMount t m) (sym (sum_begins t w earlier e)) (at, tt)
@@ -37,7 +37,7 @@ of_mount_goes : (t m k : ℕ) (w : World) (earlier : List World) → words_read 
     mount_summed (w.views t).phase ≡ Some m → AreOfMount t m (moments_of_sum t earlier) → AreOfMount t m (moments_of_sum t (w ∷ earlier))
 of_mount_goes t m k w earlier e at h = grind arith
 
--- a task whose view another entry leaves alone
+-- a task whose view another transition leaves alone
 module _ (c : Config) (t : ℕ) (w next : World) (earlier : List World) (good : IsGood c next) (x : Remount) where
   answer_stays : (answer : Result Reply GateError) → (next.views t).phase ≡ Some (Phase.Remounts (at_remount x (RemountStep.Releases answer))) →
       RemountAnswerCause c t w earlier answer → RemountAnswerCause c t next (w ∷ earlier) answer
@@ -47,17 +47,9 @@ module _ (c : Config) (t : ℕ) (w next : World) (earlier : List World) (good : 
       (w.views t).phase ≡ Some (Phase.Remounts (at_remount x s)) →
       ((m : ℕ) → all_counted c m w ≡ 0 → all_counted c m next ≡ 0 → next.words.count m ≡ w.words.count m) → RemountCause c t w earlier s →
       RemountCause c t next (w ∷ earlier) s
-  remount_stays (RemountStep.Sums m held sum) f e was quiet h = (
-    sum_stays c t m w next earlier sum h.0 good f.0 (ap words_read e) (ap words_read was) (quiet m),
-    of_mount_goes t m sum.words next (w ∷ earlier) (ap words_read e) (ap mount_summed e) h.1,
-  )
-  remount_stays (RemountStep.GivesUp m held) f e was quiet h = some_stays c t next (w ∷ earlier) (ap words_read e) h
-  remount_stays (RemountStep.LeavesHolds held) f e was quiet h =
-      ap was_removed (removed_skips t next (w ∷ earlier) (ap looks_at_removed e)) ∙ h
-  remount_stays (RemountStep.Releases answer) f e was quiet h = answer_stays answer e h
-  remount_stays s f e was quiet h = tt
+  remount_stays s f e was quiet h = grind (arith, sum_stays, of_mount_goes, some_stays, removed_skips, answer_stays)
 
--- the task that steps: what its next phase says, in the world after the event
+-- the task that steps: what its next phase says, in the state after the step
 module _ (c : Config) (t : ℕ) (w next : World) (earlier : List World) (after : IsGood c next) (x : Remount) where
   -- what a step says there
   abbrev CauseAfter : RemountStep → Type 0
@@ -70,10 +62,7 @@ module _ (c : Config) (t : ℕ) (w next : World) (earlier : List World) (after :
   hook_own code r = absurd (cc)
 
   from_own : (wanted found : Bool) → CauseAfter (remount_from wanted found)
-  from_own true true = done_own
-  from_own true false = tt
-  from_own false true = tt
-  from_own false false = done_own
+  from_own wanted found = grind (arith, done_own)
 
   past_mount_own : (m : ℕ) (held : MountSet) → CauseAfter (past_mount x.mounts m held)
   past_mount_own m held =
@@ -131,7 +120,7 @@ module _ (c : Config) (t : ℕ) (w next : World) (earlier : List World) (after :
       CauseAfter (RemountStep.Releases (Err GateError.Busy))
   stage_own e frozen e' r = grind arith
 
-  -- what comes after an event has its cause
+  -- what comes after a step has its cause
   pub remount_own : (hook : HookAnswer) (s : RemountStep) → x.processors ≡ c.processors → RemountFits c s →
       (w.views t).phase ≡ Some (Phase.Remounts (at_remount x s)) → next.words ≡ words_after w.words (Phase.Remounts (at_remount x s)) hook →
       RemountCause c t w earlier s →

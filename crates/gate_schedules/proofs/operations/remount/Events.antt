@@ -1,43 +1,41 @@
--- The other events of a remount, and all of them as one law.
-use Rattle.access_model.specs.{Actions.marked as marked_as, States.{IsFile, is_removed, one_if}, declared.{actions.Action.Action, errors.GateError.GateError}}
-use Rattle.access_model.specs.declared.replies.{Next.Next, Reply.Reply}
-use Rattle.cpu_words.specs.{Hooks.HookAnswer, Words.Words, declared.{events.{Event.Event, Touch.Touch}, names.WordName.WordName}}
-use Rattle.finite_sums.proofs.Totals.{total_at, update_at, update_map, update_same}
-use Rattle.finite_sums.specs.Sums.{total, update}
-use Rattle.gate_schedules.proofs.frames.{SameRolesOffTree.update_twice, Frames.{left_alone, owner_same}}
-use Rattle.gate_schedules.proofs.frames.{Owners.{locks_umount, no_remount, releases_umount, remount_stands}, Stages.{nobody_owns, stages_in}}
-use Rattle.gate_schedules.proofs.mounts.{Loads.{after_load, steady}, Parts.is_known_part}
-use Rattle.gate_schedules.proofs.operations.remount.Fits.{give_up_fits, leave_holds_fits, leaves_below, let_go_fits, none_below, past_node_fits, state_fits}
-use Rattle.gate_schedules.proofs.operations.remount.Loop.{give_up_on, give_up_stays, leave_holds_on, leave_holds_stays, let_go_on, let_go_stage, let_go_stays}
-use Rattle.gate_schedules.proofs.operations.remount.Loop.{loads_flags, past_node_stage, past_node_stays, sets_hold, sums}
-use Rattle.gate_schedules.proofs.operations.remount.Parts.{NextRoleHolds, Mount, PartsHold, RemountKeeps, StageHolds, StaysAtStep, flags_change, here_cleared, here_fits}
-use Rattle.gate_schedules.proofs.operations.remount.Parts.{here_knows, load_event, load_found, mount_stays, node_changes, owner_on, role_stays, role_was}
-use Rattle.gate_schedules.proofs.operations.remount.Parts.{stage_holds, stores, tree_by, tree_by_two, tree_stays, tree_was, tree_where, umount_changes}
-use Rattle.gate_schedules.proofs.operations.remount.Parts.{whole_remount}
+-- The other steps of a remount, and all of them as one law.
+use Rattle.gate_schedules.proofs.Prelude.{Action, AtMount, Bool, Config, GateError, Holds, HookAnswer, IsGood, IsWithin, Next, Owner, Phase}
+use Rattle.gate_schedules.proofs.Prelude.{PhaseFits, Reply, Stages, StepKeeps, Touch, Tree, View, WordName, Words, World, ap, arith, cases_Bool}
+use Rattle.gate_schedules.proofs.Prelude.{eqb_tells, false, held_of, inl, inr, is_frozen_whole, owns, refl, shown, stage_role_of, subst, suc, sym}
+use Rattle.gate_schedules.proofs.Prelude.{total, tree_bounds, true, true≢false, update, update_at, update_same, ℕ, ◌+◌, ◌<◌, ◌∙◌, ◌≡◌}
+use Rattle.access_model.specs.{Actions.marked as marked_as, States.{IsFile, is_removed, one_if}}
+use Rattle.cpu_words.specs.declared.events.Event.{Event}
+use Rattle.finite_sums.proofs.Totals.{total_at, update_map}
+use Rattle.gate_schedules.proofs.frames.{Frames.{left_alone, owner_same}, Owners.{locks_umount, no_remount, releases_umount, remount_stands}}
+use Rattle.gate_schedules.proofs.{frames.{SameRolesOffTree.update_twice, Stages.{nobody_owns, stages_in}}, mounts.Loads.{after_load, steady}}
+use Rattle.gate_schedules.proofs.{mounts.Parts.is_known_part, operations.remount.Fits.{give_up_fits, leave_holds_fits, leaves_below, let_go_fits}}
+use Rattle.gate_schedules.proofs.operations.remount.{Fits.{none_below, past_node_fits, state_fits}, Loop.{give_up_on, give_up_stays, leave_holds_on}}
+use Rattle.gate_schedules.proofs.operations.remount.Loop.{leave_holds_stays, let_go_on, let_go_stage, let_go_stays, loads_flags, past_node_stage}
+use Rattle.gate_schedules.proofs.operations.remount.{Loop.{past_node_stays, sets_hold, sums}, Parts.{NextRoleHolds, Mount, PartsHold, RemountKeeps}}
+use Rattle.gate_schedules.proofs.operations.remount.Parts.{StageHolds, StaysAtStep, flags_change, here_cleared, here_fits, here_knows, load_event}
+use Rattle.gate_schedules.proofs.operations.remount.Parts.{load_found, mount_stays, node_changes, owner_on, role_stays, role_was, stage_holds, stores}
+use Rattle.gate_schedules.proofs.operations.remount.Parts.{tree_by, tree_by_two, tree_stays, tree_was, tree_where, umount_changes, whole_remount}
 use Rattle.gate_schedules.proofs.operations.remount.Roles.{give_up_role, leave_holds_role, let_go_role, no_giving, past_node_role, remount_seeks}
-use Rattle.gate_schedules.proofs.trees.worlds.Trees.{nobody_reads, shown_clean}
-use Rattle.gate_world.specs.{Configs.IsWithin, Fits.PhaseFits, Holdings.holdings_of, Levels.is_frozen_whole, Remounts.{AllBelow, RemountFits, giving_role}}
-use Rattle.gate_world.specs.{Remounts.{held_role, loop_role, remount_owns, remount_role, remount_sets}, Roles.{remount_stage_role, remount_tree_role}}
-use Rattle.gate_world.specs.Rules.{AtMount, Holds, IsGood, MountHoldsIn, Owner, Part, Stages, StepKeeps, Tree, at_mount, marks_of, owns, remounts, role_of}
-use Rattle.gate_world.specs.{Rules.stage_role_of, Shown.shown, Trees.{is_bare_at, tree_bounds, tree_of, tree_roles}, Views.{actions_after, held_at, held_of}}
-use Rattle.gate_world.specs.{Views.view_with, Worlds.World, declared.{config.Config.Config, views.View.View, work.Phase.Phase}}
-use Rattle.node_words.proofs.ClearedMarks.{clean_stays, cleared_shown, clears_mark, directory_clean, without_mark}
-use Rattle.node_words.specs.Nodes.{IsNode, dirty_in, node_shown}
-use Rattle.gated_tree.specs.Roles.{Bare, Bounds, Clearing, HasNoCharge, Out as OffTree, Role as TreeRole, RoleHolds}
-use Rattle.gated_tree.specs.Roles.{TreeState, charge, child_charge, removal, sealed_by}
-use Rattle.mount_counts.specs.{Phases.has_flag, Remounts.{at_remount, give_up, leave_holds, let_go, past_node, remount_from}, Roles.{Empty, Out, Skipped}}
-use Rattle.mount_counts.specs.{Roles.{admitted, has_hold, past_flags, processor_of, questions_of, ro_bit, skips}, Sets.{has_mount, lowest, no_mounts}}
-use Rattle.mount_counts.specs.{Sets.without_lowest, declared.{remounts.{Remount.Remount, RemountStep.RemountStep}, sets.MountSet.MountSet}}
-use Rattle.mount_counts.proofs.laws.{Bits.{and_not_hold, without_hold}, MountLaws.{SeeksNone, clears_hold as mount_clears_hold, closed, empties, is_left}}
-use Rattle.mount_counts.proofs.laws.{MountLaws.{marks_empty, marks_skipped, none_remounting, remounting, sealed, stores as mount_stores}, Sets.leaves_here}
-use Rattle.mount_counts.proofs.laws.Sets.{leaves_there, lowest_held, none_held}
+use Rattle.gate_schedules.{proofs.trees.worlds.Trees.{nobody_reads, shown_clean}, specs.trees.Events.{BeginsClearing, Clears, Event as TreeEvent}}
+use Rattle.gate_schedules.specs.trees.Events.{FindsNone, GoesBare, Leaves, Opens, Passes, Seals, StopsBare, turned}
+use Rattle.gate_world.specs.{Holdings.holdings_of, Remounts.{AllBelow, RemountFits, giving_role, held_role, loop_role, remount_owns, remount_role}}
+use Rattle.gate_world.specs.{Remounts.remount_sets, Roles.{remount_stage_role, remount_tree_role}, Rules.{MountHoldsIn, Part, at_mount, marks_of}}
+use Rattle.gate_world.specs.{Rules.{remounts, role_of}, Trees.{is_bare_at, tree_of, tree_roles}, Views.{actions_after, held_at, view_with}}
+use Rattle.node_words.{proofs.ClearedMarks.{clean_stays, cleared_shown, clears_mark, directory_clean, without_mark}, specs.Nodes.{IsNode, dirty_in}}
+use Rattle.node_words.specs.Nodes.{node_shown}
+use Rattle.gated_tree.specs.Roles.{Bare, Bounds, Clearing, HasNoCharge, Out as OffTree, Role as TreeRole, RoleHolds, TreeState, charge, child_charge}
+use Rattle.gated_tree.specs.Roles.{removal, sealed_by}
+use Rattle.mount_counts.proofs.laws.{Bits.{and_not_hold, without_hold}, MountLaws.{SeeksNone, clears_hold as mount_clears_hold, closed, empties}}
+use Rattle.mount_counts.proofs.laws.MountLaws.{is_left, marks_empty, marks_skipped, none_remounting, remounting, sealed, stores as mount_stores}
+use Rattle.mount_counts.{proofs.laws.Sets.{leaves_here, leaves_there, lowest_held, none_held}, specs.{Phases.has_flag, Remounts.at_remount}}
+use Rattle.mount_counts.specs.{Remounts.{give_up, leave_holds, let_go, past_node, remount_from}, Roles.{Empty, Out, Skipped, admitted, has_hold}}
+use Rattle.mount_counts.specs.{Roles.{past_flags, processor_of, questions_of, ro_bit, skips}, Sets.{has_mount, lowest, no_mounts, without_lowest}}
+use Rattle.mount_counts.specs.declared.{remounts.{Remount.Remount, RemountStep.RemountStep}, sets.MountSet.MountSet}
 use Rattle.freeze_laws.specs.stages.Events.{CancelsRemount, ClearsMarkReadOnly, ClearsRemount as TakesRemount, SameDuties, Locks as LocksStage}
-use Rattle.freeze_laws.specs.stages.Events.{Releases as ReleasesStage, SetsReadOnly as StoresReadOnly, SetsRemount as StoresRemount, SetsWritable as StoresWritable}
-use Rattle.freeze_laws.specs.stages.{Events.playing, Roles.{CleanBelow, IsKnown, Owning}}
-use Rattle.std.proofs.Common.{Bool, Err, None, Ok, Option, Result, Some, ap, arith, bit_and, eq-eqb, false, inl, inr, le-ltb, nat_lt, ne_eqb, not, option_map}
-use Rattle.std.proofs.{Common.{refl, subst, suc, sym, true, true≢false, ℕ, ◌+◌, ◌<◌, ◌==◌, ◌||◌, ◌∙◌, ◌∷◌, ◌≡◌}, lemmas.Bool.{cases_Bool, Decides.eqb_tells}}
+use Rattle.freeze_laws.specs.stages.Events.{Releases as ReleasesStage, SetsReadOnly as StoresReadOnly, SetsRemount as StoresRemount}
+use Rattle.freeze_laws.specs.stages.{Events.{SetsWritable as StoresWritable, playing}, Roles.{CleanBelow, IsKnown, Owning}}
+use Rattle.std.proofs.Common.{Err, None, Ok, Option, Result, Some, bit_and, eq-eqb, le-ltb, nat_lt, ne_eqb, not, option_map, ◌==◌, ◌||◌, ◌∷◌}
 use Rattle.std.proofs.lemmas.Nat.Bits.{and_pow}
-use Rattle.gate_schedules.specs.trees.Events.{BeginsClearing, Clears, Event as TreeEvent, FindsNone, GoesBare, Leaves, Opens, Passes, Seals, StopsBare, turned}
 
 -- at stage 0 the file system isn't frozen, whatever the superblock's flags are
 pub not_frozen : (w : Words) (set sealing : ℕ) → w.stage ≡ 0 →
@@ -455,10 +453,7 @@ module _ (c : Config) (lim : IsWithin c) (w : World) (good : IsGood c w) (t : �
   from_state stage sb a b = owner_on (Some 0) None stage sb w.words.stage w.words.sb (marks_of w.words) a b
 
   state_stays : (ro b : Bool) → w.words.stage ≡ 0 → (b ≡ false → w.words.sb ≡ 0) → FromState (remount_from ro b)
-  state_stays true true z none = ((refl, refl, refl), from_state None None tt tt, λ m. refl)
-  state_stays true false z none = ((refl, refl, refl), from_state (Some 0) (Some 0) z (none refl), λ m. refl)
-  state_stays false true z none = ((refl, refl, refl), from_state (Some 0) None z tt, λ m. refl)
-  state_stays false false z none = ((refl, refl, refl), from_state None None tt tt, λ m. refl)
+  state_stays ro b z none = grind (arith, from_state)
 
   pub loads_superblock : (hook : HookAnswer) → IsHere RemountStep.LoadsSuperblock → Keeps hook RemountStep.LoadsSuperblock
   loads_superblock hook e =
@@ -545,7 +540,7 @@ module _ (c : Config) (lim : IsWithin c) (w : World) (good : IsGood c w) (t : �
   remount_event hook RemountStep.ClearsRemount e = clears_remount hook e
   remount_event hook (RemountStep.Releases answer) e = releases hook answer e
 
--- each event of a remount keeps the rule, and moves the shown model by its action
+-- each step of a remount keeps the invariant, and moves the shown state by its action
 pub remount_keeps : (c : Config) → IsWithin c → (w : World) → IsGood c w → (t : ℕ) → t < c.tasks → (hook : HookAnswer) (x : Remount) →
     (w.views t).phase ≡ Some (Phase.Remounts x) → StepKeeps c w t hook (Phase.Remounts x)
 remount_keeps c lim w good t lt hook x e = whole_remount c w t lt good hook x e (remount_event c lim w good t lt x hook x.step e)

@@ -1,14 +1,14 @@
--- What fits after an event of a remount.
-use Rattle.std.proofs.Common.{ℕ, ◌≡◌, ◌<◌, Bool, ◌+◌, arith, Option, true≢false, sym, nat_lt, inl, inr, ◌∙◌, ltb-true, if◌then◌else◌, ap, Ok, Some, Err, ◌==◌}
-use Rattle.std.proofs.{Common.{None, not, refl, true, false}, lemmas.Bool.{cases_Bool, Decides.eqb_tells}}
-use Rattle.access_model.specs.{Replies.map_next, declared.{actions.Action.Action, errors.GateError.GateError, replies.Next.Next}}
-use Rattle.cpu_words.specs.{Hooks.HookAnswer, Names.IsWord, Touches.wrap_add, declared.sums.Sum.Sum}
-use Rattle.mount_counts.specs.{Phases.has_flag, Remounts.{give_up, leave_holds, past_node, let_go, remount_from, remount_summed, past_mount, remount_after}}
-use Rattle.mount_counts.specs.{Remounts.{remount_next, at_remount}, Sets.{no_mounts, without_lowest, with_mount, lowest, has_mount}}
-use Rattle.mount_counts.specs.declared.{remounts.{Remount.Remount, RemountStep.RemountStep}, sets.MountSet.MountSet}
+-- What fits after a step of a remount.
+use Rattle.gate_schedules.proofs.Prelude.{Action, Bool, Config, Fits, GateError, Holdings, HookAnswer, IsWithin, Next, Phase, PhaseFits, ap, arith}
+use Rattle.gate_schedules.proofs.Prelude.{cases_Bool, eqb_tells, false, held_after, inl, inr, map_next, phase_after, refl, sym, true, true≢false, ℕ}
+use Rattle.gate_schedules.proofs.Prelude.{◌+◌, ◌<◌, ◌∙◌, ◌≡◌}
+use Rattle.std.proofs.Common.{Option, nat_lt, ltb-true, if◌then◌else◌, Ok, Some, Err, ◌==◌, None, not}
+use Rattle.cpu_words.specs.{Names.IsWord, Touches.wrap_add, declared.sums.Sum.Sum}
 use Rattle.mount_counts.proofs.laws.Sets.{leaves_within, joins_within, joins_there, none_held, leaves_here, lowest_held, leaves_there}
-use Rattle.gate_world.specs.{Configs.{IsWithin, extents_of}, Fits.{ActionFits, PhaseFits, Fits}, Holdings.{Holdings, held_after}, Remounts.AllBelow}
-use Rattle.gate_world.specs.{Remounts.RemountFits, Views.phase_after, declared.{config.Config.Config, work.Phase.Phase}}
+use Rattle.mount_counts.specs.{Phases.has_flag, Remounts.{give_up, leave_holds, past_node, let_go, remount_from, remount_summed, past_mount}}
+use Rattle.mount_counts.specs.{Remounts.{remount_after, remount_next, at_remount}, Sets.{no_mounts, without_lowest, with_mount, lowest, has_mount}}
+use Rattle.mount_counts.specs.declared.{remounts.{Remount.Remount, RemountStep.RemountStep}, sets.MountSet.MountSet}
+use Rattle.gate_world.specs.{Configs.extents_of, Fits.ActionFits, Remounts.{AllBelow, RemountFits}}
 use Rattle.gate_schedules.proofs.frames.OperationLaws.{by_bool}
 
 pub joins_below : (m : ℕ) (held : MountSet) → m < 8 → AllBelow m held → AllBelow (m + 1) (with_mount held m)
@@ -48,28 +48,14 @@ module _ (c : Config) where
 
   pub remount_there : (x : Remount) (s : RemountStep) (hook : HookAnswer) → RemountFits c s →
       IsWord (extents_of c) (remount_next x s hook).0
-  remount_there x RemountStep.SetsWritable (Ok answer) f = tt
-  remount_there x RemountStep.SetsWritable (Err code) f = tt
-  remount_there x (RemountStep.LoadsFlags m set) hook f = f.0
-  remount_there x (RemountStep.SetsHold m set) hook f = f.0
-  remount_there x (RemountStep.Sums m set sum) hook f = (f.0, f.2)
-  remount_there x (RemountStep.LeavesHolds set) hook f = f.1.1 (lowest set) (lowest_held set f.0 f.1.0).1
-  remount_there x (RemountStep.ClearsHold set) hook f = f.1.1 (lowest set) (lowest_held set f.0 f.1.0).1
-  remount_there x (RemountStep.GivesUp m set) hook f = f.1.1 (lowest set) (lowest_held set f.0 f.1.0).1
-  remount_there x (RemountStep.ClearsMark n) hook f = f.1
-  remount_there x RemountStep.SetsReadOnly (Ok answer) f = tt
-  remount_there x RemountStep.SetsReadOnly (Err code) f = tt
-  remount_there x other hook f = tt
+  remount_there x s hook f = grind (arith, lowest_held)
 
   module _ (lim : IsWithin c) where
     pub let_go_fits : (held : MountSet) → AllBelow c.mounts held → RemountFits c (let_go held)
     let_go_fits held h = grind arith
 
     pub state_fits : (wanted found : Bool) → RemountFits c (remount_from wanted found)
-    state_fits true true = tt
-    state_fits true false = tt
-    state_fits false true = tt
-    state_fits false false = tt
+    state_fits wanted found = grind arith
 
     sums_fit : (x : Remount) (m : ℕ) (held : MountSet) (sum : Sum) (word : ℕ) → x.processors ≡ c.processors → x.mounts ≡ c.mounts →
         m < c.mounts → AllBelow m held → RemountFits c (remount_summed x m held sum word)
@@ -87,7 +73,7 @@ module _ (c : Config) where
       pub remount_acts : (x : Remount) (s : RemountStep) (found : ℕ) (hook : HookAnswer) → ActionFits held (remount_after x s found hook).1
       remount_acts x s found hook = grind arith
 
-      -- what comes after an event fits
+      -- what comes after a step fits
       abbrev NextFits : Next Remount → Type 0
       NextFits next = Fits c t held (phase_after (map_next Phase.Remounts next))
 
@@ -97,7 +83,7 @@ module _ (c : Config) where
       cleans_none n true p f = f
       cleans_none n false p f = f
 
-      -- what comes after each event of a remount fits
+      -- what comes after each step of a remount fits
       pub remount_goes : (x : Remount) (s : RemountStep) (found : ℕ) (hook : HookAnswer) →
           PhaseFits c t held (Phase.Remounts (at_remount x s)) →
           Fits c t (held_after (remount_after x s found hook).1 held) (phase_after (map_next Phase.Remounts (remount_after x s found hook).0))

@@ -1,12 +1,10 @@
 -- All that is proved of a remount.
+use Rattle.gate_schedules.proofs.Prelude.{Bool, Config, Fits, Fitting, Op, Phase, Some, after_step, held_of, refl, subst}
 use Rattle.gate_schedules.proofs.frames.{Agreeing.none_agree, OperationLaws.{OpLaws, PhaseLaws, word_among}, Snapshots.completes_none}
-use Rattle.gate_schedules.proofs.operations.remount.{Causes.{remount_own, remount_stays}, Events.remount_keeps}
-use Rattle.gate_schedules.proofs.operations.remount.{Fits.{remount_acts, remount_goes, remount_there}, Runs.remount_runs}
-use Rattle.gate_schedules.proofs.{operations.remount.{Trace.{RemountAt, remount_inductive, remount_restores}, Waits.remount_waits}, traces.TraceInvariant.{is_short, tells}}
-use Rattle.gate_world.specs.{Fits.Fits, Rules.Fitting, Views.held_of, Worlds.after_step, declared.{config.Config.Config, operations.Op.Op, work.Phase.Phase}}
+use Rattle.gate_schedules.proofs.operations.remount.{Causes.{remount_own, remount_stays}, Events.remount_keeps, Fits.{remount_acts, remount_goes}}
+use Rattle.gate_schedules.proofs.operations.remount.{Fits.remount_there, Runs.remount_runs, Trace.{RemountAt, remount_inductive, remount_restores}}
+use Rattle.gate_schedules.proofs.{operations.remount.Waits.remount_waits, traces.TraceInvariant.traces_tell}
 use Rattle.mount_counts.specs.declared.remounts.Remount.{Remount}
-use Rattle.std.proofs.Common.{Bool, refl, subst}
-use Rattle.std.specs.Prelude.{Some}
 
 pub remount_phase : (c : Config) (x : Remount) → PhaseLaws c (Phase.Remounts x)
 remount_phase c x = record {
@@ -35,7 +33,6 @@ remount_op c ro = record {
   room_agrees = λ held seen same there. refl;
   restores = λ refusal trace before order. remount_restores ro refusal trace before;
   file = λ t held order room. tt;
-  tells = λ lim t trace h. tells (RemountAt c t ro) c t (Op.RemountSb ro) (remount_inductive c lim t ro) trace h;
-  short = λ lim t trace h. is_short (RemountAt c t ro) c t (Op.RemountSb ro) (remount_inductive c lim t ro) trace h;
+  traces = λ lim. traces_tell (λ t. RemountAt c t ro) c (Op.RemountSb ro) (λ t. remount_inductive c lim t ro);
   most_small = λ lim. tt;
 }

@@ -1,23 +1,22 @@
--- Events of a remount's loop over the mounts.
-use Rattle.access_model.specs.declared.{replies.Next.Next}
-use Rattle.cpu_words.specs.{Hooks.HookAnswer, Touches.wrap_add, declared.{events.Touch.Touch, names.WordName.WordName, sums.Sum.Sum}}
-use Rattle.gate_schedules.proofs.{frames.{OperationLaws.by_bool, Owners.no_hold}, operations.remount.Fits.{give_up_fits, joins_below, past_mount_fits}}
-use Rattle.gate_schedules.proofs.operations.remount.Parts.{NextRoleHolds, Mount, RemountKeeps, StaysAtStep, flags_change, here_fits, here_knows, in_loop}
-use Rattle.gate_schedules.proofs.operations.remount.Parts.{load_event, mount_stays, owner_on, role_was}
-use Rattle.gate_schedules.proofs.operations.remount.Roles.{give_up_role, not_passed, passed_here, passed_there, past_mount_role, remount_seeks, summing_here}
-use Rattle.gate_schedules.proofs.operations.remount.Roles.{summing_there}
-use Rattle.gate_world.specs.{Configs.IsWithin, Fits.PhaseFits, Remounts.{AllBelow, giving_role, loop_role, remount_role}, Roles.remount_stage_role}
-use Rattle.gate_world.specs.{Rules.{AtMount, IsGood, MountHoldsIn, marks_of, owns, role_of}, Views.{held_of, view_with}, Worlds.World}
-use Rattle.gate_world.specs.declared.{config.Config.Config, views.View.View, work.Phase.Phase}
+-- Steps of a remount's loop over the mounts.
+use Rattle.gate_schedules.proofs.Prelude.{AtMount, Bool, Config, HookAnswer, IsGood, IsWithin, Next, Phase, PhaseFits, Touch, View, WordName, World}
+use Rattle.gate_schedules.proofs.Prelude.{ap, arith, cases_Bool, eqb_tells, false, held_of, inl, inr, owns, refl, subst, suc, sym, ℕ, ◌+◌, ◌<◌, ◌∙◌}
+use Rattle.gate_schedules.proofs.Prelude.{◌≡◌}
+use Rattle.cpu_words.specs.{Touches.wrap_add, declared.sums.Sum.Sum}
+use Rattle.gate_schedules.proofs.{frames.{OperationLaws.by_bool, Owners.no_hold}, operations.remount.Fits.{give_up_fits, joins_below}}
+use Rattle.gate_schedules.proofs.operations.remount.{Fits.past_mount_fits, Parts.{NextRoleHolds, Mount, RemountKeeps, StaysAtStep, flags_change}}
+use Rattle.gate_schedules.proofs.operations.remount.Parts.{here_fits, here_knows, in_loop, load_event, mount_stays, owner_on, role_was}
+use Rattle.gate_schedules.proofs.operations.remount.Roles.{give_up_role, not_passed, passed_here, passed_there, past_mount_role, remount_seeks}
+use Rattle.gate_schedules.proofs.operations.remount.Roles.{summing_here, summing_there}
+use Rattle.gate_world.specs.{Remounts.{AllBelow, giving_role, loop_role, remount_role}, Roles.remount_stage_role, Rules.{MountHoldsIn, marks_of}}
+use Rattle.gate_world.specs.{Rules.role_of, Views.view_with}
 use Rattle.gated_tree.specs.Roles.{Clearing, Out as OffTree}
-use Rattle.mount_counts.specs.{Phases.has_flag, Remounts.{at_remount, give_up, leave_holds, let_go, past_mount, past_node}, Roles.{Out, Summing, has_hold}}
-use Rattle.mount_counts.specs.{Roles.hold_bit, Sets.{has_mount, with_mount}, declared.remounts.{Remount.Remount, RemountStep.RemountStep}}
-use Rattle.mount_counts.specs.declared.sets.MountSet.{MountSet}
-use Rattle.mount_counts.proofs.laws.{Bits.{or_hold, read_only_set}, MountLaws.{SeeksNone, is_left, is_skipped, sets_hold as mount_sets_hold, sums_on, sums_to_none}}
-use Rattle.mount_counts.proofs.laws.{MountLaws.sums_to_some, Sets.{joins_here, joins_there}}
+use Rattle.mount_counts.proofs.laws.{Bits.{or_hold, read_only_set}, MountLaws.{SeeksNone, is_left, is_skipped, sets_hold as mount_sets_hold, sums_on}}
+use Rattle.mount_counts.{proofs.laws.{MountLaws.{sums_to_none, sums_to_some}, Sets.{joins_here, joins_there}}, specs.Phases.has_flag}
+use Rattle.mount_counts.specs.{Remounts.{at_remount, give_up, leave_holds, let_go, past_mount, past_node}, Roles.{Out, Summing, has_hold, hold_bit}}
+use Rattle.mount_counts.specs.{Sets.{has_mount, with_mount}, declared.{remounts.{Remount.Remount, RemountStep.RemountStep}, sets.MountSet.MountSet}}
 use Rattle.freeze_laws.specs.stages.{Events.SameDuties, Roles.{CleanBelow, Remounting}}
-use Rattle.std.proofs.Common.{Bool, None, Some, add-one, ap, arith, bit_or, eq-eqb, false, if◌then◌else◌, inl, inr, ltb-false, ltb-true, nat_lt, ne_eqb}
-use Rattle.std.proofs.{Common.{refl, subst, suc, sym, true, ℕ, ◌+◌, ◌<◌, ◌==◌, ◌∙◌, ◌≡◌, ◌⊎◌}, lemmas.Bool.{cases_Bool, Decides.eqb_tells}}
+use Rattle.std.proofs.Common.{None, Some, add-one, bit_or, eq-eqb, if◌then◌else◌, ltb-false, ltb-true, nat_lt, ne_eqb, ◌==◌, ◌⊎◌}
 
 -- what stays where the loop goes on, where holds are to be cleared, and where marks are
 past_mount_stays : (nodes mounts m : ℕ) (held : MountSet) → StaysAtStep nodes (past_mount mounts m held) 0 OffTree
@@ -63,9 +62,7 @@ module _ (nodes stage sb : ℕ) (dirty : ℕ → ℕ) (a : stage ≡ 0) (b : sb 
 -- a mount that is held is empty before and after a sum that was not 0, but that of the sum; one that isn't held is left
 giving_or_left : (a b : Bool) → (giving_role false a ≡ loop_role a b) ⊎
     ((giving_role false a ≡ Out) × (has_hold (loop_role a b) ≡ 0))
-giving_or_left true b = inl refl
-giving_or_left false true = inr (refl, refl)
-giving_or_left false false = inr (refl, refl)
+giving_or_left a b = grind arith
 
 module _ (c : Config) (lim : IsWithin c) (w : World) (good : IsGood c w) (t : ℕ) (lt : t < c.tasks) (x : Remount) (hook : HookAnswer) where
   abbrev IsHere : RemountStep → Type 0

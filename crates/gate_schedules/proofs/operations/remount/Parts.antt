@@ -1,36 +1,33 @@
--- What an event of a remount may leave: each part of the rule, and the shown model.
-use Rattle.access_model.specs.{States.openers, declared.{actions.Action.Action, replies.Next.Next}}
-use Rattle.cpu_words.specs.{Hooks.HookAnswer, Words.{Words, read}, declared.{events.Touch.Touch, names.WordName.WordName}}
-use Rattle.finite_sums.proofs.Totals.{each_updated, update_at, update_map, update_off, update_same}
-use Rattle.finite_sums.specs.Sums.{update}
-use Rattle.freeze_levels.specs.{Holders.{holders_in}, holder_laws.Roles.{Apart}}
-use Rattle.gate_schedules.proofs.frames.Frames.{IsOffLevels, SameLevelCounts, SameLevelWords, added_load, holds_as, left_alone, level_left, opens_left}
-use Rattle.gate_schedules.proofs.frames.Frames.{owner_same, sections_left, shown_held, shown_still, sync_left, taken_load, view_as}
-use Rattle.gate_schedules.proofs.frames.{Holders.holders_stay, Known.{IsOwnersWork, known_after}, Owners.remount_stored}
-use Rattle.gate_schedules.proofs.{frames.{Stages.{IsStageEvent, stages_after, stages_in}, Words.load_same}, mounts.Loads.{after_load}}
-use Rattle.gate_schedules.proofs.mounts.Parts.{is_known_part, known_is, level_added_load, level_taken_load}
-use Rattle.gate_schedules.proofs.trees.{worlds.Trees.{marks_right, tree_after, tree_holds, tree_then, tree_within}, Each.{each_event}}
-use Rattle.gate_world.specs.{Configs.IsWithin, Fits.{Fits, HasFile, PhaseFits, file_of}, Holdings.Holdings, Levels.is_frozen_whole}
-use Rattle.gate_world.specs.{Levels.{level_added_by, level_taken_by}, Remounts.{RemountFits, remount_owns, remount_role}}
-use Rattle.gate_world.specs.{Remounts.remount_sets, Roles.{remount_stage_role, remount_tree_role}, Rules.{AtLevel, AtMount, Files, Fitting, Holding, Holds}}
-use Rattle.gate_world.specs.Rules.{IsGood, IsSteady, Known, Moves, Owner, OwnerHolds, Part, Sections, Stages, StepKeeps, SyncAt, Tree, ViewFits, at_mount}
-use Rattle.gate_world.specs.{Rules.{holder_role_of, marks_of, owns, remounts, role_of, stage_role_of}, Shown.{closing, shown}, Trees.{is_bare_at, is_sealed}}
-use Rattle.gate_world.specs.{Trees.{tree_bounds, tree_of, tree_role_of, tree_roles}, Views.{added_by, has_open, held_of, taken_by, view_with}}
-use Rattle.gate_world.specs.{Worlds.{World, after_step, phase_action}, declared.{config.Config.Config, views.View.View, work.Phase.Phase}}
+-- What a step of a remount may leave: each conjunct of the invariant, and the shown state.
+use Rattle.gate_schedules.proofs.Prelude.{Action, AtLevel, AtMount, Bool, Config, Fits, Fitting, Holdings, Holds, HookAnswer, IsGood, IsWithin, Next}
+use Rattle.gate_schedules.proofs.Prelude.{Owner, Phase, PhaseFits, Stages, StepKeeps, SyncAt, Touch, Tree, View, WordName, Words, World, after_step}
+use Rattle.gate_schedules.proofs.Prelude.{ap, arith, cases_Bool, each_updated, eqb_tells, false, held_of, inl, inr, is_frozen_whole, owns, read, refl}
+use Rattle.gate_schedules.proofs.Prelude.{shown, stage_role_of, subst, sym, tree_bounds, tree_role_of, true≢false, update, update_at, update_same, ℕ}
+use Rattle.gate_schedules.proofs.Prelude.{◌<◌, ◌∙◌, ◌≡◌}
+use Rattle.access_model.specs.States.{openers}
+use Rattle.finite_sums.proofs.Totals.{update_map, update_off}
+use Rattle.freeze_levels.specs.{Holders.holders_in, holder_laws.Roles.Apart}
+use Rattle.gate_schedules.proofs.frames.Frames.{IsOffLevels, SameLevelCounts, SameLevelWords, added_load, holds_as, left_alone, level_left}
+use Rattle.gate_schedules.proofs.frames.Frames.{opens_left, owner_same, sections_left, shown_held, shown_still, sync_left, taken_load, view_as}
+use Rattle.gate_schedules.proofs.frames.{Holders.holders_stay, Known.{IsOwnersWork, known_after}, Owners.remount_stored, Stages.IsStageEvent}
+use Rattle.gate_schedules.proofs.{frames.{Stages.{stages_after, stages_in}, Words.load_same}, mounts.{Loads.after_load, Parts.is_known_part}}
+use Rattle.gate_schedules.proofs.{mounts.Parts.{known_is, level_added_load, level_taken_load}, trees.{Each.each_event, worlds.Trees.marks_right}}
+use Rattle.gate_schedules.{proofs.trees.worlds.Trees.{tree_after, tree_holds, tree_then, tree_within}, specs.trees.Events.Event as TreeEvent}
+use Rattle.gate_world.specs.{Fits.{HasFile, file_of}, Levels.{level_added_by, level_taken_by}, Remounts.{RemountFits, remount_owns, remount_role}}
+use Rattle.gate_world.specs.{Remounts.remount_sets, Roles.{remount_stage_role, remount_tree_role}, Rules.{Files, Holding, IsSteady, Known, Moves}}
+use Rattle.gate_world.specs.{Rules.{OwnerHolds, Part, Sections, ViewFits, at_mount, holder_role_of, marks_of, remounts, role_of}, Shown.closing}
+use Rattle.gate_world.specs.{Trees.{is_bare_at, is_sealed, tree_of, tree_roles}, Views.{added_by, has_open, taken_by, view_with}, Worlds.phase_action}
 use Rattle.node_words.specs.Nodes.{node_shown, opens_in}
 use Rattle.gated_tree.specs.Roles.{Role as TreeRole, TreeState}
-use Rattle.mount_counts.specs.{Remounts.{at_remount}, Roles.{MountHolds, Role, ro_bit}, declared.remounts.Remount.Remount}
-use Rattle.mount_counts.specs.declared.remounts.RemountStep.{RemountStep}
-use Rattle.freeze_laws.specs.stages.Events.{SameDuties, Recalls, StageEvent, playing}
-use Rattle.freeze_laws.specs.stages.Roles.{CleanBelow, IsKnown, KnowsStage, Owning, StageRole, clean_by}
-use Rattle.std.proofs.Common.{Bool, None, Option, Some, ap, arith, false, inl, inr, refl, subst, sym, true≢false, ℕ, ◌<◌, ◌==◌, ◌||◌, ◌∙◌, ◌≡◌}
-use Rattle.std.proofs.lemmas.Bool.{cases_Bool, Decides.eqb_tells}
-use Rattle.gate_schedules.specs.trees.Events.{Event as TreeEvent}
+use Rattle.mount_counts.specs.{Remounts.at_remount, Roles.{MountHolds, Role, ro_bit}, declared.remounts.{Remount.Remount, RemountStep.RemountStep}}
+use Rattle.freeze_laws.specs.stages.{Events.{SameDuties, Recalls, StageEvent, playing}, Roles.{CleanBelow, IsKnown, KnowsStage, Owning, StageRole}}
+use Rattle.freeze_laws.specs.stages.Roles.{clean_by}
+use Rattle.std.proofs.Common.{None, Option, Some, ◌==◌, ◌||◌}
 
 remount_work : (w : World) (x : Remount) (hook : HookAnswer) → IsOwnersWork w (Phase.Remounts x) hook
 remount_work w x hook = grind arith
 
--- the law of an event of a remount: each part but what the owner knows, and the shown model
+-- the law of a step of a remount: each part but what the owner knows, and the shown state
 abbrev pub RemountKeeps : Config → World → ℕ → HookAnswer → Phase → Type 0
 RemountKeeps c w t hook phase =
     ((part : Part) → is_known_part part ≡ false → Holds c (after_step w t phase hook) part) ×
@@ -62,9 +59,6 @@ NextRoleHolds old nodes s stage sb dirty =
 -- in the loop over the mounts
 abbrev pub in_loop : StageRole
 in_loop = Owning (Some 0) (Some 0)
-
-pub alike_same : {r : StageRole} → SameDuties r r
-alike_same {r} = record { owns_same = refl; freezes_same = refl; remounts_same = refl; closed_same = refl; passed_same = refl }
 
 -- an owner goes on as an owner, where what it relies on then is so
 pub owner_on : (old_stage old_sb new_stage new_sb : Option ℕ) (stage sb : ℕ) (dirty : ℕ → ℕ) → IsKnown new_stage stage → IsKnown new_sb sb →
@@ -129,7 +123,7 @@ module _ (c : Config) (w : World) (good : IsGood c w) (t : ℕ) (lt : t < c.task
   pub tree_was : tree_roles w t ≡ remount_tree_role x.nodes s
   tree_was = ap (tree_role_of (w.views t).trace) e
 
-  -- the tree after an event that leaves its words, of a remount that does there what it did
+  -- the tree after a step that leaves its words, of a remount that does there what it did
   pub tree_stays : (ws : Words) (v : View) → ws.used ≡ w.words.used → ws.removed ≡ w.words.removed →
       ws.node ≡ w.words.node → ws.kids ≡ w.words.kids → is_sealed ws ≡ is_sealed w.words → is_bare_at ws ≡ is_bare_at w.words →
       tree_role_of v.trace v.phase ≡ remount_tree_role x.nodes s → TreeIsRight ws v
@@ -148,14 +142,14 @@ module _ (c : Config) (w : World) (good : IsGood c w) (t : ℕ) (lt : t < c.task
     at = update (tree_roles w) t role;
   }
 
-  -- the tree after one of the tree's events, with which the remount comes to do this there
+  -- the tree after one of the tree's steps, with which the remount comes to do this there
   pub tree_by : IsWithin c → (ws : Words) (v : View) (role : TreeRole) → tree_role_of v.trace v.phase ≡ role → (action : Option Action) →
       TreeEvent (tree_bounds c) (tree_of w) t (tree_where ws role) action → TreeIsRight ws v
   tree_by lim ws v role now action event =
       tree_after c w good t lt ws v lim action
       (subst (λ r. TreeEvent (tree_bounds c) (tree_of w) t (tree_where ws r) action) (sym now) event)
 
-  -- the same of two events that come at once
+  -- the same of two steps that come at once
   pub tree_by_two : IsWithin c → (ws : Words) (v : View) (role : TreeRole) → tree_role_of v.trace v.phase ≡ role → (mid : TreeState) →
       (action : Option Action) → TreeEvent (tree_bounds c) (tree_of w) t mid None →
       TreeEvent (tree_bounds c) mid t (tree_where ws role) action → TreeIsRight ws v
@@ -166,11 +160,11 @@ module _ (c : Config) (w : World) (good : IsGood c w) (t : ℕ) (lt : t < c.task
       (tree_then c w good t lt ws v) action
       (subst (λ r. TreeEvent (tree_bounds c) mid t (tree_where ws r) action) (sym now) second)).0
 
-  -- the stage holds after an event of one of the kinds
+  -- the stage holds after a step of one of the kinds
   pub stage_holds : (ws : Words) (v : View) (kind : StageEvent) → IsStageEvent c w good t lt ws v kind → StageHolds ws v
   stage_holds ws v kind happens = stages_after c w good t lt ws v kind happens
 
-  -- and after an event on the flags of a mount, or on none, with which the remount goes on
+  -- and after a step on the flags of a mount, or on none, with which the remount goes on
   pub goes_on : (flags : ℕ → ℕ) (s' : RemountStep) (v : View) → v.phase ≡ Some (Phase.Remounts (at_remount x s')) →
       NextRoleHolds (remount_stage_role x.nodes s) x.nodes s' w.words.stage w.words.sb (marks_of w.words) →
       StageHolds (record w.words { flags = flags }) v
@@ -178,7 +172,7 @@ module _ (c : Config) (w : World) (good : IsGood c w) (t : ℕ) (lt : t < c.task
       stage_holds (record w.words { flags = flags }) v (Recalls (remount_stage_role x.nodes s) (remount_stage_role x.nodes s'))
       (ap stage_role_of e, on.0, on.1, on.2, ap (λ p. playing (stages_in w) t (stage_role_of p)) is)
 
-  -- each part after an event, from what it says of each mount, of the stage and of the tree
+  -- each part after a step, from what it says of each mount, of the stage and of the tree
   pub each_part : (ws : Words) (v : View) → SameCounts v → SameLevelWords w.words ws → IsOffLevels v.phase →
       ws.count ≡ w.words.count → ((n : ℕ) → opens_in (ws.node n) ≡ opens_in (w.words.node n)) → file_of v.phase ≡ None → TreeIsRight ws v →
       OwnerHolds c.tasks ws.umount ws.remount (λ y. (update w.views t v y).phase) → StageHolds ws v →
@@ -207,7 +201,7 @@ module _ (c : Config) (w : World) (good : IsGood c w) (t : ℕ) (lt : t < c.task
   each_part ws v same levels off ec opens none tree owner stage holding fits own Sections k =
       sections_left c w t lt good ws v levels (at_levels v same) off_now off
 
-  -- the shown model after it: the superblock's flag alone may change
+  -- the shown state after it: the superblock's flag alone may change
   pub seal_shown : (ws : Words) (v : View) (b : Bool) → ws.block ≡ w.words.block →
       ◌≡◌ {A = ℕ → Bool} (λ m. ro_bit (ws.flags m) == 1) (λ m. ro_bit (w.words.flags m) == 1) → ws.stage ≡ w.words.stage →
       ws.holders ≡ w.words.holders → ws.node ≡ w.words.node → ((i : ℕ) → closing i v.phase ≡ closing i (w.views t).phase) → SameCounts v →
@@ -258,7 +252,7 @@ module _ (c : Config) (w : World) (good : IsGood c w) (t : ℕ) (lt : t < c.task
           shown_still c w t lt w.words v refl refl refl refl refl refl refl still.closing_same same.0,
         )
 
-    -- an event on the flags of one mount, which leaves READONLY
+    -- a step on the flags of one mount, which leaves READONLY
     pub flags_change : (at f : ℕ) → StaysAtStep x.nodes s' (remount_sets s) (remount_tree_role x.nodes s) →
         NextRoleHolds (remount_stage_role x.nodes s) x.nodes s' w.words.stage w.words.sb (marks_of w.words) →
         ro_bit f ≡ ro_bit (w.words.flags at) →
@@ -305,7 +299,7 @@ module _ (c : Config) (w : World) (good : IsGood c w) (t : ℕ) (lt : t < c.task
           seal_shown ws v b refl refl refl refl refl closes_same same shows,
         )
 
-    -- an event on the word of a node, of a remount that has no role at a mount before and after it
+    -- a step on the word of a node, of a remount that has no role at a mount before and after it
     pub node_changes : (n f : ℕ) (role : TreeRole) → StaysAtStep x.nodes s' (remount_sets s) role →
         opens_in f ≡ opens_in (w.words.node n) → TreeIsRight (record w.words { node = update w.words.node n f }) v →
         StageHolds (record w.words { node = update w.words.node n f }) v →
@@ -350,7 +344,7 @@ module _ (c : Config) (w : World) (good : IsGood c w) (t : ℕ) (lt : t < c.task
       )
       (f.0, f.1, f.2, f.3, f.4, fit) owning sets tree (goes_on w.words.flags s' v refl on) own)
 
-  -- a load by the owner, after which this step comes, as its event
+  -- a load by the owner, after which this program point comes, as its step
   pub load_event : (name : WordName) (hook : HookAnswer) (s' : RemountStep) → remount_owns s ≡ 1 →
       StaysAtStep x.nodes s' (remount_sets s) (remount_tree_role x.nodes s) →
       NextRoleHolds (remount_stage_role x.nodes s) x.nodes s' w.words.stage w.words.sb (marks_of w.words) →
@@ -362,7 +356,7 @@ module _ (c : Config) (w : World) (good : IsGood c w) (t : ℕ) (lt : t < c.task
       let v : View = view_with (w.views t) (name, Touch.Load) (read w.words name) hook (Next.Go (Phase.Remounts (at_remount x s')), None) in
       load_found name hook s' o stays.0 stays.1 (tree_stays w.words v refl refl refl refl refl refl stays.2) on fit own
 
-  -- an event on `umount`, of a task that has no role at a mount before and after it, and does at the tree what it did
+  -- a step on `umount`, of a task that has no role at a mount before and after it, and does at the tree what it did
   pub umount_changes : (n : ℕ) (v : View) → SameCounts v → ViewFits c t v →
       OwnerHolds c.tasks n w.words.remount (λ y. (update w.views t v y).phase) →
       StageHolds (record w.words { umount = n }) v → IsOffLevels v.phase →

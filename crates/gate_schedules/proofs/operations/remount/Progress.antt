@@ -1,18 +1,17 @@
 -- A remount that finds `umount` free runs out.
-use Rattle.std.proofs.Common.{◌≡◌, ℕ, suc, ◌+◌, ◌<◌, ◌≤◌, Bool, true, false, sym, ap, ◌∙◌, subst, inl, inr, arith}
-use Rattle.std.proofs.lemmas.Bool.{cases_Bool, ltb-true, Decides.eqb_tells}
-use Rattle.std.specs.Prelude.{◌-◌, ◌%◌, ◌==◌, not, nat_lt, Ok, Err}
-use Rattle.finite_sums.{proofs.Totals.{update_at, update_off, total_same, total_updated, total_bound}, specs.Sums.{update, total}}
-use Rattle.cpu_words.specs.{Hooks.HookAnswer, Touches.found_by, Words.{Words, read}, declared.sums.Sum.Sum}
-use Rattle.mount_counts.specs.{Phases.has_flag, Remounts.{remount_next, remount_after, remount_from, past_mount, let_go, leave_holds, give_up}}
-use Rattle.mount_counts.specs.Sets.{has_mount, with_mount, lowest, without_lowest}
-use Rattle.mount_counts.specs.declared.{remounts.{Remount.Remount, RemountStep.RemountStep}, sets.MountSet.MountSet}
-use Rattle.mount_counts.proofs.laws.Sets.{lowest_held, leaves_here, leaves_there}
+use Rattle.gate_schedules.proofs.Prelude.{Bool, Config, Err, Fits, Fitting, HookAnswer, IsWithin, Ok, Phase, PhaseFits, Words, ap, arith, cases_Bool}
+use Rattle.gate_schedules.proofs.Prelude.{eqb_tells, false, found_at, found_by, held_of, inl, inr, nat_lt, read, subst, suc, sym, total, true, update}
+use Rattle.gate_schedules.proofs.Prelude.{update_at, words_after, ℕ, ◌+◌, ◌<◌, ◌==◌, ◌∙◌, ◌≡◌, ◌≤◌}
+use Rattle.std.{proofs.lemmas.Bool.ltb-true, specs.Prelude.{◌-◌, ◌%◌, not}}
+use Rattle.finite_sums.proofs.Totals.{update_off, total_same, total_updated, total_bound}
+use Rattle.cpu_words.specs.declared.sums.Sum.{Sum}
+use Rattle.mount_counts.{proofs.laws.Sets.{lowest_held, leaves_here, leaves_there}, specs.{Phases.has_flag, Remounts.{remount_next, remount_after}}}
+use Rattle.mount_counts.specs.{Remounts.{remount_from, past_mount, let_go, leave_holds, give_up}, Sets.{has_mount, with_mount, lowest}}
+use Rattle.mount_counts.specs.{Sets.without_lowest, declared.{remounts.{Remount.Remount, RemountStep.RemountStep}, sets.MountSet.MountSet}}
 use Rattle.percpu_rwsem.specs.SyncWords.{bit}
-use Rattle.gate_world.specs.{Configs.IsWithin, Fits.{Fits, PhaseFits}, Remounts.RemountFits, Rules.Fitting, Views.held_of}
-use Rattle.gate_world.specs.{Worlds.{words_after, found_at}, declared.{config.Config.Config, work.Phase.Phase}}
-use Rattle.gate_schedules.proofs.operations.deadlocks.RankDecreases.{falls_as}
-use Rattle.gate_schedules.specs.operations.{Ranks.{rank, mount_bit, held_size, loop_rank, remount_rank}, Unblocked.{IsUnblocked, RemountIsUnblocked, RankDecreases, PhaseEnds}}
+use Rattle.gate_world.specs.Remounts.{RemountFits}
+use Rattle.gate_schedules.{proofs.operations.deadlocks.RankDecreases.falls_as, specs.operations.Ranks.{rank, mount_bit, held_size, loop_rank}}
+use Rattle.gate_schedules.specs.operations.{Ranks.remount_rank, Unblocked.{IsUnblocked, RemountIsUnblocked, RankDecreases, PhaseEnds}}
 
 bit_le : (b : Bool) → bit b ≤ 1
 bit_le true = omega arith
@@ -46,16 +45,10 @@ loop_step p mounts m lt = let e : mounts - m ≡ suc (mounts - (m + 1)) = omega 
 
 module _ (w : Words) (p mounts nodes : ℕ) where
   from_rank : (a b : Bool) → remount_rank p mounts nodes (remount_from a b) ≤ loop_rank p mounts + nodes + 13
-  from_rank true true = omega arith
-  from_rank true false = omega arith
-  from_rank false true = omega arith
-  from_rank false false = omega arith
+  from_rank a b = grind arith
 
   from_free : (a b : Bool) → RemountIsUnblocked w (remount_from a b)
-  from_free true true = tt
-  from_free true false = tt
-  from_free false true = tt
-  from_free false false = tt
+  from_free a b = grind arith
 
   past_rank : (m : ℕ) (held : MountSet) →
       remount_rank p mounts nodes (past_mount mounts m held) ≤ loop_rank p (mounts - (m + 1)) + nodes + 12
@@ -109,7 +102,7 @@ module _ (c : Config) (lim : IsWithin c) (w after : Words) (x : Remount) (proces
             )
       ]
 
-  -- each event of a remount
+  -- each step of a remount
   remount_falls : (hook : HookAnswer) (s : RemountStep) → RemountFits c s → RemountIsUnblocked w s →
       RemountFalls s hook (found_by (remount_next x s hook).1 (read w (remount_next x s hook).0))
   remount_falls hook RemountStep.Locks fits free = rw free (omega arith, tt)

@@ -1,10 +1,9 @@
 -- The roles of a remount at each mount.
-use Rattle.std.proofs.Common.{Bool, ℕ, nat_lt, ◌≡◌, ◌+◌, false, ◌<◌, ◌==◌, true, arith, eq-eqb, ne_eqb, if◌then◌else◌}
-use Rattle.std.proofs.{Common.{refl}, lemmas.Bool.{Decides.{nat_tests}}}
+use Rattle.gate_schedules.proofs.Prelude.{Bool, arith, false, refl, true, ℕ, ◌+◌, ◌<◌, ◌≡◌}
+use Rattle.std.proofs.{Common.{nat_lt, ◌==◌, eq-eqb, ne_eqb, if◌then◌else◌}, lemmas.Bool.Decides.nat_tests}
 use Rattle.cpu_words.specs.declared.sums.Sum.{Sum}
-use Rattle.mount_counts.specs.{Remounts.{let_go, leave_holds, give_up, past_node, past_mount}, Roles.{Out, Summing, Role}, Sets.has_mount}
-use Rattle.mount_counts.specs.declared.{remounts.RemountStep.RemountStep, sets.MountSet.MountSet}
-use Rattle.mount_counts.proofs.laws.{MountLaws.SeeksNone}
+use Rattle.mount_counts.{proofs.laws.MountLaws.SeeksNone, specs.{Remounts.{let_go, leave_holds, give_up, past_node, past_mount}, Roles.Out}}
+use Rattle.mount_counts.specs.{Roles.{Summing, Role}, Sets.has_mount, declared.{remounts.RemountStep.RemountStep, sets.MountSet.MountSet}}
 use Rattle.gate_world.specs.Remounts.{giving_role, remount_role, loop_role, held_role, summing_role}
 use Rattle.gate_schedules.proofs.frames.OperationLaws.{by_bool}
 use mathlib.Core.Bool.{true}

@@ -1,14 +1,12 @@
--- What the events of a remount make of each freeze level: they leave it.
-use Rattle.std.{proofs.Common.{◌≡◌, ℕ, ◌<◌, refl, arith}, specs.Prelude.{Some}}
-use Rattle.access_model.specs.{Replies.map_next, declared.replies.Next.Next}
-use Rattle.cpu_words.specs.{Hooks.HookAnswer, Words.Words}
+-- What the steps of a remount make of each freeze level: they leave it.
+use Rattle.gate_schedules.proofs.Prelude.{Config, HookAnswer, IsGood, Next, Phase, Some, SyncAt, SyncStep, Words, World, after_step, arith, found_at}
+use Rattle.gate_schedules.proofs.Prelude.{inside, level_in, map_next, phase_after, refl, sync_role_of, words_after, ℕ, ◌<◌, ◌≡◌}
 use Rattle.mount_counts.specs.{Remounts.{at_remount, remount_after}, declared.remounts.{Remount.Remount, RemountStep.RemountStep}}
-use Rattle.freeze_laws.specs.{levels.{Events.{SyncStep}, Roles.{Out as IsApart}}, stages.Roles.{KnowsStage}}
-use Rattle.gate_world.specs.{LevelRuns.level_in, Levels.{inside, sync_role_of}, Roles.remount_stage_role, Rules.{IsGood, SameWords, SyncAt}}
-use Rattle.gate_world.specs.{Views.phase_after, Worlds.{World, after_step, found_at, words_after}, declared.{config.Config.Config, work.Phase.Phase}}
-use Rattle.gate_schedules.proofs.{mounts.Runs.apart_run, operations.remount.{Parts.here_knows}}
+use Rattle.freeze_laws.specs.{levels.Roles.Out as IsApart, stages.Roles.KnowsStage}
+use Rattle.gate_world.specs.{Roles.remount_stage_role, Rules.SameWords}
+use Rattle.gate_schedules.proofs.{mounts.Runs.apart_run, operations.remount.Parts.here_knows}
 
--- no event of a remount changes what a level reads of the words: the superblock's flags are stored at stage 0, where nothing is frozen
+-- no step of a remount changes what a level reads of the words: the superblock's flags are stored at stage 0, where nothing is frozen
 remount_words : (w : Words) (x : Remount) (hook : HookAnswer) (s : RemountStep) → KnowsStage w.stage w.sb (remount_stage_role x.nodes s) →
     (i : ℕ) → SameWords w (words_after w (Phase.Remounts (at_remount x s)) hook) (SyncAt i)
 remount_words w x hook s k i = grind arith
@@ -19,7 +17,7 @@ remount_outside next = grind arith
 remount_apart : (i : ℕ) (next : Next Remount) → sync_role_of i (phase_after (map_next Phase.Remounts next)) ≡ IsApart
 remount_apart i next = grind arith
 
--- each event of a remount is one at which each level stays
+-- each step of a remount is one at which each level stays
 pub remount_runs : (c : Config) (w : World) → IsGood c w → (t : ℕ) → t < c.tasks → (hook : HookAnswer) (x : Remount) →
     (w.views t).phase ≡ Some (Phase.Remounts x) → (i : ℕ) → SyncStep c.tasks (level_in w i) (level_in (after_step w t (Phase.Remounts x) hook) i)
 remount_runs c w good t lt hook x e i =

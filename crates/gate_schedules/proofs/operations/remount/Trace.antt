@@ -1,15 +1,15 @@
 -- Traces of a remount of the superblock.
-use Rattle.std.proofs.Common.{◌≡◌, ℕ, suc, ◌+◌, ◌<◌, ◌≤◌, Bool, true, false, refl, sym, ◌∙◌, subst, inl, inr, add-one, arith}
-use Rattle.std.proofs.lemmas.{Bool.{eq-eqb, ne_eqb, ltb-true, ltb-false, cases_Bool, Decides.eqb_tells}, List.Sums.sum_by-cons}
-use Rattle.std.specs.Prelude.{◌==◌, nat_lt, if◌then◌else◌, Result, Ok, Err, List, [], ◌∷◌, ◌++◌}
-use Rattle.access_model.specs.declared.{actions.Action.Action, errors.GateError.GateError, replies.Reply.Reply}
-use Rattle.cpu_words.specs.{Hooks.HookAnswer, Touches.{wrap_add, event_of}, declared.{events.Touch.Touch, names.WordName.WordName, sums.Sum.Sum}}
-use Rattle.mount_counts.specs.{Remounts.{past_mount, let_go, leave_holds, give_up}}
-use Rattle.mount_counts.specs.{Sets.{with_mount, without_lowest}, declared.{remounts.RemountStep.RemountStep, sets.MountSet.MountSet}}
-use Rattle.gate_world.specs.{Configs.IsWithin, traces.Found.{found_sealed, counts_loaded, sum_loaded, IsEachCount, each_event, finds_taken, cleans}}
-use Rattle.gate_world.specs.{traces.Traces.{actions_of, IsHonestAnswer}, Views.with_hook}
-use Rattle.gate_world.specs.declared.{config.Config.Config, operations.Op.Op, views.Traced.Traced, work.Phase.Phase}
-use Rattle.gate_schedules.proofs.{frames.OperationLaws.by_bool, traces.{Cleans.{cleans_leave, LeaveAccesses}, TraceInvariant.{InvariantAfterStep, IsInductive, event_at}}}
+use Rattle.gate_schedules.proofs.Prelude.{Action, Bool, Config, Err, GateError, HookAnswer, IsWithin, List, Ok, Op, Phase, Reply, Result, Touch}
+use Rattle.gate_schedules.proofs.Prelude.{Traced, WordName, [], arith, cases_Bool, eq-eqb, eqb_tells, false, if◌then◌else◌, inl, inr, nat_lt, refl}
+use Rattle.gate_schedules.proofs.Prelude.{subst, suc, sym, true, ℕ, ◌+◌, ◌<◌, ◌==◌, ◌∙◌, ◌∷◌, ◌≡◌, ◌≤◌}
+use Rattle.std.{proofs.{Common.add-one, lemmas.{Bool.{ne_eqb, ltb-true, ltb-false}, List.Sums.sum_by-cons}}, specs.Prelude.◌++◌}
+use Rattle.cpu_words.specs.{Touches.{wrap_add, event_of}, declared.sums.Sum.Sum}
+use Rattle.mount_counts.specs.{Remounts.{past_mount, let_go, leave_holds, give_up}, Sets.{with_mount, without_lowest}}
+use Rattle.mount_counts.specs.declared.{remounts.RemountStep.RemountStep, sets.MountSet.MountSet}
+use Rattle.gate_world.specs.{Views.with_hook, traces.Found.{found_sealed, counts_loaded, sum_loaded, IsEachCount, each_event, finds_taken, cleans}}
+use Rattle.gate_world.specs.traces.Traces.{actions_of, IsHonestAnswer}
+use Rattle.gate_schedules.proofs.{frames.OperationLaws.by_bool, traces.{Cleans.{cleans_leave, LeaveAccesses}, TraceInvariant.InvariantAfterStep}}
+use Rattle.gate_schedules.proofs.traces.TraceInvariant.{IsInductive, event_at}
 
 -- a remount of the superblock by a task, at this step
 abbrev remount : Config → ℕ → Bool → RemountStep → Phase
@@ -75,14 +75,11 @@ busy_adds false trace = refl
 pub sum_more : (k value s : ℕ) (loads : List (ℕ × ℕ)) → s ≡ sum_loaded loads → wrap_add s value ≡ sum_loaded ((k, value) ∷ loads)
 sum_more k value s loads h = omega (arith, h, sum_by-cons (λ (x : ℕ × ℕ). x.1) (k, value) loads)
 
--- an event that gives `umount` back leaves what is told
+-- a step that gives `umount` back leaves what is told
 lock_leaves : (c : Config) (ro : Bool) (answer : Result Reply GateError) (value : ℕ) (hook : HookAnswer) (earlier : List Traced)
     (added : List Action) → Answers c ro answer earlier added →
     Answers c ro answer (with_hook (event_of WordName.Umount (Touch.Store 0) value) hook ∷ earlier) added
-lock_leaves c true (Err (GateError.Hook code)) value hook earlier added h = (h.0, inr h.1)
-lock_leaves c false (Err (GateError.Hook code)) value hook earlier added h = (h.0, inr h.1)
-lock_leaves c true answer value hook earlier added h = h
-lock_leaves c false answer value hook earlier added h = h
+lock_leaves c ro answer value hook earlier added h = grind arith
 
 -- the loop goes on, or is done
 past_says : (c : Config) (ro : Bool) (m : ℕ) (held : MountSet) (trace : List Traced) (added : List Action) → IsOnItsWay ro trace added →
@@ -108,11 +105,11 @@ leave_holds_says c ro held trace added h =
     by_bool (held.bits == 0) (λ b. StepSays c ro (if b then RemountStep.Releases (Err GateError.Busy) else RemountStep.LeavesHolds held) trace added) h h
 
 module _ (c : Config) (lim : IsWithin c) (t : ℕ) (ro : Bool) (value : ℕ) (earlier : List Traced) (added : List Action) where
-  -- the trace after the event of a step
+  -- the trace after the step at a program point
   abbrev longer : HookAnswer → RemountStep → List Traced
   longer hook step = with_hook (event_at (remount c t ro step) value hook) hook ∷ earlier
 
-  -- what the trace says after the event of a step
+  -- what the trace says after the step at a program point
   abbrev TraceAfterStep : HookAnswer → RemountStep → Type 0
   TraceAfterStep hook step = InvariantAfterStep (RemountAt c t ro) c (Op.RemountSb ro) (remount c t ro step) value hook earlier added
 
@@ -245,6 +242,4 @@ remount_inductive c lim t ro = record {
 -- what a remount has added where it is refused leaves what its task held
 pub remount_restores : (ro : Bool) (refusal : GateError) (trace : List Traced) (before : List Action) →
     LeaveAccesses (actions_of (Op.RemountSb ro) (Err refusal) trace) before
-remount_restores true (GateError.Hook code) trace before = cleans_leave trace (Action.SbRo ∷ []) before refl
-remount_restores true refusal trace before = refl
-remount_restores false refusal trace before = refl
+remount_restores ro refusal trace before = grind (arith, cleans_leave)

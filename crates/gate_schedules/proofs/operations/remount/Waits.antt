@@ -1,10 +1,8 @@
 -- A remount waits only where another task has `umount`, and is refused only for its cause.
-use Rattle.std.{proofs.{Common.{◌≡◌, ℕ, ◌<◌, ap, inl, inr, refl}, lemmas.Bool.{cases_Bool, Decides.eqb_tells}}, specs.Prelude.{Some, Ok, Err, List}}
-use Rattle.access_model.specs.declared.errors.GateError.{GateError}
-use Rattle.cpu_words.specs.Hooks.{HookAnswer}
+use Rattle.gate_schedules.proofs.Prelude.{Config, Err, GateError, HookAnswer, IsGood, List, Ok, Phase, Some, World, after_of, ap, cases_Bool}
+use Rattle.gate_schedules.proofs.Prelude.{eqb_tells, found_at, inl, inr, owns, refl, ℕ, ◌<◌, ◌≡◌}
 use Rattle.mount_counts.specs.{Phases.has_flag, Remounts.at_remount, declared.remounts.{Remount.Remount, RemountStep.RemountStep}}
-use Rattle.gate_world.specs.{refusals.KeptCauses.RemountCause, Rules.{owns, IsGood}, refusals.Waits.HasReason, Work.after_of, Worlds.{World, found_at}}
-use Rattle.gate_world.specs.declared.{config.Config.Config, work.Phase.Phase}
+use Rattle.gate_world.specs.refusals.{KeptCauses.RemountCause, Waits.HasReason}
 use Rattle.gate_schedules.proofs.frames.Owners.{umount_taken}
 
 module _ (c : Config) (w : World) (earlier : List World) (good : IsGood c w) (t : ℕ) (lt : t < c.tasks) (x : Remount) where

@@ -1,14 +1,13 @@
 -- The last load of a snapshot: the tree that it has loaded is the present one.
-use Rattle.cpu_words.specs.{Hooks.HookAnswer, declared.names.WordName.WordName}
-use Rattle.gate_world.specs.{Configs.IsWithin, Fits.{Fits, PhaseFits}, Moments.{CompletesNow, IsPresentTree}, Rules.{Fitting, IsGood, Stages, Tree}}
-use Rattle.gate_world.specs.{Rules.stage_role_of, traces.Snapshots.{loads_noted, snapshot_completes, values_noted}, Trees.{tree_bounds, tree_role_of}, Views.held_of}
-use Rattle.gate_world.specs.{Worlds.World, declared.{config.Config.Config, work.Phase.Phase}}
-use Rattle.gated_tree.specs.{Phases.at_snapshot, Roles.{RoleHolds, seen_as, tree_word}, Trees.loaded, declared.phases.TreePhase.TreePhase}
-use Rattle.gated_tree.specs.declared.{snapshots.{Snapshot.Snapshot, SnapshotStep.SnapshotStep}, trees.TreeWords.TreeWords}
+use Rattle.gate_schedules.proofs.Prelude.{Config, Fits, Fitting, HookAnswer, IsGood, IsWithin, None, Phase, PhaseFits, Some, Stages, Tree, TreePhase}
+use Rattle.gate_schedules.proofs.Prelude.{WordName, World, ap, arith, held_of, inl, inr, stage_role_of, subst, suc, sym, tree_bounds, tree_role_of}
+use Rattle.gate_schedules.proofs.Prelude.{true≢false, ℕ, ◌+◌, ◌<◌, ◌∙◌, ◌≡◌, ◌≤◌}
+use Rattle.gate_world.specs.{Moments.{CompletesNow, IsPresentTree}, traces.Snapshots.{loads_noted, snapshot_completes, values_noted}}
+use Rattle.gated_tree.specs.{Phases.at_snapshot, Roles.{RoleHolds, seen_as, tree_word}, Trees.loaded, declared.snapshots.Snapshot.Snapshot}
+use Rattle.gated_tree.specs.declared.{snapshots.SnapshotStep.SnapshotStep, trees.TreeWords.TreeWords}
 use Rattle.gate_schedules.proofs.operations.{calls.NodeCauses.some_is, snapshot.Noted.{AreWords, IsLong, last_load, loaded_long, noted_long}}
 use Rattle.freeze_laws.specs.stages.Roles.{KnowsStage}
-use Rattle.std.proofs.{Common.{ap, arith, inl, inr, subst, suc, sym, true≢false, ℕ, ◌+◌, ◌<◌, ◌∙◌, ◌≡◌, ◌≤◌}, lemmas.Bool.{cases_lt, le-ltb, lt-ltb}}
-use Rattle.std.specs.Prelude.{None, Some, is_some}
+use Rattle.std.{proofs.lemmas.Bool.{cases_lt, le-ltb, lt-ltb}, specs.Prelude.is_some}
 
 nothing_is_some : {A : Type 0} (a : A) → None ≡ Some a → ⊥
 nothing_is_some a h = true≢false (ap is_some (sym h))
@@ -68,7 +67,7 @@ step_completes : (c : Config) (w : World) → IsGood c w → (t : ℕ) → t < c
 step_completes c w good t lt hook x (SnapshotStep.LoadsKids n) e found is = here_completes c w good t lt x n e found is
 step_completes c w good t lt hook x s e found is = absurd (nothing_is_some found is)
 
--- a snapshot that an event completes is of the present tree
+-- a snapshot that a step completes is of the present tree
 pub snapshot_completes_now : (c : Config) → IsWithin c → (w : World) → IsGood c w → (t : ℕ) → t < c.tasks → (hook : HookAnswer)
     (x : Snapshot) → (w.views t).phase ≡ Some (Phase.Trees (TreePhase.Snapshot x)) → CompletesNow c w t hook (Phase.Trees (TreePhase.Snapshot x))
 snapshot_completes_now c within w good t lt hook x e = step_completes c w good t lt hook x x.step e

@@ -1,34 +1,28 @@
--- The law of each event of a snapshot.
-use Rattle.std.proofs.lemmas.Grind.{common_steps}
-use Rattle.gate_schedules.proofs.frames.{ByPhase.snapshot_owner, Frames.left_alone, OperationLaws.by_bool, Known.{IsOwnersWork, known_after}}
-use Rattle.gate_schedules.proofs.frames.{Owners.{locks_umount, releases_umount}, Snapshots.noted_part}
-use Rattle.gate_schedules.proofs.frames.{Stages.{alike_same, nobody_owns, owners_alike, stages_after, stages_in}, Words.load_same}
-use Rattle.gate_schedules.proofs.operations.snapshot.Noted.{notes_step}
+-- The law of each step of a snapshot.
+use Rattle.gate_schedules.proofs.Prelude.{AtLevel, AtMount, Bool, Config, Err, Fits, Fitting, GateError, Holds, HookAnswer, IsGood, IsWithin, Next}
+use Rattle.gate_schedules.proofs.Prelude.{None, Option, Owner, Phase, PhaseFits, Reply, Result, Some, Stages, StepKeeps, SyncAt, Traced, Tree}
+use Rattle.gate_schedules.proofs.Prelude.{TreePhase, View, WordName, Words, World, after_step, ap, arith, common_steps, eqb_tells, false, found_by}
+use Rattle.gate_schedules.proofs.Prelude.{held_of, if◌then◌else◌, inl, inr, map_next, owns, phase_after, put, read, refl, stage_role_of, subst, suc}
+use Rattle.gate_schedules.proofs.Prelude.{sym, tree_bounds, tree_role_of, true, update, ℕ, ◌<◌, ◌==◌, ◌∙◌, ◌≡◌}
+use Rattle.gate_schedules.proofs.frames.{ByPhase.snapshot_owner, Frames.left_alone, Known.{IsOwnersWork, known_after}, OperationLaws.by_bool}
+use Rattle.gate_schedules.proofs.frames.{Owners.{locks_umount, releases_umount}, Snapshots.noted_part, Stages.{alike_same, nobody_owns, owners_alike}}
+use Rattle.gate_schedules.proofs.{frames.{Stages.{stages_after, stages_in}, Words.load_same}, operations.snapshot.Noted.notes_step}
 use Rattle.gate_schedules.proofs.trees.worlds.Parts.{TreeKeeps, call_files, call_fitting, call_keeps, call_moves, call_parts, call_view}
-use Rattle.access_model.specs.{Replies.map_next, declared.{errors.GateError.GateError, replies.{Next.Next, Reply.Reply}}}
-use Rattle.cpu_words.specs.{Hooks.HookAnswer, Touches.{found_by}, Words.{Words, put, read}, declared.names.WordName.WordName}
-use Rattle.finite_sums.specs.Sums.{update}
-use Rattle.gate_world.specs.{Configs.IsWithin, Fits.{Fits, PhaseFits}, Roles.snapshot_stage_role}
-use Rattle.gate_world.specs.{Roles.stage_at_end, Rules.{AtLevel, AtMount, Files, Fitting, Holding, Holds, IsGood, Known, Owner, Part, Sections, Stages}}
-use Rattle.gate_world.specs.{Rules.{StepKeeps, SyncAt, Tree, marks_of, owns, remounts, stage_role_of, stage_roles}, traces.Snapshots.values_noted}
-use Rattle.gate_world.specs.{Trees.{tree_bounds, tree_role_of}, Views.{held_of, phase_after, view_with}, Worlds.{World, after_step}}
-use Rattle.gate_world.specs.declared.{config.Config.Config, views.{Traced.Traced, View.View}, work.Phase.Phase}
+use Rattle.gate_schedules.specs.trees.Steps.{words_left}
+use Rattle.gate_world.specs.{Roles.{snapshot_stage_role, stage_at_end}, Rules.{Files, Holding, Known, Part, Sections, marks_of, remounts}}
+use Rattle.gate_world.specs.{Rules.stage_roles, Views.view_with, traces.Snapshots.values_noted}
 use Rattle.node_words.specs.Nodes.{node_after}
-use Rattle.gated_tree.specs.{Calls.{phase_role, role_after}, Phases.{at_snapshot, kids_step}}
-use Rattle.gated_tree.specs.{Phases.{snapshot_after, snapshot_locked_out, snapshot_next}, declared.{phases.TreePhase.TreePhase, snapshots.Snapshot.Snapshot}}
-use Rattle.gated_tree.specs.declared.snapshots.SnapshotStep.{SnapshotStep}
+use Rattle.gated_tree.specs.{Calls.{phase_role, role_after}, Phases.{at_snapshot, kids_step, snapshot_after, snapshot_locked_out, snapshot_next}}
+use Rattle.gated_tree.specs.declared.snapshots.{Snapshot.Snapshot, SnapshotStep.SnapshotStep}
 use Rattle.freeze_laws.specs.stages.Events.{SameDuties, Locks as LocksStage, Recalls, Releases as ReleasesStage, Stages as StageMoment, playing}
 use Rattle.freeze_laws.specs.stages.Roles.{Aside, KnowsStage, Owning, StageRole, clean_by, owns as stage_owns}
-use Rattle.std.proofs.Common.{Bool, List, ap, arith, false, inl, inr, refl, subst, suc, sym, true, ℕ, ◌<◌, ◌∙◌, ◌≡◌}
-use Rattle.std.proofs.lemmas.Bool.{Decides.eqb_tells}
-use Rattle.std.specs.Prelude.{Err, None, Option, Result, Some, if◌then◌else◌, ◌==◌}
-use Rattle.gate_schedules.specs.trees.Steps.{words_left}
+use Rattle.std.proofs.Common.{List}
 
 -- the words but `umount`
 abbrev off_umount : Words → Words
 off_umount w = record w { umount = 0 }
 
--- are as they were after each event of a snapshot
+-- are as they were after each step of a snapshot
 event_beside : (w : Words) (x : Snapshot) (s : SnapshotStep) → off_umount (words_left w (snapshot_next x s)) ≡ off_umount w
 event_beside w x s = grind arith
 
@@ -38,7 +32,7 @@ module _ (x : Snapshot) (P : Next Snapshot → Type 0) (go : (s : SnapshotStep) 
   snapshot_comes : (s : SnapshotStep) (found : ℕ) → P (snapshot_after x s found).0
   snapshot_comes s found = grind (arith, common_steps)
 
--- what comes after an event, among all phases
+-- what comes after a step, among all phases
 abbrev later : Next Snapshot → Option Phase
 later n = phase_after (map_next Phase.Trees (map_next TreePhase.Snapshot n))
 
@@ -69,7 +63,7 @@ module _ (c : Config) (within : IsWithin c) (w : World) (good : IsGood c w) (t :
   abbrev IsHere : SnapshotStep → Type 0
   IsHere s = (w.views t).phase ≡ Some (Phase.Trees (TreePhase.Snapshot (at_snapshot x s)))
 
-  -- what its event finds
+  -- what its step finds
   abbrev found_here : SnapshotStep → ℕ
   found_here s = found_by (snapshot_next x s).1 (read w.words (snapshot_next x s).0)
 
@@ -102,7 +96,7 @@ module _ (c : Config) (within : IsWithin c) (w : World) (good : IsGood c w) (t :
       }) (playing (stages_in w) t r)
   moment_here s r is = grind (arith, common_steps)
 
-  -- the rule of the stage after an event that leaves the task's part in it, but for what it relies on
+  -- the invariant of the stage after a step that leaves the task's part in it, but for what it relies on
   recalls : (s : SnapshotStep) → IsHere s → (r : StageRole) → stage_role_of (view_here s).phase ≡ r → SameDuties (snapshot_stage_role s) r →
       KnowsStage w.words.stage w.words.sb r → clean_by r ≡ 0 → Holds c (world_here s) Stages
   recalls s e r is alike knows none =
@@ -178,13 +172,13 @@ module _ (c : Config) (within : IsWithin c) (w : World) (good : IsGood c w) (t :
   owner_law (SnapshotStep.Releases answer) e own =
       releases_umount c w good t lt (view_here (SnapshotStep.Releases answer)) (ap owns e) refl (later_remounts (SnapshotStep.Releases answer) e)
 
--- What comes after an event is at the same loads of the tree, in the laws of the tree and here.
+-- What comes after a step is at the same loads of the tree, in the laws of the tree and here.
 later_role : (x : Snapshot) (s : SnapshotStep) (found : ℕ) (trace : List Traced) →
     role_after (phase_role (values_noted x.nodes trace)) (map_next TreePhase.Snapshot (snapshot_after x s found).0) ≡
     tree_role_of trace (later (snapshot_after x s found).0)
 later_role x s found trace = grind (arith, common_steps)
 
--- The law of the event to come.
+-- The law of the step to come.
 module _ (c : Config) (within : IsWithin c) (w : World) (good : IsGood c w) (t : ℕ) (lt : t < c.tasks) (hook : HookAnswer)
     (x : Snapshot) (e : (w.views t).phase ≡ Some (Phase.Trees (TreePhase.Snapshot x))) where
   fits_now : PhaseFits c t (held_of (w.views t)) (Phase.Trees (TreePhase.Snapshot x))

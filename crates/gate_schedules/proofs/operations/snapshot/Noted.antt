@@ -1,14 +1,14 @@
 -- What the loads of a trace have noted of the tree, and what a snapshot's next load adds.
-use Rattle.std.proofs.Common.{◌≡◌, ℕ, zero, suc, ◌+◌, ◌-◌, ◌<◌, ◌≤◌, List, [], ◌∷◌, length, refl, sym, ap, ◌∙◌, subst, inl, inr, arith, get_or-set_same}
-use Rattle.std.proofs.{lemmas.Grind.{common_steps}, Common.{get_or-set_other}}
-use Rattle.std.proofs.{lemmas.{Bool.{cases_Bool, lt-ltb, le-ltb, Decides.eqb_tells}, List.length-replicate}}
+use Rattle.gate_schedules.proofs.Prelude.{HookAnswer, Traced, WordName, ap, arith, cases_Bool, common_steps, eqb_tells, found_by, inl, inr, refl}
+use Rattle.gate_schedules.proofs.Prelude.{subst, suc, sym, zero, ℕ, ◌+◌, ◌<◌, ◌∙◌, ◌≡◌, ◌≤◌}
+use Rattle.std.proofs.{Common.{◌-◌, List, [], ◌∷◌, length, get_or-set_same, get_or-set_other}, lemmas.{Bool.{lt-ltb, le-ltb}, List.length-replicate}}
 use Rattle.std.specs.Prelude.{slice_index}
-use Rattle.cpu_words.specs.{Hooks.HookAnswer, Touches.{event_of, found_by}, declared.names.WordName.WordName}
+use Rattle.cpu_words.specs.Touches.{event_of}
 use Rattle.node_words.specs.Nodes.{node_shown}
-use Rattle.gated_tree.specs.{Calls.{SnapshotStepFits}, Phases.{snapshot_next}, Roles.{Bounds, tree_word, seen_as}, Trees.{loaded, node_at}}
+use Rattle.gated_tree.specs.{Calls.SnapshotStepFits, Phases.snapshot_next, Roles.{Bounds, tree_word, seen_as}, Trees.{loaded, node_at}}
 use Rattle.gated_tree.specs.declared.{snapshots.{Snapshot.Snapshot, SnapshotStep.SnapshotStep}, trees.TreeWords.TreeWords}
 use Rattle.gate_schedules.specs.trees.Steps.{NotesOne, NotesLoad}
-use Rattle.gate_world.specs.{traces.Found.is_load, traces.Snapshots.{loads_noted, values_noted}, Views.with_hook, declared.views.Traced.Traced}
+use Rattle.gate_world.specs.{Views.with_hook, traces.{Found.is_load, Snapshots.{loads_noted, values_noted}}}
 
 -- there is room for the words of so many nodes
 abbrev pub IsLong : ℕ → TreeWords → Type 0
@@ -53,18 +53,13 @@ pub notes_kids : (nodes n : ℕ) (words : TreeWords) (value : ℕ) → IsLong no
     NotesOne (suc (nodes + n)) (values_of nodes words) (values_of nodes (loaded words (WordName.Kids n) value)) value
 notes_kids nodes n words value long ln = grind (arith, common_steps)
 
--- after each event of a snapshot the values are the earlier ones, with the word that it loads
+-- after each step of a snapshot the values are the earlier ones, with the word that it loads
 pub notes_step : (c : Bounds) (x : Snapshot) (s : SnapshotStep) → x.nodes ≡ c.nodes → SnapshotStepFits c s → (trace : List Traced)
     (value : ℕ) (hook : HookAnswer) →
     NotesLoad x.nodes s (values_noted x.nodes trace)
     (values_noted x.nodes (with_hook (event_of (snapshot_next x s).0 (snapshot_next x s).1 value) hook ∷ trace))
     (found_by (snapshot_next x s).1 value)
-notes_step c x SnapshotStep.LoadsUsed same fits trace value hook = notes_used x.nodes (loads_noted x.nodes trace) value
-notes_step c x (SnapshotStep.LoadsNode n) same fits trace value hook =
-    notes_node x.nodes n (loads_noted x.nodes trace) value (noted_long x.nodes trace) (omega (arith, fits, same))
-notes_step c x (SnapshotStep.LoadsKids n) same fits trace value hook =
-    notes_kids x.nodes n (loads_noted x.nodes trace) value (noted_long x.nodes trace) (omega (arith, fits, same))
-notes_step c x s same fits trace value hook = tt
+notes_step c x s same fits trace value hook = grind (arith, notes_used, notes_node, noted_long, notes_kids)
 
 -- these are the words of a tree of so many nodes, but for how many tasks have files open
 abbrev pub AreWords : ℕ → TreeWords → ℕ → (ℕ → ℕ) → (ℕ → ℕ) → Type 0

@@ -1,44 +1,37 @@
--- The law of each event of a thaw.
-use Rattle.std.proofs.lemmas.Grind.{common_steps}
-use Rattle.gate_world.specs.Roles.{thaw_owns}
-use Rattle.gate_world.specs.{Configs.{IsWithin, model_limits}, Fits.{Fits, PhaseFits, ThawFits}, Holdings.{Holdings, holdings_of}, Levels.is_frozen_whole}
-use Rattle.gate_world.specs.{Levels.{level_added_after, level_added_by, level_taken_after, level_taken_by}, Roles.{thaw_holder_role}}
-use Rattle.gate_world.specs.{Roles.{thaw_stage_role, thaw_position}, Rules.{Fitting, Holding, Holds, IsGood, OwnerHolds, Stages, StepKeeps, ViewFits}}
-use Rattle.gate_world.specs.{Rules.{holder_role_of, holder_roles, marks_of, owns, stage_role_of, stage_roles}, Shown.shown, Trees.tree_role_of}
-use Rattle.gate_world.specs.Views.{actions_after}
-use Rattle.gate_world.specs.{Views.{added_after, added_by, held_of, phase_after, taken_after, taken_by, view_with}, Worlds.World}
-use Rattle.gate_world.specs.declared.{config.Config.Config, views.{Traced.Traced, View.View}, work.Phase.Phase}
-use Rattle.gate_schedules.proofs.frames.{ByPhase.thaw_owner, Frames.{added_load, taken_load}}
-use Rattle.gate_schedules.proofs.frames.{Holders.{holders_after, holders_at, holders_stay, nobody_minds}}
-use Rattle.gate_schedules.proofs.frames.Stages.{IsStageEvent, nobody_owns, owners_alike, stages_in}
-use Rattle.gate_schedules.proofs.levels.{LevelPositions.{LevelsHold, HasPosition, left_world, position_after_opening}, UpWrite.up_write_levels, FreezeCompletes.thaws_all}
-use Rattle.gate_schedules.proofs.{mounts.Parts.{level_added_load, level_taken_load}, operations.thaw.Fits.{finds_cases}}
-use Rattle.gate_schedules.proofs.writers.Owner.{lock_given, lock_taken, owner_stays}
-use Rattle.gate_schedules.proofs.writers.Parts.{AsksWhere, IsWriter, LeavesRest, WriterKeeps, WriterLaw, idle_writes, thaw_comes, thaw_work, thaws_write}
-use Rattle.gate_schedules.proofs.writers.Parts.{whole_writer}
-use Rattle.gate_schedules.proofs.writers.Stages.{SameStageWords, none_leaves, opened_tree, stays_there, stored_levels, writer_beside, writer_holds}
-use Rattle.gate_schedules.proofs.writers.Stages.{writer_stores}
+-- The law of each step of a thaw.
+use Rattle.gate_schedules.proofs.Prelude.{Action, Config, Err, Fits, Fitting, GateError, Holdings, Holds, HookAnswer, IsGood, IsWithin, List, Next}
+use Rattle.gate_schedules.proofs.Prelude.{None, Ok, Option, Phase, PhaseFits, Reply, Result, Some, Stages, StepKeeps, Touch, Traced, View, WordName}
+use Rattle.gate_schedules.proofs.Prelude.{Words, World, ap, arith, common_steps, eqb_tells, found_by, held_of, inl, inr, is_frozen_whole, left}
+use Rattle.gate_schedules.proofs.Prelude.{map_next, owns, phase_after, put, read, refl, shown, stage_role_of, subst, suc, sym, total, tree_role_of}
+use Rattle.gate_schedules.proofs.Prelude.{update, zero, ℕ, ◌+◌, ◌<◌, ◌∙◌, ◌∷◌, ◌≡◌, ◌≤◌}
+use Rattle.gate_world.specs.{Configs.model_limits, Fits.ThawFits, Holdings.holdings_of, Levels.{level_added_after, level_added_by, level_taken_after}}
+use Rattle.gate_world.specs.{Levels.level_taken_by, Roles.{thaw_owns, thaw_holder_role, thaw_stage_role, thaw_position}, Rules.{Holding, OwnerHolds}}
+use Rattle.gate_world.specs.{Rules.{ViewFits, holder_role_of, holder_roles, marks_of, stage_roles}, Views.{actions_after, added_after, added_by}}
+use Rattle.gate_world.specs.Views.{taken_after, taken_by, view_with}
+use Rattle.gate_schedules.proofs.frames.{ByPhase.thaw_owner, Frames.{added_load, taken_load}, Holders.{holders_after, holders_at, holders_stay}}
+use Rattle.gate_schedules.proofs.frames.{Holders.nobody_minds, Stages.{IsStageEvent, nobody_owns, owners_alike, stages_in}}
+use Rattle.gate_schedules.proofs.levels.{FreezeCompletes.thaws_all, LevelPositions.{LevelsHold, HasPosition, left_world, position_after_opening}}
+use Rattle.gate_schedules.proofs.{levels.UpWrite.up_write_levels, mounts.Parts.{level_added_load, level_taken_load}, operations.thaw.Fits.finds_cases}
+use Rattle.gate_schedules.proofs.writers.{Owner.{lock_given, lock_taken, owner_stays}, Parts.{AsksWhere, IsWriter, LeavesRest, WriterKeeps}}
+use Rattle.gate_schedules.proofs.writers.{Parts.{WriterLaw, idle_writes, thaw_comes, thaw_work, thaws_write, whole_writer}, Stages.SameStageWords}
+use Rattle.gate_schedules.proofs.writers.Stages.{none_leaves, opened_tree, stays_there, stored_levels, writer_beside, writer_holds, writer_stores}
 use Rattle.gate_schedules.proofs.writers.Words.{reopen_leaves, tree_beside, up_write_adds, up_write_counts_none, up_write_words, writer_at_level}
-use Rattle.access_model.specs.{Holders.{held_by, is_unheld, nobody, with_holder}, Replies.map_next, declared.actions.{Action.Action, Holders.Holders}}
-use Rattle.access_model.specs.declared.{errors.GateError.GateError, replies.{Next.Next, Reply.Reply}}
-use Rattle.cpu_words.specs.{Hooks.HookAnswer, Touches.{found_by, left}, Words.{Words, put, read}, declared.events.{Event.Event, Touch.Touch}}
-use Rattle.cpu_words.specs.declared.names.WordName.{WordName}
-use Rattle.finite_sums.specs.Sums.{total, update}
+use Rattle.access_model.specs.{Holders.{held_by, is_unheld, nobody, with_holder}, declared.actions.Holders.Holders}
+use Rattle.cpu_words.specs.declared.events.Event.{Event}
+use Rattle.freeze_levels.proofs.holder_laws.{HolderLaws.roles_tell, Words.{holds_alone, holds_own, leaves_none, unpack_pack}}
 use Rattle.freeze_levels.specs.{Holders.{holders_in, word_of}, Levels.reopening, Thaws.{after_opening, at_thaw}, declared.thaws.Thaw.Thaw}
-use Rattle.freeze_levels.specs.declared.thaws.ThawStep.{ThawStep}
-use Rattle.freeze_levels.specs.holder_laws.Events.{Finds, Leaves as LeavesOthers, LeavesLast as LeavesNobody, LetsGo as LetsHoldersGo, Thaws as ThawsHolders}
-use Rattle.freeze_levels.specs.holder_laws.Roles.{Apart, Empties, Found, between, minds}
+use Rattle.freeze_levels.specs.{declared.thaws.ThawStep.ThawStep, holder_laws.Events.{Finds, Leaves as LeavesOthers, LeavesLast as LeavesNobody}}
+use Rattle.freeze_levels.specs.holder_laws.{Events.{LetsGo as LetsHoldersGo, Thaws as ThawsHolders}, Roles.{Apart, Empties, Found, between, minds}}
 use Rattle.node_words.specs.Nodes.{dirty_in}
 use Rattle.gated_tree.specs.Roles.{Out as OffTree}
-use Rattle.freeze_levels.proofs.holder_laws.{HolderLaws.roles_tell, Words.{holds_alone, holds_own, leaves_none, unpack_pack}}
 use Rattle.percpu_rwsem.specs.{SyncWords.on_exit, Transitions.transition_after, Writers.{exit_made, up_write_after, up_write_next}}
 use Rattle.percpu_rwsem.specs.declared.{transitions.{Transition.Transition, TransitionNext.TransitionNext}, writers.UpWrite.UpWrite}
 use Rattle.percpu_rwsem.specs.declared.writers.UpWriteStep.{UpWriteStep}
-use Rattle.freeze_laws.specs.stages.Events.{ClearsBlock as ClearsBlockOf, SameDuties, LeavesOne, Locks as LocksStage, Recalls, Releases as ReleasesStage, StageEvent}
-use Rattle.freeze_laws.specs.stages.{Events.{Stays, Thaws as StoresThaw, ThawsAtOnce, action_of as stage_action_of, playing}, Roles.{CleanBelow, KnowsStage, Owning}}
-use Rattle.freeze_laws.specs.stages.{Roles.{Reopening, StageRole, clean_by, is_full, owns as stage_owns}, Shown.state_after}
-use Rattle.std.proofs.{Common.{ap, arith, inl, inr, refl, subst, suc, sym, zero, ℕ, ◌+◌, ◌-◌, ◌<◌, ◌∙◌, ◌≡◌, ◌≤◌}, lemmas.Bool.{Decides.eqb_tells}}
-use Rattle.std.specs.Prelude.{Err, List, None, Ok, Option, Result, Some, false, true, ◌∷◌}
+use Rattle.freeze_laws.specs.stages.Events.{ClearsBlock as ClearsBlockOf, SameDuties, LeavesOne, Locks as LocksStage, Recalls}
+use Rattle.freeze_laws.specs.stages.Events.{Releases as ReleasesStage, StageEvent, Stays, Thaws as StoresThaw, ThawsAtOnce}
+use Rattle.freeze_laws.specs.stages.{Events.{action_of as stage_action_of, playing}, Roles.{CleanBelow, KnowsStage, Owning, Reopening, StageRole}}
+use Rattle.freeze_laws.specs.stages.{Roles.{clean_by, is_full, owns as stage_owns}, Shown.state_after}
+use Rattle.std.{proofs.Common.◌-◌, specs.Prelude.{false, true}}
 
 none_below : (dirty : ℕ → ℕ) → CleanBelow 0 dirty
 none_below dirty n below = absurd (omega (arith, below))
@@ -49,7 +42,7 @@ thaw_stands x = record { counts = λ i one three. refl; syncs = λ i one three. 
 pub idle_stands : HasPosition None None
 idle_stands = record { counts = λ i one three. refl; syncs = λ i one three. refl; outside = refl }
 
--- What comes after an event of a level's reopening.
+-- What comes after a step of a level's reopening.
 module _ (x : Thaw) where
   -- it stands so with the levels
   pub opening_stands : (level : ℕ) (n : Next UpWrite) →
@@ -66,7 +59,7 @@ role_owns s role = sym (thaw_owner s) ∙ ap stage_owns role
 opening_apart : (x : Thaw) (level : ℕ) (n : Next UpWrite) → holder_role_of (phase_after (map_next Phase.Thaws (after_opening x level n))) ≡ Apart
 opening_apart x level n = grind arith
 
--- a thaw does nothing at the tree, whatever comes after an event of it
+-- a thaw does nothing at the tree, whatever comes after a step of it
 tree_comes : (trace : List Traced) (n : Next Thaw) → tree_role_of trace (phase_after (map_next Phase.Thaws n)) ≡ OffTree
 tree_comes trace n = grind arith
 
@@ -74,7 +67,7 @@ tree_comes trace n = grind arith
 abbrev NextRoleHolds : StageRole → ℕ → ℕ → (ℕ → ℕ) → StageRole → Type 0
 NextRoleHolds old stage sb dirty r = SameDuties old r × KnowsStage stage sb r × CleanBelow (clean_by r) dirty
 
--- so it does after an event of the exchange of a level that is open
+-- so it does after a step of the exchange of a level that is open
 exit_on : (x : Thaw) (level : ℕ) (s : UpWriteStep) (n : TransitionNext) (stage sb : ℕ) (dirty : ℕ → ℕ) → level ≤ 3 → stage ≡ 0 →
     NextRoleHolds (Reopening (level - 1)) stage sb dirty
     (stage_role_of (phase_after (map_next Phase.Thaws (after_opening x level (exit_made (record { level = level; step = s }) n)))))
@@ -85,7 +78,7 @@ module _ (c : Config) (lim : IsWithin c) (w : World) (good : IsGood c w) (t : �
   abbrev pub IsHere : ThawStep → Type 0
   IsHere s = (w.views t).phase ≡ Some (Phase.Thaws (at_thaw x s))
 
-  -- the law of its event
+  -- the law of its step
   abbrev Keeps : HookAnswer → ThawStep → Type 0
   Keeps hook s = WriterKeeps c w t hook (Phase.Thaws (at_thaw x s))
 
@@ -114,7 +107,7 @@ module _ (c : Config) (lim : IsWithin c) (w : World) (good : IsGood c w) (t : �
   here_writes : (s : ThawStep) → IsHere s → IsWriter (w.views t).phase
   here_writes s e = subst IsWriter (sym e) (thaws_write (at_thaw x s))
 
-  -- the view after an event of this word and touch, after which this step comes
+  -- the view after a step of this word and touch, after which this program point comes
   abbrev view_at : WordName × Touch → ℕ → HookAnswer → ThawStep → Option Action → View
   view_at event value hook s action = view_with (w.views t) event value hook (Next.Go (Phase.Thaws (at_thaw x s)), action)
 
@@ -388,7 +381,7 @@ module _ (c : Config) (lim : IsWithin c) (w : World) (good : IsGood c w) (t : �
       (holders_stay c w good t lt (record w.words { umount = 0 })
       (view_with (w.views t) (WordName.Umount, Touch.Store 0) w.words.umount hook (Next.Done answer, None)) refl refl (sym (ap holder_role_of e)))
 
-  -- What an event of a level's reopening finds and leaves.
+  -- What a step of a level's reopening finds and leaves.
   module _ (hook : HookAnswer) (u : UpWrite) where
     -- its word and its touch
     abbrev event_here : WordName × Touch
@@ -514,7 +507,7 @@ module _ (c : Config) (lim : IsWithin c) (w : World) (good : IsGood c w) (t : �
   thaw_event hook (ThawStep.Reopens u) e = reopening_event hook u.level u.step e
   thaw_event hook (ThawStep.Releases answer) e = releases hook answer e
 
--- each event of a thaw keeps the rule, and moves the shown model by its action
+-- each step of a thaw keeps the invariant, and moves the shown state by its action
 pub thaw_keeps : (c : Config) → IsWithin c → (w : World) → IsGood c w → (t : ℕ) → t < c.tasks → (hook : HookAnswer) (x : Thaw) →
     (w.views t).phase ≡ Some (Phase.Thaws x) → StepKeeps c w t hook (Phase.Thaws x)
 thaw_keeps c lim w good t lt hook x e =

@@ -1,13 +1,10 @@
--- What fits after an event of a thaw.
-use Rattle.std.proofs.{Common.{false, ◌≡◌, ℕ, true, arith}}
-use Rattle.std.specs.Prelude.{Err}
-use Rattle.access_model.specs.{Holders.{held_by, with_holder, is_unheld}, Replies.map_next}
-use Rattle.access_model.specs.declared.{actions.{Holders.Holders}, errors.GateError.GateError}
-use Rattle.cpu_words.specs.{Hooks.HookAnswer, Names.IsWord}
-use Rattle.freeze_levels.specs.{Thaws.{thaw_next, thaw_after, at_thaw, thaw_finds}, declared.thaws.{Thaw.{Thaw}, ThawStep.{ThawStep}}}
-use Rattle.gate_world.specs.{Configs.extents_of, Fits.{ThawFits, PhaseFits, Fits, ActionFits}}
-use Rattle.gate_world.specs.{Holdings.{Holdings, held_after}, Operations.holds_none}
-use Rattle.gate_world.specs.{Views.phase_after, declared.{config.Config.Config, work.Phase.Phase}}
+-- What fits after a step of a thaw.
+use Rattle.gate_schedules.proofs.Prelude.{Config, Err, Fits, GateError, Holdings, HookAnswer, Phase, PhaseFits, arith, false, held_after, map_next}
+use Rattle.gate_schedules.proofs.Prelude.{phase_after, true, ℕ, ◌≡◌}
+use Rattle.access_model.specs.{Holders.{held_by, with_holder, is_unheld}, declared.actions.Holders.Holders}
+use Rattle.cpu_words.specs.Names.{IsWord}
+use Rattle.freeze_levels.specs.{Thaws.{thaw_next, thaw_after, at_thaw, thaw_finds}, declared.thaws.{Thaw.Thaw, ThawStep.ThawStep}}
+use Rattle.gate_world.specs.{Configs.extents_of, Fits.{ThawFits, ActionFits}, Operations.holds_none}
 
 -- What comes after a look at who holds a freeze: a refusal, where its own holder doesn't; the superblock's flag, where it alone does; or
 -- else the store without it.
@@ -17,7 +14,7 @@ pub finds_cases : (x : Thaw) (held : Holders) (P : ThawStep → Type 0) →
     (held_by held x.holder ≡ true → is_unheld (with_holder x.holder false held) ≡ false → P (ThawStep.Leaves held)) → P (thaw_finds x held)
 finds_cases x held P refused alone shared = grind arith
 
--- the word of each event of a thaw is there
+-- the word of each step of a thaw is there
 pub thaw_there : (c : Config) (x : Thaw) (s : ThawStep) (hook : HookAnswer) → ThawFits x.holder s → IsWord (extents_of c) (thaw_next x s hook).0
 thaw_there c x s hook f = grind arith
 
@@ -25,7 +22,7 @@ pub thaw_acts : (held : Holdings) (x : Thaw) (s : ThawStep) (found : ℕ) (hook 
 thaw_acts held x s found hook = grind arith
 
 module _ (c : Config) (t : ℕ) (held : Holdings) (x : Thaw) (same : x.task ≡ t) (none : holds_none held.levels ≡ true) where
-  -- after an event of a thaw, what comes fits the accesses that its action leaves
+  -- after a step of a thaw, what comes fits the accesses that its action leaves
   abbrev FitsAfterStep : ThawStep → ℕ → HookAnswer → Type 0
   FitsAfterStep s found hook =
       Fits c t (held_after (thaw_after x s found hook).1 held)
@@ -34,7 +31,7 @@ module _ (c : Config) (t : ℕ) (held : Holdings) (x : Thaw) (same : x.task ≡ 
   step_goes : (s : ThawStep) (found : ℕ) (hook : HookAnswer) → ThawFits x.holder s → FitsAfterStep s found hook
   step_goes s found hook f = grind arith
 
--- what comes after each event of a thaw fits
+-- what comes after each step of a thaw fits
 pub thaw_goes : (c : Config) (t : ℕ) (held : Holdings) (x : Thaw) (s : ThawStep) (found : ℕ) (hook : HookAnswer) →
     PhaseFits c t held (Phase.Thaws (at_thaw x s)) →
     Fits c t (held_after (thaw_after x s found hook).1 held)

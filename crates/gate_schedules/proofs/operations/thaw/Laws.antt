@@ -1,11 +1,11 @@
 -- All that is proved of a thaw.
+use Rattle.gate_schedules.proofs.Prelude.{Config, Op, Phase, after_step, refl}
 use Rattle.access_model.specs.declared.actions.Holder.{Holder}
 use Rattle.freeze_levels.specs.declared.thaws.Thaw.{Thaw}
 use Rattle.gate_schedules.proofs.frames.{Agreeing.none_agree, OperationLaws.{OpLaws, PhaseLaws, word_among}, Snapshots.completes_none}
-use Rattle.gate_schedules.proofs.operations.thaw.{Causes.{thaw_own, thaw_stays}, Events.thaw_keeps, Fits.{thaw_acts, thaw_goes, thaw_there}, Runs.thaw_runs}
-use Rattle.gate_schedules.proofs.{operations.thaw.{Trace.{ThawAt, thaw_inductive}, Waits.thaw_waits}, traces.TraceInvariant.{is_short, tells}}
-use Rattle.gate_world.specs.{Worlds.after_step, declared.{config.Config.Config, operations.Op.Op, work.Phase.Phase}}
-use Rattle.std.proofs.Common.{refl}
+use Rattle.gate_schedules.proofs.operations.thaw.{Causes.{thaw_own, thaw_stays}, Events.thaw_keeps, Fits.{thaw_acts, thaw_goes, thaw_there}}
+use Rattle.gate_schedules.proofs.operations.thaw.{Runs.thaw_runs, Trace.{ThawAt, thaw_inductive}, Waits.thaw_waits}
+use Rattle.gate_schedules.proofs.traces.TraceInvariant.{traces_tell}
 
 pub thaw_phase : (c : Config) (x : Thaw) → PhaseLaws c (Phase.Thaws x)
 thaw_phase c x = record {
@@ -30,7 +30,6 @@ thaw_op c holder = record {
   room_agrees = λ held seen same there. refl;
   restores = λ refusal trace before order. refl;
   file = λ t held order room. tt;
-  tells = λ lim t trace h. tells (ThawAt c t holder) c t (Op.Thaw holder) (thaw_inductive c t holder) trace h;
-  short = λ lim t trace h. is_short (ThawAt c t holder) c t (Op.Thaw holder) (thaw_inductive c t holder) trace h;
+  traces = λ lim. traces_tell (λ t. ThawAt c t holder) c (Op.Thaw holder) (λ t. thaw_inductive c t holder);
   most_small = λ lim. tt;
 }

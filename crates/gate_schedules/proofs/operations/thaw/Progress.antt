@@ -1,17 +1,18 @@
 -- A thaw that finds `umount` free runs out.
-use Rattle.access_model.specs.{Holders.{held_by, is_unheld, with_holder}, declared.replies.Next.Next}
-use Rattle.cpu_words.specs.{Hooks.HookAnswer, Touches.found_by, Words.{Words, read}}
+use Rattle.gate_schedules.proofs.Prelude.{Config, Err, Fits, Fitting, HookAnswer, IsGood, Next, Ok, Phase, PhaseFits, Words, World, ap, arith}
+use Rattle.gate_schedules.proofs.Prelude.{cases_Bool, eq-eqb, eqb_tells, false, found_at, found_by, held_of, inl, inr, nat_lt, read, refl, subst}
+use Rattle.gate_schedules.proofs.Prelude.{sync_role_of, words_after, ℕ, ◌+◌, ◌<◌, ◌∙◌, ◌≡◌}
+use Rattle.access_model.specs.Holders.{held_by, is_unheld, with_holder}
 use Rattle.freeze_levels.specs.{Holders.holders_in, Thaws.{after_opening, thaw_after, thaw_next}, declared.thaws.{Thaw.Thaw, ThawStep.ThawStep}}
-use Rattle.gate_world.specs.{Fits.{Fits, PhaseFits, ThawFits}, Levels.sync_role_of, Roles.{position_sync, sync_beside, thaw_position}, Rules.{Fitting, IsGood}}
-use Rattle.gate_world.specs.{Views.held_of, Worlds.{World, found_at, words_after}, declared.{config.Config.Config, work.Phase.Phase}}
+use Rattle.gate_world.specs.{Fits.ThawFits, Roles.{position_sync, sync_beside, thaw_position}}
 use Rattle.freeze_laws.specs.levels.Operations.{up_write_role}
 use Rattle.percpu_rwsem.specs.{Writers.{up_write_after, up_write_next}, declared.writers.UpWrite.UpWrite}
 use Rattle.gate_schedules.proofs.{operations.deadlocks.RankDecreases.{after_event, falls_as}, writers.Progress.up_falls}
-use Rattle.gate_schedules.specs.operations.{Ranks.{rank, reopens_rank, thaw_rank, up_rank}, Unblocked.{RankDecreases, IsUnblocked, PhaseEnds, ThawIsUnblocked}}
-use Rattle.std.proofs.{Common.{ap, arith, false, inl, inr, refl, subst, ℕ, ◌+◌, ◌<◌, ◌∙◌, ◌≡◌}, lemmas.Bool.{cases_Bool, eq-eqb, Decides.eqb_tells}}
-use Rattle.std.specs.Prelude.{Err, Ok, nat_lt, ◌*◌, ◌-◌}
+use Rattle.gate_schedules.specs.operations.{Ranks.{rank, reopens_rank, thaw_rank, up_rank}, Unblocked.{RankDecreases, IsUnblocked, PhaseEnds}}
+use Rattle.gate_schedules.specs.operations.Unblocked.{ThawIsUnblocked}
+use Rattle.std.specs.Prelude.{◌*◌, ◌-◌}
 
--- after an event of the reopening of a level: those below it are still to be reopened
+-- after a step of the reopening of a level: those below it are still to be reopened
 opens_falls : (after : Words) (x : Thaw) (level r : ℕ) (next : Next UpWrite) →
     RankDecreases (reopens_rank after) (λ (y : UpWrite). Unit {0}) (r + 3 * (level - 1) + 1) next →
     RankDecreases (λ (y : Thaw). thaw_rank after y.step) (λ (y : Thaw). ThawIsUnblocked after y.step) (r + 3 * (level - 1) + 1)

@@ -1,25 +1,24 @@
--- Each event of a thaw is one of each level, or leaves it.
-use Rattle.std.{proofs.Common.{◌≡◌, ℕ, ◌<◌, refl}, specs.Prelude.{◌==◌, if◌then◌else◌, Some, None, Ok, Err}}
-use Rattle.access_model.specs.{Replies.map_next, declared.{errors.GateError.GateError, replies.{Next.Next, Reply.Reply}}}
-use Rattle.cpu_words.specs.{Hooks.HookAnswer, Touches.found_by, Words.{Words, read}}
+-- Each step of a thaw is one of each level, or leaves it.
+use Rattle.gate_schedules.proofs.Prelude.{Config, Err, GateError, HookAnswer, IsGood, IsWithin, Next, None, Ok, Phase, Reply, Some, Words, World}
+use Rattle.gate_schedules.proofs.Prelude.{after_step, found_at, found_by, if◌then◌else◌, is_frozen_whole, map_next, phase_after, read, refl}
+use Rattle.gate_schedules.proofs.Prelude.{words_after, ℕ, ◌<◌, ◌==◌, ◌≡◌}
 use Rattle.percpu_rwsem.specs.Writers.{up_write_next, up_write_after}
 use Rattle.freeze_levels.specs.{Holders.holders_in, Levels.reopening, Thaws.{at_thaw, thaw_after}, declared.thaws.{Thaw.Thaw, ThawStep.ThawStep}}
-use Rattle.gate_world.specs.{Configs.IsWithin, Levels.is_frozen_whole, Rules.IsGood, Views.{phase_after, view_after}}
-use Rattle.gate_world.specs.{Worlds.{World, after_step, words_after, found_at, value_at}, declared.{config.Config.Config, work.Phase.Phase}}
-use Rattle.gate_schedules.proofs.{frames.{Frames.SameLevelWords, OperationLaws.by_bool}, levels.{Runs.{levels_stay_runs, up_write_runs}, LevelPositions.{HasPosition, LevelsRun}}}
-use Rattle.gate_schedules.proofs.levels.FreezeCompletes.{thaws_runs}
+use Rattle.gate_world.specs.{Views.view_after, Worlds.value_at}
+use Rattle.gate_schedules.proofs.{frames.{Frames.SameLevelWords, OperationLaws.by_bool}, levels.FreezeCompletes.thaws_runs}
+use Rattle.gate_schedules.proofs.levels.{LevelPositions.{HasPosition, LevelsRun}, Runs.{levels_stay_runs, up_write_runs}}
 use Rattle.gate_schedules.proofs.operations.thaw.Events.{thaw_stands, idle_stands, opening_stands, IsHere, here_fits, here_knows, here_stands}
 use Rattle.gate_schedules.proofs.operations.thaw.Fits.{finds_cases}
 
 module _ (c : Config) (lim : IsWithin c) (w : World) (good : IsGood c w) (t : ℕ) (lt : t < c.tasks) (x : Thaw) where
-  -- the event of this step is one of each level
+  -- the step of this program point is one of each level
   abbrev Runs : HookAnswer → ThawStep → Type 0
   Runs hook s = LevelsRun c w (after_step w t (Phase.Thaws (at_thaw x s)) hook)
 
   abbrev words_then : HookAnswer → ThawStep → Words
   words_then hook s = words_after w.words (Phase.Thaws (at_thaw x s)) hook
 
-  -- an event by a thaw that has closed no level, and has none after it, which leaves the words of the levels
+  -- a step by a thaw that has closed no level, and has none after it, which leaves the words of the levels
   leaves : (hook : HookAnswer) (s : ThawStep) → SameLevelWords w.words (words_then hook s) → HasPosition (w.views t).phase None →
       HasPosition (phase_after (map_next Phase.Thaws (thaw_after x s (found_at w.words (Phase.Thaws (at_thaw x s)) hook) hook).0)) None → Runs hook s
   leaves hook s words was now =
@@ -88,7 +87,7 @@ module _ (c : Config) (lim : IsWithin c) (w : World) (good : IsGood c w) (t : �
   thaw_run hook (ThawStep.Releases answer) e =
       leaves hook (ThawStep.Releases answer) (assumption) (here_stands c lim w good t lt x (ThawStep.Releases answer) e) idle_stands
 
--- each event of a thaw is one of each level
+-- each step of a thaw is one of each level
 pub thaw_runs : (c : Config) → IsWithin c → (w : World) → IsGood c w → (t : ℕ) → t < c.tasks → (hook : HookAnswer) (x : Thaw) →
     (w.views t).phase ≡ Some (Phase.Thaws x) → LevelsRun c w (after_step w t (Phase.Thaws x) hook)
 thaw_runs c lim w good t lt hook x e = thaw_run c lim w good t lt x hook x.step e

@@ -1,12 +1,12 @@
 -- Traces of a thaw.
-use Rattle.std.proofs.{Common.{◌≡◌, ℕ, zero, suc, ◌≤◌, true, false, arith}}
-use Rattle.std.specs.Prelude.{◌-◌, Result, List, [], ◌∷◌}
-use Rattle.access_model.specs.declared.{actions.{Action.Action, Holder.Holder}, errors.GateError.GateError, replies.Reply.Reply}
-use Rattle.percpu_rwsem.specs.declared.{writers.UpWriteStep.UpWriteStep}
-use Rattle.freeze_levels.specs.{declared.thaws.{Thaw.Thaw, ThawStep.ThawStep}}
-use Rattle.gate_world.specs.{traces.Found.{found_sealed, found_shared, each_event, finds_taken}, traces.Traces.{actions_of, IsHonestAnswer}}
-use Rattle.gate_world.specs.declared.{config.Config.Config, operations.Op.Op, views.Traced.Traced, work.Phase.Phase}
-use Rattle.gate_schedules.proofs.{traces.TraceInvariant.{IsInductive}}
+use Rattle.gate_schedules.proofs.Prelude.{Action, Config, GateError, List, Op, Phase, Reply, Result, Traced, [], arith, false, suc, true, zero, ℕ}
+use Rattle.gate_schedules.proofs.Prelude.{◌∷◌, ◌≡◌, ◌≤◌}
+use Rattle.std.specs.Prelude.{◌-◌}
+use Rattle.access_model.specs.declared.actions.Holder.{Holder}
+use Rattle.percpu_rwsem.specs.declared.writers.UpWriteStep.{UpWriteStep}
+use Rattle.freeze_levels.specs.declared.thaws.{Thaw.Thaw, ThawStep.ThawStep}
+use Rattle.gate_world.specs.traces.{Found.{found_sealed, found_shared, each_event, finds_taken}, Traces.{actions_of, IsHonestAnswer}}
+use Rattle.gate_schedules.proofs.traces.TraceInvariant.{IsInductive}
 
 -- a thaw by a task, at this step
 abbrev thaw_of : ℕ → Holder → ThawStep → Thaw
@@ -24,7 +24,7 @@ opened_to holder (suc zero) = Action.Reopen 2 ∷ (Action.Reopen 3 ∷ (Action.S
 opened_to holder (suc (suc zero)) = Action.Reopen 3 ∷ (Action.Stage 0 ∷ (Action.Leave holder ∷ []))
 opened_to holder (suc (suc (suc n))) = Action.Stage 0 ∷ (Action.Leave holder ∷ [])
 
--- a level is reopened by the first event of its up-write
+-- a level is reopened by the first step of its up-write
 abbrev opened : Holder → ℕ → UpWriteStep → List Action
 opened holder level UpWriteStep.ClearsBlock = opened_to holder level
 opened holder level (UpWriteStep.Exits transition) = opened_to holder (level - 1)

@@ -1,23 +1,21 @@
--- The causes of a want's refusals, along a schedule, whether the want is an operation of its own or stands in a longer one.
-use Rattle.std.proofs.{Common.{◌≡◌, ℕ, ◌<◌, Bool, true, false, refl, sym, subst, ap, ◌∙◌, inl, inr, arith}, lemmas.Bool.{eq-eqb, cases_Bool, Decides.eqb_tells}}
-use Rattle.std.specs.Prelude.{Some, Ok, Err, List, ◌∷◌, ◌==◌}
-use Rattle.access_model.specs.{Replies.map_next, declared.{errors.GateError.GateError, replies.Next.Next}}
-use Rattle.cpu_words.specs.{Touches.found_by, Words.read}
-use Rattle.mount_counts.specs.{Phases.{has_flag, want_next, want_after, hold_found}, Roles.{ro_bit, has_hold}}
-use Rattle.mount_counts.specs.declared.phases.{MountPhase.MountPhase, Want.Want, WantStep.WantStep}
-use Rattle.mount_counts.proofs.laws.Bits.{read_only_set, hold_set}
-use Rattle.gate_world.specs.{refusals.Causes.{asks, want_asks, WantRefused, WasHeld}, refusals.KeptCauses.{WantCause, CauseOf}, Roles.want_role, Rules.{IsGood, Owner, Stages}}
-use Rattle.gate_world.specs.{Rules.{AtMount, role_of}, Views.phase_after, Worlds.World, declared.{config.Config.Config, work.Phase.Phase}}
+-- The causes of a want's refusals, along an execution, whether the want is an operation of its own or stands in a longer one.
+use Rattle.gate_schedules.proofs.Prelude.{AtMount, Bool, Config, Err, GateError, IsGood, List, MountPhase, Next, Ok, Owner, Phase, Some, Stages}
+use Rattle.gate_schedules.proofs.Prelude.{World, ap, arith, cases_Bool, eq-eqb, eqb_tells, false, found_by, inl, inr, map_next, phase_after, read}
+use Rattle.gate_schedules.proofs.Prelude.{refl, subst, sym, true, ℕ, ◌<◌, ◌==◌, ◌∙◌, ◌∷◌, ◌≡◌}
+use Rattle.mount_counts.{proofs.laws.Bits.{read_only_set, hold_set}, specs.{Phases.{has_flag, want_next, want_after, hold_found}, Roles.ro_bit}}
+use Rattle.mount_counts.specs.{Roles.has_hold, declared.phases.{Want.Want, WantStep.WantStep}}
+use Rattle.gate_world.specs.{Roles.want_role, Rules.role_of, refusals.{Causes.{asks, want_asks, WantRefused, WasHeld}, KeptCauses.WantCause}}
+use Rattle.gate_world.specs.refusals.KeptCauses.{CauseOf}
 use Rattle.gate_schedules.proofs.{frames.Owners.who_holds, traces.Moments.{or_true, question_skips, question_stands}}
 
--- a task whose next event is that of a want's step, in its own operation or in a longer one, and which another entry leaves alone
+-- a task whose next step is that of a want, in its own operation or in a longer one, and which another transition leaves alone
 module _ (c : Config) (t : ℕ) (w next : World) (earlier : List World) where
   -- keeps the cause of a refusal that is to come
   pub want_cause_stays : (m : ℕ) (s : WantStep) → asks (next.views t).phase ≡ want_asks s → WantCause c t w earlier m s →
       WantCause c t next (w ∷ earlier) m s
   want_cause_stays m s e h = grind arith
 
--- whether what comes after an event of a want asks the read-only question
+-- whether what comes after a step of a want asks the read-only question
 abbrev pub next_asks : Next Want → Bool
 next_asks (Next.Go x) = want_asks x.step
 next_asks (Next.Wait x) = want_asks x.step
@@ -27,7 +25,7 @@ pub next_asked : (n : Next Want) → asks (phase_after (map_next Phase.Mounts (m
 next_asked n = grind arith
 
 module _ (c : Config) (t : ℕ) (w : World) (earlier : List World) (m : ℕ) where
-  -- what comes after an event of a want has its cause, and so has its refusal, where it ends with one
+  -- what comes after a step of a want has its cause, and so has its refusal, where it ends with one
   abbrev pub NextCause : Next Want → Type 0
   NextCause (Next.Go x) = (x.mount ≡ m) × WantCause c t w earlier m x.step
   NextCause (Next.Wait x) = (x.mount ≡ m) × WantCause c t w earlier m x.step
@@ -37,9 +35,9 @@ module _ (c : Config) (t : ℕ) (w : World) (earlier : List World) (m : ℕ) whe
   pub next_cause : (n : Next Want) → NextCause n → CauseOf c t w earlier (phase_after (map_next Phase.Mounts (map_next MountPhase.Want n)))
   next_cause n h = grind arith
 
--- the task that steps: what comes after its event says, in the world after the event
+-- the task that steps: what comes after its step says, in the state after the step
 module _ (c : Config) (t : ℕ) (lt : t < c.tasks) (w next : World) (earlier : List World) (good : IsGood c w) where
-  -- the question was asked in the world before the event, and not again
+  -- the question was asked in the state before the step, and not again
   asked : (m : ℕ) (refusal : GateError) → asks (w.views t).phase ≡ true → asks (next.views t).phase ≡ false →
       WantRefused c t m (Some w) refusal → WantCause c t next (w ∷ earlier) m (WantStep.CountsDown refusal)
   asked m refusal a e h =
@@ -51,7 +49,7 @@ module _ (c : Config) (t : ℕ) (lt : t < c.tasks) (w next : World) (earlier : L
   hold_own x true a e held = (refl, tt)
   hold_own x false a e held = (refl, asked x.mount GateError.Again a e held)
 
-  -- what comes after an event of a want has its cause, whatever operation the want stands in
+  -- what comes after a step of a want has its cause, whatever operation the want stands in
   pub want_own : (x : Want) (s : WantStep) → x.mount < c.mounts → asks (w.views t).phase ≡ want_asks s →
       role_of x.mount (w.views t).phase ≡ want_role x.cpu s →
       let found : ℕ = found_by (want_next x s).1 (read w.words (want_next x s).0) in

@@ -1,14 +1,13 @@
--- Events of a want or a drop on a count word.
-use Rattle.std.{proofs.Common.{◌≡◌, ℕ, ◌+◌, ◌-◌, ◌<◌, Bool, refl, sym, ap, ◌∙◌, arith}, specs.Prelude.{Option, Some, None, Result, Ok, Err}}
-use Rattle.finite_sums.{proofs.Totals.{update_at, update_off, update_same}, specs.Sums.update}
-use Rattle.access_model.specs.Actions.{after_action}
-use Rattle.access_model.specs.declared.{actions.{Action.Action, Gate.Gate}, errors.GateError.GateError, replies.{Next.Next, Reply.Reply}}
-use Rattle.cpu_words.specs.{Hooks.HookAnswer, Touches.{wrap_add, wrap_sub}, Words.Words, declared.{events.Touch.Touch, names.WordName.WordName}}
-use Rattle.mount_counts.specs.{Roles.{Out, Asking}, declared.phases.{MountPhase.MountPhase, WantStep.WantStep}}
-use Rattle.mount_counts.proofs.laws.MountLaws.{adds, backs_off, returns}
-use Rattle.gate_world.specs.{Configs.IsWithin, Rules.{role_of, at_mount, IsSteady, IsGood, GateStepKeeps, AtMount, GatesHold}, Shown.shown}
-use Rattle.gate_world.specs.{Views.{held_at, added_by, taken_by, view_with, has_open}, Worlds.World}
-use Rattle.gate_world.specs.declared.{config.Config.Config, views.View.View, work.Phase.Phase}
+-- Steps of a want or a drop on a count word.
+use Rattle.gate_schedules.proofs.Prelude.{Action, AtMount, Bool, Config, Err, GateError, HookAnswer, IsGood, IsWithin, MountPhase, Next, None, Ok}
+use Rattle.gate_schedules.proofs.Prelude.{Option, Phase, Reply, Result, Some, Touch, View, WordName, Words, World, ap, arith, refl, shown, sym}
+use Rattle.gate_schedules.proofs.Prelude.{update, update_at, update_same, ℕ, ◌+◌, ◌<◌, ◌∙◌, ◌≡◌}
+use Rattle.std.proofs.Common.{◌-◌}
+use Rattle.finite_sums.proofs.Totals.{update_off}
+use Rattle.access_model.specs.{Actions.after_action, declared.actions.Gate.Gate}
+use Rattle.cpu_words.specs.Touches.{wrap_add, wrap_sub}
+use Rattle.mount_counts.{proofs.laws.MountLaws.{adds, backs_off, returns}, specs.{Roles.{Out, Asking}, declared.phases.WantStep.WantStep}}
+use Rattle.gate_world.specs.{Rules.{role_of, at_mount, IsSteady, GateStepKeeps, GatesHold}, Views.{held_at, added_by, taken_by, view_with, has_open}}
 use Rattle.gate_schedules.proofs.frames.Frames.{role_on, role_off, view_as, holds_as, MountHoldsAfter, owner_same, gates_after, shown_as, shown_still}
 use Rattle.gate_schedules.proofs.{mounts.Loads.{as_owner, fits_now}, operations.want.Loads.{want, want_here, want_off}}
 

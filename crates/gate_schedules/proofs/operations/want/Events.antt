@@ -1,10 +1,9 @@
--- Each event of a want and of a drop, as one law.
-use Rattle.std.{proofs.Common.{◌≡◌, ℕ, ◌<◌, Bool}, specs.Prelude.Some}
-use Rattle.cpu_words.specs.Hooks.{HookAnswer}
-use Rattle.mount_counts.specs.declared.phases.{MountPhase.MountPhase, WantStep.WantStep}
-use Rattle.gate_world.specs.{Configs.IsWithin, Rules.{IsGood, GateStepKeeps, StepKeeps}, Worlds.World, declared.{config.Config.Config, work.Phase.Phase}}
-use Rattle.gate_schedules.proofs.{mounts.Parts.whole_step, operations.want.Counts.{counts_up, counts_down, drops}}
-use Rattle.gate_schedules.proofs.operations.want.Loads.{want, loads_hold, loads_remount, loads_read_only, loads_superblock}
+-- Each step of a want and of a drop, as one law.
+use Rattle.gate_schedules.proofs.Prelude.{Bool, Config, HookAnswer, IsGood, IsWithin, MountPhase, Phase, Some, StepKeeps, World, ℕ, ◌<◌, ◌≡◌}
+use Rattle.mount_counts.specs.declared.phases.WantStep.{WantStep}
+use Rattle.gate_world.specs.Rules.{GateStepKeeps}
+use Rattle.gate_schedules.proofs.{mounts.Parts.whole_step, operations.want.{Counts.{counts_up, counts_down, drops}, Loads.{want, loads_hold}}}
+use Rattle.gate_schedules.proofs.operations.want.Loads.{loads_remount, loads_read_only, loads_superblock}
 
 want_gates : (c : Config) → IsWithin c → (w : World) → IsGood c w → (t : ℕ) → t < c.tasks → (hook : HookAnswer) →
     (m p : ℕ) (wait : Bool) (s : WantStep) →

@@ -1,13 +1,10 @@
--- What fits after an event of a want.
-use Rattle.std.proofs.Common.{ℕ, ◌<◌, arith}
-use Rattle.access_model.specs.{Replies.map_next}
+-- What fits after a step of a want.
+use Rattle.gate_schedules.proofs.Prelude.{Config, Fits, Holdings, IsWithin, MountPhase, Phase, arith, held_after, map_next, phase_after, ℕ, ◌<◌}
 use Rattle.cpu_words.specs.Names.{IsWord}
-use Rattle.mount_counts.specs.Phases.{want_next, want_after}
-use Rattle.mount_counts.specs.declared.phases.{MountPhase.MountPhase, Want.Want, WantStep.WantStep}
-use Rattle.gate_world.specs.{Configs.{IsWithin, extents_of}, Fits.{MountFits, Fits, ActionFits}, Holdings.{Holdings, held_after}, Views.phase_after}
-use Rattle.gate_world.specs.declared.{config.Config.Config, work.Phase.Phase}
+use Rattle.mount_counts.specs.{Phases.{want_next, want_after}, declared.phases.{Want.Want, WantStep.WantStep}}
+use Rattle.gate_world.specs.{Configs.extents_of, Fits.{MountFits, ActionFits}}
 
--- the word of each event of a want is there
+-- the word of each step of a want is there
 pub want_there : (c : Config) (w : Want) (step : WantStep) → w.mount < c.mounts → w.cpu < c.processors → IsWord (extents_of c) (want_next w step).0
 want_there c w step m p = grind arith
 
@@ -15,7 +12,7 @@ module _ (c : Config) (within : IsWithin c) (t : ℕ) (held : Holdings) where
   pub want_acts : (w : Want) (step : WantStep) (found : ℕ) → w.mount < 8 → held.mounts w.mount < 1024 → ActionFits held (want_after w step found).1
   want_acts w step found m room = grind arith
 
-  -- what comes after each event of a want fits
+  -- what comes after each step of a want fits
   pub want_goes : (w : Want) (step : WantStep) (found : ℕ) → MountFits c t held (MountPhase.Want w) →
       Fits c t (held_after (want_after w step found).1 held)
       (phase_after (map_next Phase.Mounts (map_next MountPhase.Want (want_after w step found).0)))

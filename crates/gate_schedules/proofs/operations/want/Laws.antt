@@ -1,15 +1,14 @@
 -- All that is proved of a want and of a drop.
-use Rattle.access_model.specs.declared.replies.Next.{Next}
+use Rattle.gate_schedules.proofs.Prelude.{Bool, Config, Fits, Fitting, MountPhase, Next, Op, Phase, Some, World, after_step, ap, arith, found_at}
+use Rattle.gate_schedules.proofs.Prelude.{held_of, nat_lt, refl, subst, true, ℕ, ◌∙◌, ◌∷◌, ◌≡◌}
 use Rattle.gate_schedules.proofs.frames.{Frames.role_none, OperationLaws.{IsSmall, OpLaws, PhaseLaws, by_bool, word_among}, Snapshots.completes_none}
 use Rattle.gate_schedules.proofs.{mounts.Runs.mounts_run, operations.want.Causes.{next_asked, next_cause, want_cause_stays, want_own}}
 use Rattle.gate_schedules.proofs.operations.want.{Events.{drop_keeps, want_keeps}, Fits.{want_acts, want_goes, want_there}, Loads.want_here}
-use Rattle.gate_schedules.proofs.operations.want.{Trace.{DropAt, WantAt, drop_inductive, want_inductive as want_traced}, Waits.{next_waits, want_waits}}
-use Rattle.gate_schedules.proofs.{traces.TraceInvariant.{is_short, tells}, trees.worlds.Holders.both_true}
-use Rattle.gate_world.specs.{SameRoles.no_roles, refusals.Causes.asks, Fits.Fits, Rules.Fitting, traces.Traces.most_events, Views.held_of, Worlds.{World, after_step, found_at}}
-use Rattle.gate_world.specs.declared.{config.Config.Config, operations.Op.Op, work.Phase.Phase}
-use Rattle.mount_counts.specs.{Phases.want_after, declared.phases.{MountPhase.MountPhase, Want.Want}}
-use Rattle.std.proofs.{Common.{Bool, ap, arith, refl, subst, true, ℕ, ◌∙◌, ◌≡◌}, lemmas.Bool.ltb-true}
-use Rattle.std.specs.Prelude.{Some, nat_lt, ◌∷◌}
+use Rattle.gate_schedules.proofs.operations.want.{Trace.{DropAt, WantAt, drop_inductive, want_inductive as want_traced}, Waits.next_waits}
+use Rattle.gate_schedules.proofs.{operations.want.Waits.want_waits, traces.TraceInvariant.traces_tell, trees.worlds.Holders.both_true}
+use Rattle.gate_world.specs.{SameRoles.no_roles, refusals.Causes.asks, traces.Traces.most_events}
+use Rattle.mount_counts.specs.{Phases.want_after, declared.phases.Want.Want}
+use Rattle.std.proofs.lemmas.Bool.{ltb-true}
 
 pub want_phase : (c : Config) (x : Want) → PhaseLaws c (Phase.Mounts (MountPhase.Want x))
 want_phase c x = record {
@@ -61,8 +60,7 @@ want_op c m p wait = record {
       (ltb-true m c.mounts (both_true (nat_lt m c.mounts) (nat_lt p c.processors) there).0));
   restores = λ refusal trace before order. refl;
   file = λ t held order room. tt;
-  tells = λ lim t trace h. tells (WantAt c m p wait) c t (Op.Want m p wait) (want_traced c t m p wait) trace h;
-  short = λ lim t trace h. is_short (WantAt c m p wait) c t (Op.Want m p wait) (want_traced c t m p wait) trace h;
+  traces = λ lim. traces_tell (λ t. WantAt c m p wait) c (Op.Want m p wait) (λ t. want_traced c t m p wait);
   most_small = λ lim. by_bool wait (λ w. IsSmall (most_events c (Op.Want m p w))) tt (omega arith);
 }
 
@@ -78,7 +76,6 @@ drop_op c m p = record {
   room_agrees = λ held seen same there. refl;
   restores = λ refusal trace before order. refl;
   file = λ t held order room. tt;
-  tells = λ lim t trace h. tells (DropAt m p) c t (Op.DropMount m p) (drop_inductive c t m p) trace h;
-  short = λ lim t trace h. is_short (DropAt m p) c t (Op.DropMount m p) (drop_inductive c t m p) trace h;
+  traces = λ lim. traces_tell (λ t. DropAt m p) c (Op.DropMount m p) (λ t. drop_inductive c t m p);
   most_small = λ lim. omega arith;
 }

@@ -1,21 +1,19 @@
 -- Loads of a want: for HOLD, and the three of the read-only question.
-use Rattle.access_model.specs.{Actions.after_action, declared.{actions.{Action.Action, Gate.Gate}, errors.GateError.GateError, replies.Next.Next}}
-use Rattle.access_model.specs.declared.replies.Reply.{Reply}
-use Rattle.cpu_words.specs.{Hooks.HookAnswer, declared.{events.Touch.Touch, names.WordName.WordName}}
-use Rattle.finite_sums.proofs.Totals.{total_at, update_at, update_off, update_same}
-use Rattle.finite_sums.specs.Sums.{update}
+use Rattle.gate_schedules.proofs.Prelude.{Action, AtMount, Bool, Config, Fits, GateError, HookAnswer, IsGood, MountPhase, Next, None, Ok, Option}
+use Rattle.gate_schedules.proofs.Prelude.{Phase, Reply, Some, Touch, View, WordName, World, ap, arith, cases_Bool, eqb_tells, false, held_of, inl}
+use Rattle.gate_schedules.proofs.Prelude.{inr, owns, phase_after, refl, shown, subst, suc, sym, true, update, update_at, update_same, ℕ, ◌+◌, ◌<◌}
+use Rattle.gate_schedules.proofs.Prelude.{◌∙◌, ◌≡◌}
+use Rattle.access_model.specs.{Actions.after_action, declared.actions.Gate.Gate}
+use Rattle.finite_sums.proofs.Totals.{total_at, update_off}
 use Rattle.gate_schedules.proofs.frames.Frames.{MountHoldsAfter, gates_after, holds_as, owner_same, role_off, role_on, shown_as, view_as}
 use Rattle.gate_schedules.proofs.mounts.Loads.{after_load, as_owner, fits_now, load_law}
-use Rattle.gate_world.specs.{Fits.Fits, Roles.want_role, Rules.{AtMount, GateStepKeeps, GatesHold, IsGood, IsSteady, MountHoldsIn, at_mount, owns, remounts}}
-use Rattle.gate_world.specs.{Rules.role_of, Shown.{closing, shown}, Views.{has_open, held_at, held_of, phase_after, view_with}, Worlds.World}
-use Rattle.gate_world.specs.declared.{config.Config.Config, views.View.View, work.Phase.Phase}
-use Rattle.mount_counts.specs.{Phases.has_flag, Roles.{Out, PastFlags, has_hold, passed_hold, past_flags, past_remount, processor_of, questions_of, ro_bit}}
-use Rattle.mount_counts.specs.declared.phases.{MountPhase.MountPhase, WantStep.WantStep}
-use Rattle.mount_counts.proofs.laws.Bits.{hold_clear, read_only_clear}
-use Rattle.mount_counts.proofs.laws.MountLaws.{closed, finds_hold_clear, finds_no_remount, finds_writable, is_granted, is_refused, remounting, waits_on}
-use Rattle.std.proofs.{Common.{Bool, ap, arith, false, inl, inr, refl, subst, suc, sym, true, ℕ, ◌+◌, ◌<◌, ◌∙◌, ◌≡◌}, lemmas.Bool.{cases_Bool, ne_eqb}}
-use Rattle.std.proofs.lemmas.Bool.Decides.{eqb_tells}
-use Rattle.std.specs.Prelude.{None, Ok, Option, Some, ◌⊎◌}
+use Rattle.gate_world.specs.{Roles.want_role, Rules.{GateStepKeeps, GatesHold, IsSteady, MountHoldsIn, at_mount, remounts, role_of}, Shown.closing}
+use Rattle.gate_world.specs.Views.{has_open, held_at, view_with}
+use Rattle.mount_counts.proofs.laws.{Bits.{hold_clear, read_only_clear}, MountLaws.{closed, finds_hold_clear, finds_no_remount, finds_writable}}
+use Rattle.mount_counts.{proofs.laws.MountLaws.{is_granted, is_refused, remounting, waits_on}, specs.{Phases.has_flag, Roles.{Out, PastFlags}}}
+use Rattle.mount_counts.specs.Roles.{has_hold, passed_hold, past_flags, past_remount, processor_of, questions_of, ro_bit}
+use Rattle.mount_counts.specs.declared.phases.WantStep.{WantStep}
+use Rattle.std.{proofs.lemmas.Bool.ne_eqb, specs.Prelude.◌⊎◌}
 
 abbrev pub want : ℕ → ℕ → Bool → WantStep → MountPhase
 want m p wait step = MountPhase.Want (record { mount = m; cpu = p; wait = wait; step = step })

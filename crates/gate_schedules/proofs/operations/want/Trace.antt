@@ -1,12 +1,16 @@
 -- Traces of a want and of a drop. A want may stand in a longer operation, which has done something before it.
-use Rattle.std.proofs.{Common.{◌≡◌, ℕ, ◌≤◌, Bool, true, false, refl, sym, ap, subst, inl, inr, arith}, lemmas.Bool.{eq-eqb, cases_Bool}}
-use Rattle.std.specs.Prelude.{◌+◌, ◌&&◌, ◌||◌, ◌==◌, ◌⊎◌, Ok, Err, List, [], ◌∷◌, length}
-use Rattle.access_model.specs.{Replies.map_next, declared.{actions.{Action.Action, Gate.Gate}, errors.GateError.GateError, replies.Next.Next}}
-use Rattle.cpu_words.specs.{Hooks.HookAnswer, Touches.{event_of, found_by}, declared.events.Event.Event}
-use Rattle.mount_counts.specs.{Phases.{has_flag, want_next, want_after}, declared.phases.{MountPhase.MountPhase, Want.Want, WantStep.WantStep}}
-use Rattle.gate_world.specs.{traces.Found.{each_but_first, finds_hold, looks_again, holds_since, adds_to, newest}, traces.Traces.{IsHonest, most_events, IsShort}}
-use Rattle.gate_world.specs.{Views.{with_hook, actions_after}, declared.{config.Config.Config, operations.Op.Op, views.Traced.Traced, work.Phase.Phase}}
-use Rattle.gate_schedules.proofs.{operations.calls.Trace.or_other, traces.TraceInvariant.{InvariantAfter, InvariantAfterStep, IsInductive, event_at}}
+use Rattle.gate_schedules.proofs.Prelude.{Action, Bool, Config, Err, GateError, HookAnswer, List, MountPhase, Next, Ok, Op, Phase, Traced, [], arith}
+use Rattle.gate_schedules.proofs.Prelude.{eq-eqb, false, found_by, inl, inr, map_next, refl, subst, sym, true, ℕ, ◌∷◌, ◌≡◌, ◌≤◌}
+use Rattle.std.specs.Prelude.{◌+◌, ◌&&◌, ◌||◌, ◌⊎◌, length}
+use Rattle.access_model.specs.declared.actions.Gate.{Gate}
+use Rattle.cpu_words.specs.Touches.{event_of}
+use Rattle.mount_counts.specs.{Phases.{has_flag, want_next, want_after}, declared.phases.{Want.Want, WantStep.WantStep}}
+use Rattle.gate_world.specs.{Views.{with_hook, actions_after}, traces.Found.{each_but_first, finds_hold, looks_again, holds_since, adds_to, newest}}
+use Rattle.gate_world.specs.traces.Traces.{IsHonest, most_events, IsShort}
+use Rattle.gate_schedules.proofs.traces.TraceInvariant.{InvariantAfter, InvariantAfterStep, IsInductive, event_at}
+
+or_other : (a b : Bool) → b ≡ true → (a || b) ≡ true
+or_other a b h = grind arith
 
 -- a want of this mount, processor and way to wait, at this step
 abbrev pub want_at : ℕ → ℕ → Bool → WantStep → Want
@@ -16,7 +20,7 @@ want_at m p wait step = record { mount = m; cpu = p; wait = wait; step = step }
 abbrev pub want : ℕ → ℕ → Bool → WantStep → Phase
 want m p wait step = Phase.Mounts (MountPhase.Want (want_at m p wait step))
 
--- how many events a want that waits for nobody has done before a step, at most
+-- how many steps a want that waits for nobody has done before a program point, at most
 abbrev events_before : WantStep → ℕ
 events_before WantStep.CountsUp = 0
 events_before WantStep.LoadsHold = 1
@@ -25,7 +29,7 @@ events_before WantStep.LoadsReadOnly = 3
 events_before WantStep.LoadsSuperblock = 4
 events_before (WantStep.CountsDown refusal) = 5
 
--- the events on top of these are an addition to the mount's count, and after it loads that found HOLD
+-- the steps on top of these are an addition to the mount's count, and after it loads that found HOLD
 abbrev HeldSince : ℕ → List Traced → List Traced → Type 0
 HeldSince m below [] = ⊥
 HeldSince m below (e ∷ earlier) =
@@ -60,17 +64,17 @@ HasFound c m p wait below WantStep.LoadsHold trace = HeldSince m below trace
 HasFound c m p wait below (WantStep.CountsDown refusal) trace = IsHonest c (Op.Want m p wait) refusal trace
 HasFound c m p wait below step trace = Unit {0}
 
--- what a trace says at a step of a want that began on top of these actions and events: it has added nothing yet
+-- what a trace says at a program point of a want that began on top of these actions and steps: it has added nothing yet
 abbrev pub WantSays : Config → ℕ → ℕ → Bool → List Action → List Traced → WantStep → List Traced → List Action → Type 0
 WantSays c m p wait base below step trace added =
     (added ≡ base) × (wait ≡ false → length trace ≤ length below + events_before step) × HasFound c m p wait below step trace
 
--- the same of what comes after an event, which is at some step
+-- the same of what comes after a step, which is at some program point
 abbrev WantGoes : Config → ℕ → ℕ → Bool → List Action → List Traced → List Traced → List Action → Want → Type 0
 WantGoes c m p wait base below trace added x =
     (step : WantStep) × (x ≡ want_at m p wait step) × WantSays c m p wait base below step trace added
 
--- what a trace says by what comes after an event of a want, whatever operation the want stands in
+-- what a trace says by what comes after a step of a want, whatever operation the want stands in
 abbrev pub WantNext : Config → ℕ → ℕ → Bool → List Action → List Traced → List Traced → List Action → Next Want → Type 0
 WantNext c m p wait base below trace added (Next.Go x) = WantGoes c m p wait base below trace added x
 WantNext c m p wait base below trace added (Next.Wait x) =
@@ -94,7 +98,7 @@ want_short : (c : Config) (m p : ℕ) (wait : Bool) (trace : List Traced) → (w
 want_short c m p true trace h = tt
 want_short c m p false trace h = h refl
 
--- the last event of a refused want leaves its cause
+-- the last step of a refused want leaves its cause
 cause_stays : (c : Config) (m p : ℕ) (wait : Bool) (refusal : GateError) (value : ℕ) (hook : HookAnswer) (earlier : List Traced) →
     IsHonest c (Op.Want m p wait) refusal earlier → IsHonest c (Op.Want m p wait) refusal
     (with_hook (event_at (want m p wait (WantStep.CountsDown refusal)) value hook) hook ∷ earlier)
@@ -102,7 +106,7 @@ cause_stays c m p wait refusal value hook earlier h = grind arith
 
 module _ (c : Config) (m p : ℕ) (base : List Action) (below : List Traced) (value : ℕ) (hook : HookAnswer) (earlier : List Traced)
     (added : List Action) where
-  -- what the trace says after the event of a step
+  -- what the trace says after the step at a program point
   abbrev pub AfterWant : Bool → WantStep → Type 0
   AfterWant wait step =
       let x : Want = want_at m p wait step in
@@ -111,46 +115,13 @@ module _ (c : Config) (m p : ℕ) (base : List Action) (below : List Traced) (va
       (actions_after (want_after x step found).1 added) (want_after x step found).0
 
   hold_found : (wait : Bool) → WantSays c m p wait base below WantStep.LoadsHold earlier added → has_flag value 2 ≡ true → AfterWant wait WantStep.LoadsHold
-  hold_found true h f =
-      let e : Event = event_at (want m p true WantStep.LoadsHold) value hook in
-      let finds : finds_hold m e ≡ true = rw (eq-eqb m m refl, f) refl in
-      rw f (
-        (WantStep.LoadsHold, refl, (h.0, λ q. absurd (cc), inr (finds, h.2))),
-        refl,
-        and_true (finds_hold m e) (newest (λ d. adds_to m d.word d.touch) earlier || holds_since m earlier) finds
-            (began m below earlier h.2),
-        λ none. and_true (finds_hold m e) (each_but_first (finds_hold m) earlier) finds
-            (alone m earlier (subst (λ l. HeldSince m l earlier) none h.2)),
-      )
-  hold_found false h f = rw f (WantStep.CountsDown GateError.Again, refl, (h.0, λ q. omega (arith, h.1 q), (refl, rw (eq-eqb m m refl, f) refl)))
+  hold_found wait h f = grind (arith, event_at, eq-eqb, and_true, began, alone)
 
-  -- each event of a want keeps what its trace says, whatever operation the want stands in
+  -- each step of a want keeps what its trace says, whatever operation the want stands in
   pub want_event : (wait : Bool) (step : WantStep) → WantSays c m p wait base below step earlier added → AfterWant wait step
-  want_event wait WantStep.CountsUp h = (WantStep.LoadsHold, refl, (h.0, λ q. omega (arith, h.1 q), inl (eq-eqb m m refl, h.2)))
-  want_event wait WantStep.LoadsHold h =
-      elim (cases_Bool (has_flag value 2)) [
-        | inl f ↦ hold_found wait h f
-        | inr f ↦ rw f (WantStep.LoadsRemount, refl, (h.0, λ q. omega (arith, h.1 q), tt))
-      ]
-  want_event wait WantStep.LoadsRemount h =
-      elim (cases_Bool (value == 0)) [
-        | inl f ↦ rw f (WantStep.LoadsReadOnly, refl, (h.0, λ q. omega (arith, h.1 q), tt))
-        | inr f ↦ rw f (WantStep.CountsDown GateError.ReadOnly, refl, (h.0, λ q. omega (arith, h.1 q), rw f refl))
-      ]
-  want_event wait WantStep.LoadsReadOnly h =
-      elim (cases_Bool (has_flag value 1)) [
-        | inl f ↦ rw f (WantStep.CountsDown GateError.ReadOnly, refl, (h.0, λ q. omega (arith, h.1 q), rw (eq-eqb m m refl, f) refl))
-        | inr f ↦ rw f (WantStep.LoadsSuperblock, refl, (h.0, λ q. omega (arith, h.1 q), tt))
-      ]
-  want_event wait WantStep.LoadsSuperblock h =
-      elim (cases_Bool (value == 0)) [
-        | inl f ↦ rw f (ap (λ (l : List Action). Action.Grant (Gate.Mount m) ∷ l) h.0, λ q. omega (arith, h.1 q))
-        | inr f ↦ rw f (WantStep.CountsDown GateError.ReadOnly, refl, (h.0, λ q. omega (arith, h.1 q), rw f refl))
-      ]
-  want_event wait (WantStep.CountsDown refusal) h =
-      (h.0, cause_stays c m p wait refusal value hook earlier h.2, λ q. omega (arith, h.1 q))
+  want_event wait step h = grind (arith, eq-eqb, hold_found, cause_stays)
 
--- what comes after an event of a want that stands alone
+-- what comes after a step of a want that stands alone
 want_says : (c : Config) (m p : ℕ) (wait : Bool) (e : Traced) (earlier : List Traced) (added : List Action) (n : Next Want) →
     WantNext c m p wait [] [] (e ∷ earlier) added n →
     InvariantAfter (WantAt c m p wait) c (Op.Want m p wait) (e ∷ earlier) (map_next Phase.Mounts (map_next MountPhase.Want n)) added

@@ -1,18 +1,15 @@
 -- A want waits only where another task has HOLD set at its mount, and is refused only for its cause, whether it is an operation of its own
 -- or stands in a longer one.
-use Rattle.std.{proofs.{Common.{◌≡◌, ℕ, ◌<◌, Bool, true, false, ap, inl, inr}, lemmas.Bool.{cases_Bool, Decides.eqb_tells}}, specs.Prelude.{List, Ok, Err, ◌∷◌}}
-use Rattle.std.proofs.Common.{arith}
-use Rattle.access_model.specs.{Replies.map_next, declared.replies.Next.Next}
-use Rattle.cpu_words.specs.{Touches.found_by, Words.read}
-use Rattle.mount_counts.specs.{Phases.{has_flag, want_next, want_after, hold_found}, Roles.has_hold}
-use Rattle.mount_counts.specs.declared.phases.{MountPhase.MountPhase, Want.Want, WantStep.WantStep}
-use Rattle.mount_counts.proofs.laws.Bits.{hold_set}
-use Rattle.gate_world.specs.{refusals.Causes.{WantRefused, last_question}, refusals.KeptCauses.WantCause, Roles.want_role, Rules.{role_of, IsGood, AtMount}, refusals.Waits.HasCulprit}
-use Rattle.gate_world.specs.{refusals.Waits.HasReason, Worlds.World, declared.{config.Config.Config, work.Phase.Phase}}
+use Rattle.gate_schedules.proofs.Prelude.{AtMount, Bool, Config, Err, IsGood, List, MountPhase, Next, Ok, Phase, World, arith, false, found_by}
+use Rattle.gate_schedules.proofs.Prelude.{map_next, read, true, ℕ, ◌<◌, ◌∷◌, ◌≡◌}
+use Rattle.mount_counts.{proofs.laws.Bits.hold_set, specs.{Phases.{has_flag, want_next, want_after, hold_found}, Roles.has_hold}}
+use Rattle.mount_counts.specs.declared.phases.{Want.Want, WantStep.WantStep}
+use Rattle.gate_world.specs.{Roles.want_role, Rules.role_of, refusals.{Causes.{WantRefused, last_question}, KeptCauses.WantCause, Waits.HasCulprit}}
+use Rattle.gate_world.specs.refusals.Waits.{HasReason}
 use Rattle.gate_schedules.proofs.frames.Owners.{who_holds}
 
 module _ (c : Config) (w : World) (earlier : List World) (good : IsGood c w) (t : ℕ) (lt : t < c.tasks) (x : Want) where
-  -- where this comes after an event of the want, it is no wait, or another task has HOLD set; a refusal has its cause
+  -- where this comes after a step of the want, it is no wait, or another task has HOLD set; a refusal has its cause
   abbrev pub NextWaits : Next Want → Type 0
   NextWaits (Next.Go y) = Unit {0}
   NextWaits (Next.Wait y) = HasCulprit c w t (Phase.Mounts (MountPhase.Want x))
@@ -36,16 +33,7 @@ module _ (c : Config) (w : World) (earlier : List World) (good : IsGood c w) (t 
   -- each step of a want
   pub want_waits : (s : WantStep) → x.mount < c.mounts → role_of x.mount (w.views t).phase ≡ want_role x.cpu s →
       WantCause c t w earlier x.mount s → NextWaits (want_after x s (found_by (want_next x s).1 (read w.words (want_next x s).0))).0
-  want_waits WantStep.CountsUp there e cause = tt
-  want_waits WantStep.LoadsHold there e cause =
-      elim (cases_Bool (has_flag (w.words.flags x.mount) 2)) [
-        | inl h ↦ rw h (hold_waits x.wait there (ap has_hold e) h)
-        | inr h ↦ rw h tt
-      ]
-  want_waits WantStep.LoadsRemount there e cause = elim (eqb_tells w.words.remount 0) [ inl h ↦ rw h.0 tt | inr h ↦ rw h.0 tt ]
-  want_waits WantStep.LoadsReadOnly there e cause = elim (cases_Bool (has_flag (w.words.flags x.mount) 1)) [ inl h ↦ rw h tt | inr h ↦ rw h tt ]
-  want_waits WantStep.LoadsSuperblock there e cause = elim (eqb_tells w.words.sb 0) [ inl h ↦ rw h.0 tt | inr h ↦ rw h.0 tt ]
-  want_waits (WantStep.CountsDown refusal) there e cause = cause
+  want_waits s there e cause = grind (arith, hold_waits)
 
   -- so it is of a want's own operation
   pub next_waits : (n : Next Want) → NextWaits n →

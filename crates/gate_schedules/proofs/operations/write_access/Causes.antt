@@ -1,16 +1,13 @@
 -- The causes and the waits of a write access: those of its gate, whichever it is at.
-use Rattle.std.{proofs.Common.{◌≡◌, ℕ, ◌<◌, arith}, specs.Prelude.{List, ◌∷◌}}
-use Rattle.access_model.specs.{Replies.map_next, declared.replies.Next.Next}
+use Rattle.gate_schedules.proofs.Prelude.{Config, DownRead, IsGood, List, Next, Phase, World, arith, map_next, phase_after, ℕ, ◌<◌, ◌∷◌, ◌≡◌}
 use Rattle.mount_counts.specs.declared.phases.Want.{Want}
-use Rattle.percpu_rwsem.specs.declared.readers.DownRead.{DownRead}
-use Rattle.composite_ops.specs.{write_access.Phases.{then_wants, then_gives_back}, declared.write_access.phases.WritePhase.WritePhase}
-use Rattle.gate_world.specs.{refusals.Causes.{asks, last_asked, WasClosed}, refusals.KeptCauses.{CauseOf}, Rules.IsGood, Views.phase_after}
-use Rattle.gate_world.specs.{refusals.Waits.HasReason, Worlds.World, declared.{config.Config.Config, work.Phase.Phase}}
-use Rattle.gate_schedules.proofs.operations.{readers.{Causes.{AsksNext, HasNextCause}, Waits.{WhereRefused}}, want.Causes.{next_asks, NextCause}}
+use Rattle.composite_ops.specs.{declared.write_access.phases.WritePhase.WritePhase, write_access.Phases.{then_wants, then_gives_back}}
+use Rattle.gate_world.specs.refusals.{Causes.{asks, last_asked, WasClosed}, KeptCauses.CauseOf, Waits.HasReason}
+use Rattle.gate_schedules.proofs.operations.{readers.{Causes.{AsksNext, HasNextCause}, Waits.WhereRefused}, want.Causes.{next_asks, NextCause}}
 use Rattle.gate_schedules.proofs.operations.want.Waits.{NextWaits}
 
 module _ (c : Config) (t : ℕ) (w next : World) (earlier : List World) (m p : ℕ) where
-  -- after an event at level 1 the task asks where a down-read does
+  -- after a step at level 1 the task asks where a down-read does
   pub takes_asks : (n : Next DownRead) → (next.views t).phase ≡ phase_after (map_next Phase.Writes (then_wants m p n)) →
       AsksNext c t w next earlier n
   takes_asks n e = grind arith
@@ -21,7 +18,7 @@ module _ (c : Config) (t : ℕ) (w next : World) (earlier : List World) (m p : �
   takes_cause n h = grind arith
 
 module _ (c : Config) (t : ℕ) (w : World) (earlier : List World) (m p : ℕ) where
-  -- after an event at the mount the task asks where a want does
+  -- after a step at the mount the task asks where a want does
   pub wants_asked : (n : Next Want) → asks (phase_after (map_next Phase.Writes (then_gives_back m p n))) ≡ next_asks n
   wants_asked n = grind arith
 

@@ -1,15 +1,10 @@
--- The law of an event of a write access is that of its gate's event, made by a task that stands at the gate's phase.
-use Rattle.access_model.specs.declared.{actions.Action.Action, replies.Next.Next}
-use Rattle.cpu_words.specs.Hooks.{HookAnswer}
-use Rattle.finite_sums.proofs.Totals.{update_at}
-use Rattle.gate_schedules.proofs.frames.{SameRolesOffTree.{made, made_runs_off_tree}, PhaseSubstitution.{alike_of, made_keeps, rephased_good}}
+-- The law of a step of a write access is that of its gate's step, made by a task that stands at the gate's phase.
+use Rattle.gate_schedules.proofs.Prelude.{Action, Config, Fits, Fitting, Holdings, HookAnswer, IsGood, Next, Option, Phase, PhaseFits, Some, SyncStep}
+use Rattle.gate_schedules.proofs.Prelude.{View, World, after_of, ap, arith, found_at, held_after, held_of, level_in, phase_after, shown, subst}
+use Rattle.gate_schedules.proofs.Prelude.{update_at, ℕ, ◌<◌, ◌≡◌}
+use Rattle.gate_schedules.proofs.frames.{PhaseSubstitution.{alike_of, made_keeps, rephased_good}, SameRolesOffTree.{made, made_runs_off_tree}}
 use Rattle.gate_schedules.proofs.operations.write_access.Alike.{alike_plain}
-use Rattle.gate_world.specs.{SameRoles.{SameRoles, at_phase, off_tree, rephased}, Fits.{Fits, PhaseFits, WriteFits}, Holdings.{Holdings, held_after}}
-use Rattle.gate_world.specs.{LevelRuns.level_in, Rules.{Fitting, IsGood, Moves}, Shown.shown, Views.{held_of, phase_after}, Work.{after_of, next_of, inner_phase}}
-use Rattle.gate_world.specs.{Worlds.{World, found_at}, declared.{config.Config.Config, views.View.View, work.Phase.Phase}}
-use Rattle.freeze_laws.specs.levels.Events.{SyncStep}
-use Rattle.std.proofs.Common.{ap, arith, subst, ℕ, ◌<◌, ◌≡◌}
-use Rattle.std.specs.Prelude.{Option, Some}
+use Rattle.gate_world.specs.{Fits.WriteFits, Rules.Moves, SameRoles.{SameRoles, at_phase, off_tree, rephased}, Work.{next_of, inner_phase}}
 use Rattle.composite_ops.specs.declared.write_access.phases.WritePhase.{WritePhase}
 
 -- the phase of its gate fits
@@ -27,7 +22,7 @@ module _ (c : Config) (w : World) (good : IsGood c w) (t : ℕ) (lt : t < c.task
   fits_plain : Fits c t (held_of (w.views t)) (Some (inner_phase x))
   fits_plain = plain_fits c t (held_of (w.views t)) x write_fits_now
 
-  -- what comes after the gate's event in the gate's own operation, and the action that it adds
+  -- what comes after the gate's step in the gate's own operation, and the action that it adds
   abbrev pub plain_after : Next Phase
   plain_after = (after_of (inner_phase x) (found_at w.words (inner_phase x) hook) hook).0
 
@@ -35,7 +30,7 @@ module _ (c : Config) (w : World) (good : IsGood c w) (t : ℕ) (lt : t < c.task
   abbrev pub plain_action : Option Action
   plain_action = (after_of (inner_phase x) (found_at w.words (inner_phase x) hook) hook).1
 
-  -- the same event in a world with these words, after which this comes
+  -- the same step in a state with these words, after which this comes
   abbrev pub made_in : World → Next Phase → World
   made_in first coming = made first t (next_of (inner_phase x) hook) hook coming plain_action
 
@@ -43,13 +38,13 @@ module _ (c : Config) (w : World) (good : IsGood c w) (t : ℕ) (lt : t < c.task
   abbrev pub first_world : World
   first_world = rephased w t (Some (inner_phase x))
 
-  -- where the rule holds of that world, the law of the gate's event
+  -- where the invariant holds of that state, the law of the gate's step
   abbrev pub PlainLaw : Type 0
   PlainLaw = IsGood c first_world → (first_world.views t).phase ≡ Some (inner_phase x) →
       IsGood c (made_in first_world plain_after) ×
       Moves c (shown c first_world) t plain_action (shown c (made_in first_world plain_after))
 
-  -- is the law of the event after which the longer operation goes on
+  -- is the law of the step after which the longer operation goes on
   pub write_step : PlainLaw → (coming : Next Phase) → SameRoles (phase_after plain_after) (phase_after coming) →
       Fits c t (held_after plain_action (held_of (w.views t))) (phase_after coming) →
       IsGood c (made_in w coming) × Moves c (shown c w) t plain_action (shown c (made_in w coming))
@@ -57,12 +52,12 @@ module _ (c : Config) (w : World) (good : IsGood c w) (t : ℕ) (lt : t < c.task
       made_keeps c w t lt (Some (inner_phase x)) (next_of (inner_phase x) hook) hook plain_after coming plain_action good before fits_plain law after
       fits
 
-  -- where the rule holds of that world, the gate's event there is one of this level's
+  -- where the invariant holds of that state, the gate's step there is one of this level's
   abbrev pub PlainRuns : ℕ → Type 0
   PlainRuns i = IsGood c first_world → (first_world.views t).phase ≡ Some (inner_phase x) →
       SyncStep c.tasks (level_in first_world i) (level_in (made_in first_world plain_after) i)
 
-  -- so the event of the longer operation is the same kind of event of the level
+  -- so the step of the longer operation is the same kind of step of the level
   pub write_runs : (coming : Next Phase) → SameRoles (phase_after plain_after) (phase_after coming) → (i : ℕ) → PlainRuns i →
       SyncStep c.tasks (level_in w i) (level_in (made_in w coming) i)
   write_runs coming after i runs =

@@ -1,28 +1,25 @@
 -- All that is proved of a taking and of a return of write access, each from what is proved of its gates.
-use Rattle.access_model.specs.{Histories.levels_of, Replies.map_next, declared.{errors.GateError.GateError, replies.{Next.Next, Reply.Reply}}}
-use Rattle.cpu_words.specs.Hooks.{HookAnswer}
-use Rattle.finite_sums.proofs.Totals.{update_same}
-use Rattle.finite_sums.specs.Sums.{update}
-use Rattle.gate_schedules.proofs.frames.{Agreeing.none_agree, SameRolesOffTree.update_twice, Frames.{count_none, role_on, sync_none}, OperationLaws.{OpLaws, PhaseLaws}}
-use Rattle.gate_schedules.proofs.{frames.Snapshots.completes_none, operations.readers.Causes.{read_not_closed, read_own, read_stays}}
-use Rattle.gate_schedules.proofs.operations.readers.{Laws.{end_phase, read_phase}, Waits.read_waits}
+use Rattle.gate_schedules.proofs.Prelude.{Bool, Config, DownRead, Err, Fits, GateError, Holdings, HookAnswer, IsGood, IsWithin, MountPhase, Next, Ok}
+use Rattle.gate_schedules.proofs.Prelude.{Op, Phase, Reply, Some, StepKeeps, SyncStep, World, after_step, ap, arith, false, found_at, held_after}
+use Rattle.gate_schedules.proofs.Prelude.{held_of, level_in, map_next, nat_lt, phase_after, refl, sym, sync_role_of, true, true≢false, update}
+use Rattle.gate_schedules.proofs.Prelude.{update_same, ℕ, ◌<◌, ◌∙◌, ◌∷◌, ◌≡◌, ◌≤◌}
+use Rattle.access_model.specs.Histories.{levels_of}
+use Rattle.gate_schedules.proofs.frames.{Agreeing.none_agree, Frames.{count_none, role_on, sync_none}, OperationLaws.{OpLaws, PhaseLaws}}
+use Rattle.gate_schedules.proofs.{frames.{SameRolesOffTree.update_twice, Snapshots.completes_none}, operations.readers.Causes.read_not_closed}
+use Rattle.gate_schedules.proofs.operations.readers.{Causes.{read_own, read_stays}, Laws.{end_phase, read_phase}, Waits.read_waits}
 use Rattle.gate_schedules.proofs.operations.want.{Causes.{want_cause_stays, want_own}, Laws.{drop_phase, want_phase}, Waits.want_waits}
-use Rattle.gate_schedules.proofs.operations.write_access.Alike.{alike_takes, alike_wants}
-use Rattle.gate_schedules.proofs.operations.write_access.Causes.{takes_asks, takes_cause, takes_waits, wants_asked, wants_cause, wants_waits}
-use Rattle.gate_schedules.proofs.operations.write_access.Events.{first_world, write_fits_now, write_runs, write_step}
-use Rattle.gate_schedules.proofs.operations.write_access.Trace.{DropAt, WriteAt, drop_inductive, write_inductive}
-use Rattle.gate_schedules.proofs.{traces.TraceInvariant.{is_short, is_short_well, tells, tells_well}, trees.worlds.Holders.both_true}
-use Rattle.gate_world.specs.{refusals.Causes.{asks, asks_level}, Configs.IsWithin, Fits.{Fits, WriteFits}, Holdings.{Holdings, held_after, holdings_of}}
-use Rattle.gate_world.specs.{SameRoles.no_roles, LevelRuns.level_in, Levels.sync_role_of, Rules.{IsGood, StepKeeps, role_of}, Views.{held_of, phase_after}}
-use Rattle.gate_world.specs.{Worlds.{World, after_step, found_at}, declared.{config.Config.Config, operations.Op.Op, work.Phase.Phase}}
-use Rattle.freeze_laws.specs.levels.{Events.SyncStep, Roles.closed}
-use Rattle.mount_counts.specs.{Phases.want_after, declared.phases.{MountPhase.MountPhase, Want.Want, WantStep.WantStep}}
-use Rattle.percpu_rwsem.specs.{Readers.down_read_after, declared.readers.DownRead.DownRead}
-use Rattle.std.proofs.{Common.{Bool, ap, arith, false, refl, sym, true, true≢false, ℕ, ◌<◌, ◌∙◌, ◌≡◌, ◌≤◌}, lemmas.Bool.ltb-true}
-use Rattle.std.specs.Prelude.{Err, Ok, Some, nat_lt, not, ◌&&◌, ◌∷◌}
-use Rattle.composite_ops.specs.{write_access.Phases.{leaves_on, then_gives_back, then_wants}, declared.write_access.phases.WritePhase.WritePhase}
+use Rattle.gate_schedules.proofs.operations.write_access.{Alike.{alike_takes, alike_wants}, Causes.{takes_asks, takes_cause, takes_waits}}
+use Rattle.gate_schedules.proofs.operations.write_access.{Causes.{wants_asked, wants_cause, wants_waits}, Events.{first_world, write_fits_now}}
+use Rattle.gate_schedules.proofs.operations.write_access.{Events.{write_runs, write_step}, Trace.{DropAt, WriteAt, drop_inductive, write_inductive}}
+use Rattle.gate_schedules.proofs.{traces.TraceInvariant.{traces_tell, traces_given_reads}, trees.worlds.Holders.both_true}
+use Rattle.gate_world.specs.{Fits.WriteFits, Holdings.holdings_of, Rules.role_of, SameRoles.no_roles, refusals.Causes.{asks, asks_level}}
+use Rattle.freeze_laws.specs.levels.Roles.{closed}
+use Rattle.mount_counts.specs.{Phases.want_after, declared.phases.{Want.Want, WantStep.WantStep}}
+use Rattle.percpu_rwsem.specs.Readers.{down_read_after}
+use Rattle.std.{proofs.lemmas.Bool.ltb-true, specs.Prelude.{not, ◌&&◌}}
+use Rattle.composite_ops.specs.{declared.write_access.phases.WritePhase.WritePhase, write_access.Phases.{leaves_on, then_gives_back, then_wants}}
 
--- what fits after an event at level 1, with the mount to come
+-- what fits after a step at level 1, with the mount to come
 takes_fits : (c : Config) (t : ℕ) (held : Holdings) (m : ℕ) (r : DownRead) (found : ℕ) →
     WriteFits c t held (WritePhase.Takes m r) → Fits c t (held_after (down_read_after r r.step found).1 held)
     (phase_after (map_next Phase.Writes (then_wants m r.cpu (down_read_after r r.step found).0)))
@@ -33,7 +30,7 @@ wants_fits : (c : Config) → IsWithin c → (t : ℕ) (held : Holdings) (x : Wa
     (phase_after (map_next Phase.Writes (then_gives_back x.mount x.cpu (want_after x x.step found).0)))
 wants_fits c lim t held x found hook f = grind arith
 
--- each event keeps the rule, and moves the shown model by its action or not at all, as its gate's does
+-- each step keeps the invariant, and moves the shown state by its action or not at all, as its gate's does
 pub write_keeps : (c : Config) → IsWithin c → (w : World) → IsGood c w → (t : ℕ) → t < c.tasks → (hook : HookAnswer) → (x : WritePhase) →
     (w.views t).phase ≡ Some (Phase.Writes x) → StepKeeps c w t hook (Phase.Writes x)
 write_keeps c lim w good t lt hook (WritePhase.Takes m r) e =
@@ -66,7 +63,7 @@ write_keeps c lim w good t lt hook (WritePhase.Ends p) e =
     (λ g at. (end_phase c (leaves_on p)).step lim (first_world c w good t lt hook (WritePhase.Ends p) e) g t lt hook at)
     (Next.Done (Ok Reply.Unit)) refl tt
 
--- each event is one of each level's kinds of event, as its gate's is
+-- each step is one of each level's kinds of step, as its gate's is
 write_phase_runs : (c : Config) → IsWithin c → (w : World) → IsGood c w → (t : ℕ) → t < c.tasks → (hook : HookAnswer) → (x : WritePhase) →
     (w.views t).phase ≡ Some (Phase.Writes x) → (i : ℕ) → 1 ≤ i → i ≤ 3 →
     SyncStep c.tasks (level_in w i) (level_in (after_step w t (Phase.Writes x) hook) i)
@@ -214,8 +211,7 @@ want_write_op c m p = record {
       both_true (not (levels_of before 1)) (not (levels_of before 2) && not (levels_of before 3)) order in
       λ j. record (holdings_of before) { levels = level_restored (levels_of before) (is_false (levels_of before 1) none.0) j };
   file = λ t held order room. tt;
-  tells = λ lim t trace h. tells_well (WriteAt c m p t) c t (Op.WantWrite m p) (write_inductive c t m p) trace h;
-  short = λ lim t trace h. is_short_well (WriteAt c m p t) c t (Op.WantWrite m p) (write_inductive c t m p) trace h;
+  traces = λ lim. traces_given_reads (λ t. WriteAt c m p t) c (Op.WantWrite m p) (λ t. write_inductive c t m p);
   most_small = λ lim. tt;
 }
 
@@ -231,7 +227,6 @@ drop_write_op c m p = record {
   room_agrees = λ held seen same there. refl;
   restores = λ refusal trace before order. refl;
   file = λ t held order room. tt;
-  tells = λ lim t trace h. tells (DropAt m p) c t (Op.DropWrite m p) (drop_inductive c t m p) trace h;
-  short = λ lim t trace h. is_short (DropAt m p) c t (Op.DropWrite m p) (drop_inductive c t m p) trace h;
+  traces = λ lim. traces_tell (λ t. DropAt m p) c (Op.DropWrite m p) (λ t. drop_inductive c t m p);
   most_small = λ lim. omega arith;
 }

@@ -1,14 +1,17 @@
 -- Traces of a taking and of a return of write access: those of their gates, one after the other.
-use Rattle.std.{proofs.Common.{◌≡◌, ℕ, ◌≤◌, true, refl, sym, ap, subst, inl, arith}, specs.Prelude.{Ok, Err, List, [], ◌∷◌, length}}
-use Rattle.access_model.specs.{Replies.map_next, declared.{actions.{Action.Action, Gate.Gate}, errors.GateError.GateError, replies.Next.Next}}
-use Rattle.cpu_words.specs.{Hooks.HookAnswer, Touches.{event_of, found_by}}
+use Rattle.gate_schedules.proofs.Prelude.{Action, Config, DownRead, Err, GateError, HookAnswer, List, Next, Ok, Op, Phase, Traced, [], ap, arith}
+use Rattle.gate_schedules.proofs.Prelude.{found_by, inl, map_next, refl, subst, sym, true, ℕ, ◌∷◌, ◌≡◌, ◌≤◌}
+use Rattle.std.specs.Prelude.{length}
+use Rattle.access_model.specs.declared.actions.Gate.{Gate}
+use Rattle.cpu_words.specs.Touches.{event_of}
 use Rattle.mount_counts.specs.{Phases.{want_next, want_after}, declared.phases.{Want.Want, WantStep.WantStep}}
-use Rattle.percpu_rwsem.specs.{Readers.{down_read_next, down_read_after}, declared.readers.{DownRead.DownRead, DownReadStep.DownReadStep}}
-use Rattle.composite_ops.specs.{write_access.Phases.{then_wants, then_gives_back, next as write_next}, declared.write_access.phases.WritePhase.WritePhase}
-use Rattle.gate_world.specs.{traces.TraceStates.{WordIsValid, ReadIsValid}, traces.Traces.IsHonest, Views.{with_hook, actions_after}, Work.next_of}
-use Rattle.gate_world.specs.declared.{config.Config.Config, operations.Op.Op, views.Traced.Traced, work.Phase.Phase}
-use Rattle.gate_schedules.proofs.operations.{readers.Trace.{read_at, ReadSays, ReadNext, read_event}, want.Trace.{want_at, WantSays, WantNext, want_event}}
-use Rattle.gate_schedules.proofs.traces.TraceInvariant.{InvariantAfter, InvariantAfterStep, IsInductive, event_at, IsInductiveGivenReads}
+use Rattle.percpu_rwsem.specs.{Readers.{down_read_next, down_read_after}, declared.readers.DownReadStep.DownReadStep}
+use Rattle.composite_ops.specs.{declared.write_access.phases.WritePhase.WritePhase, write_access.Phases.{then_wants, then_gives_back}}
+use Rattle.composite_ops.specs.write_access.Phases.{next as write_next}
+use Rattle.gate_world.specs.{Views.{with_hook, actions_after}, Work.next_of, traces.{TraceStates.{WordIsValid, ReadIsValid}, Traces.IsHonest}}
+use Rattle.gate_schedules.proofs.operations.{readers.Trace.{read_at, ReadSays, ReadNext, read_event}, want.Trace.{want_at, WantSays, WantNext}}
+use Rattle.gate_schedules.proofs.{operations.want.Trace.want_event, traces.TraceInvariant.{InvariantAfter, InvariantAfterStep, IsInductive, event_at}}
+use Rattle.gate_schedules.proofs.traces.TraceInvariant.{IsInductiveGivenReads}
 
 -- what stands of the actions while the mount is wanted
 abbrev level_taken : List Action
@@ -29,7 +32,7 @@ abbrev pub WriteAt : Config → ℕ → ℕ → ℕ → List Traced → Phase �
 WriteAt c m p t trace phase added = (x : WritePhase) × (phase ≡ Phase.Writes x) × WriteSays c m p t x trace added
 
 module _ (c : Config) (m p t : ℕ) (e : Traced) (earlier : List Traced) (added : List Action) where
-  -- what the trace says after an event at level 1
+  -- what the trace says after a step at level 1
   taken_says : (n : Next DownRead) → ReadNext 0 1 p t true (e ∷ earlier) added n →
       InvariantAfter (WriteAt c m p t) c (Op.WantWrite m p) (e ∷ earlier) (map_next Phase.Writes (then_wants m p n)) added
   taken_says (Next.Go r) h = (WritePhase.Takes m r, refl, (refl, h))
@@ -39,17 +42,17 @@ module _ (c : Config) (m p t : ℕ) (e : Traced) (earlier : List Traced) (added 
   taken_says (Next.Done (Err GateError.Again)) h = absurd (cc)
   taken_says (Next.Done (Err refusal)) h = absurd h
 
-  -- what the trace says after an event at the mount
+  -- what the trace says after a step at the mount
   wanted_says : (below : List Traced) (n : Next Want) → WantNext c m p true level_taken below (e ∷ earlier) added n →
       InvariantAfter (WriteAt c m p t) c (Op.WantWrite m p) (e ∷ earlier) (map_next Phase.Writes (then_gives_back m p n)) added
   wanted_says below n h = grind arith
 
 module _ (c : Config) (m p t : ℕ) (value : ℕ) (hook : HookAnswer) (earlier : List Traced) (added : List Action) where
-  -- what the trace says after the event of a phase
+  -- what the trace says after the step of a phase
   abbrev TraceAfterStep : WritePhase → Type 0
   TraceAfterStep x = InvariantAfterStep (WriteAt c m p t) c (Op.WantWrite m p) (Phase.Writes x) value hook earlier added
 
-  -- an event at level 1
+  -- a step at level 1
   takes_event : (s : DownReadStep) → WordIsValid (down_read_next (read_at 1 p t true s) s).0 value → ReadSays 0 1 true s earlier added →
       TraceAfterStep (WritePhase.Takes m (read_at 1 p t true s))
   takes_event s may h =
@@ -59,7 +62,7 @@ module _ (c : Config) (m p t : ℕ) (value : ℕ) (hook : HookAnswer) (earlier :
       (actions_after (down_read_after r s found).1 added) (down_read_after r s found).0
       (read_event 0 1 p t value hook earlier added true s may h)
 
-  -- an event at the mount
+  -- a step at the mount
   wants_event : (below : List Traced) (s : WantStep) → WantSays c m p true level_taken below s earlier added →
       TraceAfterStep (WritePhase.Wants (want_at m p true s))
   wants_event below s h =

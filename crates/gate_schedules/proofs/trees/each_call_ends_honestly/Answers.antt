@@ -1,5 +1,6 @@
 -- each is a lemma
-use Rattle.gate_schedules.{proofs.trees.Ends.{create_ends, remove_ends, grow_ends, move_ends, mark_ends, open_ends, snapshot_ends}, specs.trees.Ends.Passed}
+use Rattle.gate_schedules.proofs.trees.Ends.{create_ends, remove_ends, grow_ends, move_ends, mark_ends, open_ends, snapshot_ends}
+use Rattle.gate_schedules.specs.trees.Ends.{Passed}
 use Rattle.gate_schedules.proofs.trees.each_call_ends_honestly.Goals as goal
 
 pub returns-clause-create : goal.returns-clause-create

@@ -1,18 +1,15 @@
--- The law of one event of a call at the tree that is no snapshot: the rule holds after it, and it moves the shown model by its action.
-use Rattle.std.{proofs.Common.{◌≡◌, ℕ, ◌<◌, ◌∙◌, refl, sym, arith, true, false, ap}, specs.Prelude.{Option, Some, List}}
-use Rattle.access_model.specs.{Replies.map_next, declared.replies.Next.Next}
-use Rattle.cpu_words.specs.{Hooks.HookAnswer, Touches.left, Words.{Words, read, put}, declared.names.WordName.WordName}
-use Rattle.gated_tree.specs.{Calls.{phase_role, role_after}, Phases.{after}, declared.phases.TreePhase.{TreePhase}}
-use Rattle.gate_schedules.specs.trees.Steps.{Notes}
-use Rattle.freeze_laws.specs.{levels.Events.{SyncStep}, stages.Roles.{Aside}}
-use Rattle.gate_world.specs.{Configs.IsWithin, LevelRuns.level_in, Roles.nodes_noted, Rules.{Files, Fitting, Holds, IsGood, Known, Owner}}
-use Rattle.gate_world.specs.{Rules.{Part, Stages, StepKeeps, SyncAt, Tree, owns, stage_role_of}, traces.Snapshots.values_noted, Trees.tree_role_of}
-use Rattle.gate_world.specs.{Views.phase_after, Work.{next_of, after_of}, Worlds.{World, after_step, found_at, words_after}, declared.config.Config.Config}
-use Rattle.gate_world.specs.declared.{views.Traced.Traced, work.Phase.Phase}
+-- The law of one step of a call at the tree that is no snapshot: the invariant holds after it, and it moves the shown state by its action.
+use Rattle.gate_schedules.proofs.Prelude.{Config, Fitting, Holds, HookAnswer, IsGood, IsWithin, List, Next, Option, Owner, Phase, Some, Stages}
+use Rattle.gate_schedules.proofs.Prelude.{StepKeeps, SyncAt, SyncStep, Traced, Tree, TreePhase, WordName, Words, World, after_of, after_step, ap}
+use Rattle.gate_schedules.proofs.Prelude.{arith, false, found_at, left, level_in, map_next, owns, phase_after, put, read, refl, stage_role_of, sym}
+use Rattle.gate_schedules.proofs.Prelude.{tree_role_of, true, words_after, ℕ, ◌<◌, ◌∙◌, ◌≡◌}
+use Rattle.gated_tree.specs.{Calls.{phase_role, role_after}, Phases.after}
 use Rattle.gate_schedules.proofs.{frames.{Frames.{left_alone, unwritten}, Known.{IsOwnersWork, known_after}}, mounts.Runs.apart_run}
 use Rattle.gate_schedules.proofs.trees.worlds.Parts.{call_files, is_node_word, is_snapshot, node_word, IsBesideTree, call_view, call_found, call_next}
-use Rattle.gate_schedules.proofs.trees.worlds.Parts.{gate_parts, roles_still, call_fitting, TreeKeeps, call_keeps, call_moves, IsAtTree, words_then, view_then}
-use Rattle.gate_schedules.proofs.trees.worlds.Parts.{beside_then, call_at, gate_words, touch_beside}
+use Rattle.gate_schedules.proofs.trees.worlds.Parts.{gate_parts, roles_still, call_fitting, TreeKeeps, call_keeps, call_moves, IsAtTree, words_then}
+use Rattle.gate_schedules.{proofs.trees.worlds.Parts.{view_then, beside_then, call_at, gate_words, touch_beside}, specs.trees.Steps.Notes}
+use Rattle.freeze_laws.specs.stages.Roles.{Aside}
+use Rattle.gate_world.specs.{Roles.nodes_noted, Rules.{Files, Known, Part}, Work.next_of, traces.Snapshots.values_noted}
 
 -- a phase that owns nothing, has to do with no stage, and of which nothing is noted
 pub record IsPlain (p : Option Phase) : Type 0 where
@@ -48,7 +45,7 @@ notes_nothing x values noted found other = grind arith
 pub umount_same : (w : Words) (word : WordName) (n : ℕ) → is_node_word word ≡ true → (put w word n).umount ≡ w.umount
 umount_same w word n h = grind arith
 
--- each level stays at an event at the tree
+-- each level stays at a step at the tree
 pub tree_run : (tasks : ℕ) (w : World) (t : ℕ) → t < tasks → (phase : Phase) (hook : HookAnswer) → (w.views t).phase ≡ Some phase →
     IsAtTree w phase hook → (i : ℕ) → SyncStep tasks (level_in w i) (level_in (after_step w t phase hook) i)
 tree_run tasks w t lt phase hook e at i =
@@ -56,7 +53,7 @@ tree_run tasks w t lt phase hook e at i =
     (gate_words (SyncAt i) refl w.words (words_after w.words phase hook) (touch_beside w.words (next_of phase hook) at.touches))
     (λ j. (at.off.roles j).inside) (λ j. (at.off.roles j).sync i) (λ j. (at.off_then.roles j).inside) (λ j. (at.off_then.roles j).sync i)
 
--- The parts of the rule after an event at the tree before and after which the task is plain.
+-- The conjuncts of the invariant after a step at the tree before and after which the task is plain.
 module _ (c : Config) (w : World) (good : IsGood c w) (t : ℕ) (lt : t < c.tasks) (phase : Phase) (hook : HookAnswer)
     (e : (w.views t).phase ≡ Some phase) (at : IsAtTree w phase hook) (word : is_node_word (next_of phase hook).0 ≡ true)
     (was : IsPlain (Some phase)) (now : IsPlain (phase_after (after_of phase (found_at w.words phase hook) hook).0)) where
@@ -100,7 +97,7 @@ module _ (c : Config) (within : IsWithin c) (w : World) (good : IsGood c w) (t :
     call_moves c within w good t lt x hook e tree_kept,
   )
 
--- The law of one event of each call at the tree but a snapshot.
+-- The law of one step of each call at the tree but a snapshot.
 pub tree_step : (c : Config) → IsWithin c → (w : World) → IsGood c w → (t : ℕ) → t < c.tasks → (hook : HookAnswer) (x : TreePhase) →
     is_snapshot x ≡ false → (w.views t).phase ≡ Some (Phase.Trees x) → StepKeeps c w t hook (Phase.Trees x)
 tree_step c within w good t lt hook x other e = tree_keeps c within w good t lt hook x other e

@@ -1,22 +1,17 @@
 -- Who is at a level with an access at some mount: nobody has shut what it came through.
+use Rattle.gate_schedules.proofs.Prelude.{AtLevel, AtMount, Bool, Config, FreezeStep, IsGood, Option, Owner, Phase, Some, Stages, World, ap, arith}
+use Rattle.gate_schedules.proofs.Prelude.{cases_Bool, false, held_of, inl, inr, is_frozen_whole, nat_lt, refl, stage_role_of, suc, sym, total, true}
+use Rattle.gate_schedules.proofs.Prelude.{true≢false, zero, ℕ, ◌<◌, ◌==◌, ◌≡◌, ◌≤◌}
 use Rattle.finite_sums.proofs.Totals.{total_at}
-use Rattle.finite_sums.specs.Sums.{total}
-use Rattle.cpu_words.proofs.gate_counts.LevelLaws.{none_frozen, none_passed}
-use Rattle.cpu_words.specs.gate_counts.{Gates.past, Levels.{LevelRole, Passed}}
-use Rattle.freeze_levels.specs.declared.freezes.FreezeStep.{FreezeStep}
+use Rattle.cpu_words.{proofs.gate_counts.LevelLaws.{none_frozen, none_passed}, specs.gate_counts.{Gates.past, Levels.{LevelRole, Passed}}}
 use Rattle.percpu_rwsem.specs.declared.writers.DownWriteStep.{DownWriteStep}
-use Rattle.gate_world.specs.Roles.{count_beside, down_count_role, freeze_position, freeze_stage_role, place_of, position_count}
-use Rattle.gate_schedules.proofs.{frames.Stages.{stages_in, stages_right}}
-use Rattle.gate_world.specs.{Levels.{at_level, is_frozen_whole, level_role_of}, Operations.{is_writer, some_mount}}
-use Rattle.gate_world.specs.{Rules.{AtLevel, AtMount, IsGood, MountHoldsIn, Owner, Stages}}
-use Rattle.gate_world.specs.{Rules.{at_mount, stage_role_of, stage_roles}, Views.{held_at, held_of, holds_level}, Worlds.World}
-use Rattle.gate_world.specs.declared.{config.Config.Config, work.Phase.Phase}
-use Rattle.mount_counts.specs.{Roles.{mount_as_gate, ro_bit}}
-use Rattle.freeze_laws.proofs.stages.CitedLaws.{freeze_is_under_way}
-use Rattle.freeze_laws.specs.stages.Roles.{Freezing, Place, passed_at, passed_by}
-use Rattle.std.proofs.{Common.{Bool, ap, arith, false, inl, inr, refl, suc, sym, true, true≢false, zero, ℕ, ◌-◌, ◌<◌, ◌≡◌, ◌≤◌, ◌⊎◌}, lemmas.Bool.cases_Bool}
-use Rattle.std.proofs.lemmas.Bool.{cases_lt, ltb-true}
-use Rattle.std.specs.Prelude.{Option, Some, nat_lt, ◌&&◌, ◌==◌}
+use Rattle.gate_world.specs.{Levels.{at_level, level_role_of}, Operations.{is_writer, some_mount}, Roles.{count_beside, freeze_position}}
+use Rattle.gate_world.specs.{Roles.{freeze_stage_role, place_of, position_count}, Rules.{MountHoldsIn, at_mount, stage_roles}, Views.held_at}
+use Rattle.gate_world.specs.Views.{holds_level}
+use Rattle.gate_schedules.proofs.frames.Stages.{stages_in, stages_right}
+use Rattle.mount_counts.specs.Roles.{mount_as_gate, ro_bit}
+use Rattle.freeze_laws.{proofs.stages.CitedLaws.freeze_is_under_way, specs.stages.Roles.{Freezing, Place, passed_at, passed_by}}
+use Rattle.std.{proofs.{Common.{◌-◌, ◌⊎◌}, lemmas.Bool.{cases_lt, ltb-true}}, specs.Prelude.◌&&◌}
 
 pub both_true : (a b : Bool) → (a && b) ≡ true → (a ≡ true) × (b ≡ true)
 both_true true b h = (refl, h)
@@ -41,11 +36,7 @@ place_below level s = grind arith
 
 freeze_there : (i : ℕ) → 1 ≤ i → (nodes : ℕ) (s : FreezeStep) → i ≤ passed_by (freeze_stage_role nodes s) →
     position_count i (freeze_position s) ≡ Passed
-freeze_there i low nodes (FreezeStep.Closes d) le =
-    below_there i d.level (down_count_role d.step) low (omega (arith, le, place_below d.level d.step))
-freeze_there i low nodes (FreezeStep.Waits d) le =
-    below_there i d.level (down_count_role d.step) low (omega (arith, le, place_below d.level d.step))
-freeze_there i low nodes s le = grind arith
+freeze_there i low nodes s le = grind (arith, below_there, place_below)
 
 pub passed_there : (i : ℕ) → 1 ≤ i → (p : Option Phase) → i ≤ passed_by (stage_role_of p) → level_role_of i p ≡ Passed
 passed_there i low (Some (Phase.Freezes x)) le = freeze_there i low x.nodes x.step le

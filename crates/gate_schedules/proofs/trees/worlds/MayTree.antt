@@ -1,27 +1,24 @@
 -- What a call at the tree may do: nobody else is in its way, and the model gives it leave.
-use Rattle.access_model.specs.{Actions.IsWriter, declared.actions.Action.Action}
-use Rattle.cpu_words.specs.{Hooks.{HookAnswer}, gate_counts.Gates.{BarringHolds, admitted, unread}}
+use Rattle.gate_schedules.proofs.Prelude.{Action, AtMount, Bool, Config, Fits, Fitting, Holdings, HookAnswer, IsGood, List, None, Option, Owner}
+use Rattle.gate_schedules.proofs.Prelude.{Phase, PhaseFits, Some, Traced, TreePhase, World, ap, arith, eqb_tells, false, held_of, if◌then◌else◌, inl}
+use Rattle.gate_schedules.proofs.Prelude.{inr, refl, shown, stage_role_of, subst, total, tree_bounds, tree_role_of, true, ℕ, ◌<◌, ◌==◌, ◌≡◌, ◌≤◌}
+use Rattle.access_model.specs.Actions.{IsWriter}
+use Rattle.cpu_words.specs.gate_counts.Gates.{BarringHolds, admitted, unread}
 use Rattle.finite_sums.proofs.Totals.{total_at, total_none}
-use Rattle.finite_sums.specs.Sums.{total}
-use Rattle.gate_schedules.proofs.trees.worlds.Holders.{IsOpen, both_true, mount_there, none_past, writer_apart}
-use Rattle.gate_schedules.proofs.trees.worlds.{Roles.{close_apart, freeze_apart}, Trees.{nobody_reads, sealed_frozen}}
-use Rattle.gate_world.specs.{Configs.model_limits, Fits.{Fits, HasFile, PhaseFits, TreeAccess, file_of}, Holdings.Holdings, Operations.is_faulter}
-use Rattle.gate_world.specs.{Operations.{is_writer, may_mark, some_mount}, Remounts.{loop_role, remount_role}}
-use Rattle.gate_world.specs.{Roles.{nodes_noted, remount_tree_role}, Rules.{AtMount, Files, Fitting, IsGood, Owner, at_mount, remounts}}
-use Rattle.gate_world.specs.{Rules.{role_of, stage_role_of}, Shown.shown, traces.Snapshots.values_noted, Trees.{is_bare_at, tree_bounds, tree_of, tree_role_of}}
-use Rattle.gate_world.specs.{Trees.tree_roles, Views.{has_open, held_at, held_of, holds_level}, Worlds.World, declared.config.Config.Config}
-use Rattle.gate_world.specs.declared.{views.Traced.Traced, work.Phase.Phase}
+use Rattle.gate_schedules.proofs.trees.worlds.{Holders.{IsOpen, both_true, mount_there, none_past, writer_apart}, Roles.{close_apart, freeze_apart}}
+use Rattle.gate_schedules.{proofs.trees.worlds.Trees.{nobody_reads, sealed_frozen}, specs.trees.{Events.{HasLeave, MayClean}, Steps.MayMark}}
+use Rattle.gate_schedules.specs.trees.Steps.{TreeAllowsStep}
+use Rattle.gate_world.specs.{Configs.model_limits, Fits.{HasFile, TreeAccess, file_of}, Operations.{is_faulter, is_writer, may_mark, some_mount}}
+use Rattle.gate_world.specs.{Remounts.{loop_role, remount_role}, Roles.remount_tree_role, Rules.{Files, at_mount, remounts, role_of}}
+use Rattle.gate_world.specs.{Trees.{is_bare_at, tree_of, tree_roles}, Views.{has_open, held_at, holds_level}}
 use Rattle.node_words.specs.Nodes.{word_of}
-use Rattle.gated_tree.specs.{Calls.{phase_role}, Phases.{after, create_after, grow_after, mark_after, mark_done, move_after, open_after}}
-use Rattle.gated_tree.specs.{Phases.{remove_after, snapshot_after}, Roles.{MayDirty, MayRemove, NobodyReads, bare_by, cleared, is_bare, sealed_by}}
-use Rattle.gated_tree.specs.declared.changes.{Create.Create, CreateStep.CreateStep, MoveStep.MoveStep, MoveTo.MoveTo, Remove.Remove, RemoveStep.RemoveStep}
-use Rattle.gated_tree.specs.declared.{growth.{Grow.Grow, GrowStep.GrowStep}, marks.{Mark.Mark, MarkStep.MarkStep}, opens.OpenFile.OpenFile}
-use Rattle.gated_tree.specs.declared.{opens.OpenStep.OpenStep, phases.TreePhase.TreePhase, snapshots.{Snapshot.Snapshot, SnapshotStep.SnapshotStep}}
+use Rattle.gated_tree.specs.{Calls.phase_role, Phases.{after, create_after, grow_after, mark_after, mark_done, move_after, open_after, remove_after}}
+use Rattle.gated_tree.specs.{Phases.snapshot_after, Roles.{MayDirty, MayRemove, NobodyReads, bare_by, cleared, is_bare, sealed_by}}
+use Rattle.gated_tree.specs.declared.changes.{Create.Create, CreateStep.CreateStep, MoveStep.MoveStep, MoveTo.MoveTo, Remove.Remove}
+use Rattle.gated_tree.specs.declared.{changes.RemoveStep.RemoveStep, growth.{Grow.Grow, GrowStep.GrowStep}, marks.{Mark.Mark, MarkStep.MarkStep}}
+use Rattle.gated_tree.specs.declared.{opens.{OpenFile.OpenFile, OpenStep.OpenStep}, snapshots.{Snapshot.Snapshot, SnapshotStep.SnapshotStep}}
 use Rattle.mount_counts.specs.{Roles.{barring_of, mount_as_gate, skips}, Sets.has_mount, declared.remounts.RemountStep.RemountStep}
 use Rattle.freeze_laws.specs.stages.Roles.{passed_by}
-use Rattle.std.proofs.{Common.{Bool, ap, arith, false, inl, inr, refl, subst, true, ℕ, ◌<◌, ◌≡◌, ◌≤◌}, lemmas.Bool.{Decides.eqb_tells}}
-use Rattle.std.specs.Prelude.{List, None, Option, Some, if◌then◌else◌, ◌==◌}
-use Rattle.gate_schedules.specs.trees.{Events.{HasLeave, MayClean}, Steps.{MayMark, TreeAllowsStep}}
 
 pub open_unsealed : (sb stage : ℕ) → sb ≡ 0 → stage < 3 → sealed_by sb stage ≡ 0
 open_unsealed sb stage writable low = grind arith
@@ -47,11 +44,7 @@ module _ (c : Config) (w : World) (good : IsGood c w) (t : ℕ) (lt : t < c.task
   remount_bares nodes s r = refl
 
   phase_bares : (p : Option Phase) → (w.views y).phase ≡ p → is_bare (tree_role_of (w.views y).trace p) ≡ 0
-  phase_bares (Some (Phase.Remounts x)) is = remount_bares x.nodes x.step (ap (role_of m) is)
-  phase_bares (Some (Phase.Freezes x)) is = (freeze_apart x.nodes x.step).0
-  phase_bares (Some (Phase.Trees x)) is = tree_bares (values_noted (nodes_noted x) (w.views y).trace) x
-  phase_bares (Some (Phase.Closes x)) is = (close_apart x).1
-  phase_bares p is = refl
+  phase_bares p is = grind (arith, remount_bares, freeze_apart, tree_bares, close_apart)
 
 -- so nothing that a task is at clears a mark, where no remount is beginning and the task hasn't passed level 2
 phase_clears : (c : Config) (t : ℕ) (held : Holdings) (trace : List Traced) (p : Option Phase) → Fits c t held p →
@@ -160,10 +153,7 @@ module _ (c : Config) (w : World) (good : IsGood c w) where
     -- a page fault has leave inside level 2, with an access at some mount; a write-back inside level 3
     mark_leave_now : (dirty : Bool) (file : ℕ) → may_mark dirty c (held_of (w.views t)) ≡ true →
         HasLeave (model_limits c) (shown c w) t (mark_done dirty file)
-    mark_leave_now true file may =
-        let both : (holds_level (w.views t) 2 ≡ true) × (some_mount c.mounts (held_at (w.views t)) ≡ true) = both_true _ _ may in
-        (both.0, mount_there c.mounts (held_at (w.views t)) both.1)
-    mark_leave_now false file may = inl may
+    mark_leave_now dirty file may = grind (arith, both_true, mount_there)
 
     mark_leave : (x : Mark) (s : MarkStep) (found : ℕ) → may_mark x.dirty c (held_of (w.views t)) ≡ true →
         LeaveFor (mark_after x s found).1
@@ -176,7 +166,7 @@ module _ (c : Config) (w : World) (good : IsGood c w) where
     snapshot_leave : (x : Snapshot) (s : SnapshotStep) (found : ℕ) → LeaveFor (snapshot_after x s found).1
     snapshot_leave x s found = grind arith
 
-    -- each call has leave for the action of its next event
+    -- each call has leave for the action of its next step
     pub call_leave : (x : TreePhase) (found : ℕ) (hook : HookAnswer) → TreeAccess c (held_of (w.views t)) x →
         HasFile (has_open (w.views t)) (file_of (Some (Phase.Trees x))) → LeaveFor (after x found hook).1
     call_leave (TreePhase.Create x) found hook may own = create_leave x x.step found (writer_shown may)

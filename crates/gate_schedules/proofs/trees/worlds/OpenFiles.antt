@@ -1,16 +1,14 @@
 -- How many tasks have each file open, after an action of one of them.
-use Rattle.std.proofs.{Common.{◌≡◌, ℕ, ◌+◌, ◌-◌, ◌<◌, Bool, true, false, sym, ap, ◌∙◌, inl, inr, arith}, lemmas.Bool.Decides.eqb_tells}
-use Rattle.std.specs.Prelude.{Option, Some, None}
-use Rattle.finite_sums.{proofs.Totals.{update_at, update_off, update_same, total_updated}, specs.Sums.update}
-use Rattle.access_model.specs.{Actions.{tree_after}, Replies.map_next, States.{Limits, State, one_if, most_tasks, openers}}
-use Rattle.access_model.specs.declared.{actions.{Action.Action, NodeInfo.NodeInfo}}
-use Rattle.cpu_words.specs.Hooks.{HookAnswer}
-use Rattle.node_words.specs.{Nodes.{opens_in}}
-use Rattle.gated_tree.specs.Phases.{after}
-use Rattle.gated_tree.specs.{Roles.{Bounds}}
-use Rattle.gated_tree.specs.declared.phases.TreePhase.{TreePhase}
+use Rattle.gate_schedules.proofs.Prelude.{Action, Bool, Holdings, HookAnswer, None, Option, Phase, Some, TreePhase, ap, arith, eqb_tells, false}
+use Rattle.gate_schedules.proofs.Prelude.{held_after, inl, inr, map_next, phase_after, sym, true, update, update_at, update_same, ℕ, ◌+◌, ◌<◌, ◌∙◌}
+use Rattle.gate_schedules.proofs.Prelude.{◌≡◌}
+use Rattle.std.proofs.Common.{◌-◌}
+use Rattle.finite_sums.proofs.Totals.{update_off, total_updated}
+use Rattle.access_model.specs.{Actions.tree_after, States.{Limits, State, one_if, most_tasks, openers}, declared.actions.NodeInfo.NodeInfo}
+use Rattle.node_words.specs.Nodes.{opens_in}
+use Rattle.gated_tree.specs.{Phases.after, Roles.Bounds}
 use Rattle.gate_schedules.specs.trees.Events.{TreeAllows, MovesBy, HasLeave, opens_shown, bounds_of}
-use Rattle.gate_world.specs.{Fits.{HasFile, file_of}, Holdings.{Holdings, held_after}, Views.phase_after, declared.work.Phase.Phase}
+use Rattle.gate_world.specs.Fits.{HasFile, file_of}
 
 -- an action's effect on the tree asks only how many tasks have its own node open
 pub same_counts : (c : Bounds) (f g : ℕ → ℕ) (tree : ℕ → Option NodeInfo) (action : Action) → TreeAllows c tree action →
@@ -67,7 +65,7 @@ LeaveToDo l s t (Some action) = HasLeave l s t action
 abbrev pub held_shown : State → ℕ → Holdings
 held_shown s t = record { mounts = s.mounts t; levels = s.levels t; files = s.opens t }
 
--- so the words say how many have each open after an event that moves the shown tree by an action, where they said so before it
+-- so the words say how many have each open after a step that moves the shown tree by an action, where they said so before it
 module _ (l : Limits) (s : State) (t : ℕ) (lt : t < most_tasks) (node node' : ℕ → ℕ) where
   abbrev pub AreCounted : Type 0
   AreCounted = (n : ℕ) → n < l.nodes → opens_in (node n) ≡ openers s.opens n
@@ -89,22 +87,9 @@ module _ (l : Limits) (s : State) (t : ℕ) (lt : t < most_tasks) (node node' : 
 
   pub files_counted : (action : Option Action) → LeaveToDo l s t action → MovesBy (bounds_of l) node node' action → AreCounted →
       (n : ℕ) → n < l.nodes → opens_in (node' n) ≡ openers (update s.opens t (held_after action (held_shown s t)).files) n
-  files_counted None leave moves counted n ln = stays_counted moves.1 counted n ln
-  files_counted (Some (Action.Open k)) leave moves counted n ln =
-      one_counted k (opens_shown node k + 1) true moves.opens n ln counted (openers s.opens k + 1)
-      (ap (λ x. x + 1) (counted k moves.allowed.0)) (more_open s.opens t lt k n leave)
-  files_counted (Some (Action.Close k)) leave moves counted n ln =
-      one_counted k (opens_shown node k - 1) false moves.opens n ln counted (openers s.opens k - 1)
-      (ap (λ x. x - 1) (counted k moves.allowed)) (fewer_open s.opens t lt k n leave.0)
-  files_counted (Some (Action.Create k d kind)) leave moves counted n ln = stays_counted moves.opens counted n ln
-  files_counted (Some (Action.Remove k)) leave moves counted n ln = stays_counted moves.opens counted n ln
-  files_counted (Some (Action.Grow k b)) leave moves counted n ln = stays_counted moves.opens counted n ln
-  files_counted (Some (Action.MoveTo k d)) leave moves counted n ln = stays_counted moves.opens counted n ln
-  files_counted (Some (Action.Dirty k)) leave moves counted n ln = stays_counted moves.opens counted n ln
-  files_counted (Some (Action.Clean k)) leave moves counted n ln = stays_counted moves.opens counted n ln
-  files_counted (Some action) leave moves counted n ln = absurd leave
+  files_counted action leave moves counted n ln = grind (arith, stays_counted, one_counted, more_open, fewer_open)
 
--- so after an event of a call its task has open, or not, what the phase relies on
+-- so after a step of a call its task has open, or not, what the phase relies on
 pub file_then : (held : Holdings) (x : TreePhase) (found : ℕ) (hook : HookAnswer) → HasFile held.files (file_of (Some (Phase.Trees x))) →
     HasFile (held_after (after x found hook).1 held).files (file_of (phase_after (map_next Phase.Trees (after x found hook).0)))
 file_then held x found hook own = grind arith

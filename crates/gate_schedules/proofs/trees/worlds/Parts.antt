@@ -1,37 +1,29 @@
--- An event of a call at the tree: it leaves the mounts, the levels and the sections alone, and all of the shown model but the tree. A
+-- A step of a call at the tree: it leaves the mounts, the levels and the sections alone, and all of the shown state but the tree. A
 -- snapshot is such a call, too.
-use Rattle.gate_schedules.proofs.frames.{Accesses.holdings_of_after, Agreeing.access_agrees}
-use Rattle.gate_schedules.proofs.frames.{Frames.{left_alone, level_view_as, shown_as, view_as}}
-use Rattle.gate_schedules.proofs.{frames.Openers.most_tasks_is}
+use Rattle.gate_schedules.proofs.Prelude.{Action, AtLevel, AtMount, Bool, Config, Fits, Fitting, Holdings, Holds, HookAnswer, IsGood, IsWithin, Next}
+use Rattle.gate_schedules.proofs.Prelude.{None, Option, Phase, Some, SyncAt, Touch, Tree, TreePhase, View, WordName, Words, World, after_of}
+use Rattle.gate_schedules.proofs.Prelude.{after_step, ap, arith, common_steps, each_updated, false, found_at, held_after, held_of, if◌then◌else◌}
+use Rattle.gate_schedules.proofs.Prelude.{left, map_next, phase_after, put, read, refl, shown, subst, sym, tree_bounds, tree_role_of, true}
+use Rattle.gate_schedules.proofs.Prelude.{true≢false, update, update_same, words_after, ℕ, ◌<◌, ◌==◌, ◌∙◌, ◌≡◌}
+use Rattle.gate_schedules.proofs.frames.{Accesses.holdings_of_after, Agreeing.access_agrees, Frames.{left_alone, level_view_as, shown_as, view_as}}
+use Rattle.gate_schedules.proofs.{frames.Openers.most_tasks_is, trees.{Allowed.{may_do, tree_alone}, Fitting.fits_after, Phases.each_phase}}
 use Rattle.gate_schedules.proofs.trees.worlds.{MayTree.{LeaveFor, call_fits, leave, may_step}, OpenFiles.{file_then, files_counted, same_counts}}
-use Rattle.gate_schedules.proofs.trees.worlds.Trees.{tree_holds, tree_within}
-use Rattle.gate_schedules.proofs.trees.{Allowed.{may_do, tree_alone}, Fitting.fits_after, Phases.each_phase}
-use Rattle.std.proofs.lemmas.Grind.{common_steps}
-use Rattle.std.proofs.Common.{Bool, ap, arith, false, refl, subst, sym, true, true≢false, ℕ, ◌<◌, ◌∙◌, ◌≡◌, ◌⊎◌}
-use Rattle.access_model.specs.{Replies.map_next, States.openers, declared.{actions.Action.Action, replies.Next.Next}}
-use Rattle.cpu_words.specs.{Hooks.HookAnswer, Touches.left, Words.{Words, put, read}, declared.{events.Touch.Touch, names.WordName.WordName}}
-use Rattle.finite_sums.proofs.Totals.{each_updated, update_map, update_same}
-use Rattle.finite_sums.specs.Sums.{update}
+use Rattle.gate_schedules.{proofs.trees.worlds.Trees.{tree_holds, tree_within}, specs.trees.{Events.{MovesBy, opens_shown}, Steps.{Notes, StepKeeps}}}
+use Rattle.gate_schedules.specs.trees.Steps.{tree_in}
+use Rattle.std.{proofs.Common.◌⊎◌, specs.Prelude.◌||◌}
+use Rattle.access_model.specs.States.{openers}
+use Rattle.finite_sums.proofs.Totals.{update_map}
 use Rattle.freeze_levels.specs.Holders.{holders_in}
-use Rattle.gate_world.specs.{Configs.{IsWithin, model_limits}, Fits.{Fits, HasFile, TreeAccess, file_of}, traces.Found.is_load, Holdings.{Holdings, held_after}}
-use Rattle.gate_world.specs.{SameRoles.{Roles, no_roles, roles_of}, Levels.{level_added_after, level_added_by, level_taken_after, level_taken_by}}
-use Rattle.gate_world.specs.{Roles.{nodes_noted}, Rules.{AtLevel, AtMount, Files, Fitting, Holding, Holds}}
-use Rattle.gate_world.specs.{Rules.{IsGood, Moves as ModelMoves, Part, SameView, SameWords, Sections, SyncAt, Tree, ViewFits}, Shown.{closing, shown}}
-use Rattle.gate_world.specs.{traces.Snapshots.values_noted, Trees.{is_bare_at, is_sealed, tree_bounds, tree_role_of, tree_roles}, Views.{added_after, added_by}}
-use Rattle.gate_world.specs.{Views.{has_open, held_at, held_of, holds_level, phase_after, taken_after, taken_by, view_after}, Work.{after_of, next_of}}
-use Rattle.gate_world.specs.{Worlds.{World, after_step, found_at, value_at, words_after}, declared.{config.Config.Config, views.View.View, work.Phase.Phase}}
+use Rattle.gate_world.specs.{Configs.model_limits, Fits.{HasFile, TreeAccess, file_of}, Levels.{level_added_after, level_added_by, level_taken_after}}
+use Rattle.gate_world.specs.{Levels.level_taken_by, Roles.nodes_noted, Rules.{Files, Holding, Moves as ModelMoves, Part, SameView, SameWords}}
+use Rattle.gate_world.specs.{Rules.{Sections, ViewFits}, SameRoles.{Roles, no_roles, roles_of}, Shown.closing, Trees.{is_bare_at, is_sealed}}
+use Rattle.gate_world.specs.{Trees.tree_roles, Views.{added_after, added_by, has_open, held_at, holds_level, taken_after, taken_by, view_after}}
+use Rattle.gate_world.specs.{Work.next_of, Worlds.value_at, traces.{Found.is_load, Snapshots.values_noted}}
 use Rattle.node_words.specs.Nodes.{node_shown}
-use Rattle.gated_tree.specs.{Calls.{NextFits, TreePhaseFits, phase_role, role_after}, Phases.{after}}
-use Rattle.gated_tree.specs.Phases.{create_after, grow_after, mark_after}
-use Rattle.gated_tree.specs.Phases.{move_after, next, open_after, remove_after, snapshot_after}
-use Rattle.gated_tree.specs.{Roles.{Role, TreeHolds}, declared.changes.{Create.Create, MoveTo.MoveTo}}
-use Rattle.gated_tree.specs.declared.{changes.{Remove.{Remove}}, growth.{Grow.{Grow}}}
-use Rattle.gated_tree.specs.declared.{marks.{Mark.Mark, MarkStep.MarkStep}, opens.{OpenFile.OpenFile}, phases.TreePhase.TreePhase}
-use Rattle.gated_tree.specs.declared.snapshots.{Snapshot.Snapshot}
+use Rattle.gated_tree.specs.{Calls.{NextFits, TreePhaseFits, phase_role, role_after}, Phases.{after, mark_after, next}, Roles.{Role, TreeHolds}}
+use Rattle.gated_tree.specs.declared.{marks.{Mark.Mark, MarkStep.MarkStep}}
 use Rattle.mount_counts.specs.Roles.{ro_bit}
 use Rattle.freeze_laws.specs.stages.Roles.{Aside}
-use Rattle.std.specs.Prelude.{None, Option, Some, if◌then◌else◌, ◌==◌, ◌||◌}
-use Rattle.gate_schedules.specs.trees.{Events.{MovesBy, opens_shown}, Steps.{Notes, StepKeeps, tree_in}}
 
 -- the words of the tree
 abbrev pub is_node_word : WordName → Bool
@@ -61,7 +53,7 @@ is_snapshot x = false
 pub node_word : (x : TreePhase) (hook : HookAnswer) → is_snapshot x ≡ false → is_node_word (next x hook).0 ≡ true
 node_word x hook other = grind arith
 
--- the event of this touch on this word is a load, or the word is one that calls write
+-- the step of this touch on this word is a load, or the word is one that calls write
 abbrev pub IsCallTouch : WordName × Touch → Type 0
 IsCallTouch x = (is_load x.1 ≡ true) ⊎ (is_call_word x.0 ≡ true)
 
@@ -76,7 +68,7 @@ beside_calls w = record w { umount = 0; used = 0; removed = 0; node = λ n. 0; k
 abbrev pub IsBesideTree : Words → Words → Type 0
 IsBesideTree old new = beside_calls new ≡ beside_calls old
 
--- so they are after each event that loads a word, or writes such a one
+-- so they are after each step that loads a word, or writes such a one
 pub touch_beside : (w : Words) (x : WordName × Touch) → IsCallTouch x → IsBesideTree w (put w x.0 (left x.1 (read w x.0)))
 touch_beside w x touches = grind arith
 
@@ -86,7 +78,7 @@ sealed_beside old new same = λ j. is_sealed (same j)
 pub bare_beside : (old new : Words) → IsBesideTree old new → is_bare_at new ≡ is_bare_at old
 bare_beside old new same = λ j. is_bare_at (same j)
 
--- so no event of a call counts anywhere
+-- so no step of a call counts anywhere
 pub record CountsNowhere (x : WordName × Touch) : Type 0 where
   pub added : (a : ℕ → ℕ → ℕ) → added_after x.0 x.1 a ≡ a
   pub taken : (a : ℕ → ℕ → ℕ) → taken_after x.0 x.1 a ≡ a
@@ -101,14 +93,11 @@ pub record LeavesAccesses (action : Option Action) : Type 0 where
   pub mounts : (held : Holdings) → (held_after action held).mounts ≡ held.mounts
   pub levels : (held : Holdings) → (held_after action held).levels ≡ held.levels
 
-pub leaves_none : LeavesAccesses None
-leaves_none = record { mounts = λ held. refl; levels = λ held. refl }
-
 pub call_leaves : (x : TreePhase) (found : ℕ) (hook : HookAnswer) → LeavesAccesses (after x found hook).1
 call_leaves x found hook = grind (arith, common_steps)
 
 module _ (c : Config) (held : Holdings) where
-  -- what comes after an event is a call at which its task may be
+  -- what comes after a step is a call at which its task may be
   abbrev pub AccessAfter : Next TreePhase → Type 0
   AccessAfter (Next.Go x) = TreeAccess c held x
   AccessAfter (Next.Wait x) = TreeAccess c held x
@@ -117,21 +106,14 @@ module _ (c : Config) (held : Holdings) where
   comes_with : {P : Type 0} (to : P → TreePhase) → ((y : P) → TreeAccess c held (to y)) → (n : Next P) → AccessAfter (map_next to n)
   comes_with to may n = grind arith
 
-  -- after an event of a page fault or a write-back
+  -- after a step of a page fault or a write-back
   mark_access : (x : Mark) (s : MarkStep) (found : ℕ) → TreeAccess c held (TreePhase.Mark x) →
       AccessAfter (map_next TreePhase.Mark (mark_after x s found).0)
   mark_access x s found may = grind (arith, common_steps)
 
   -- a call keeps its task's accesses
   pub access_after : (x : TreePhase) (found : ℕ) (hook : HookAnswer) → TreeAccess c held x → AccessAfter (after x found hook).0
-  access_after (TreePhase.Create x) found hook may = comes_with TreePhase.Create (λ y. may) (create_after x x.step found).0
-  access_after (TreePhase.Remove x) found hook may = comes_with TreePhase.Remove (λ y. may) (remove_after x x.step found).0
-  access_after (TreePhase.Grow x) found hook may = comes_with TreePhase.Grow (λ y. may) (grow_after x x.step found).0
-  access_after (TreePhase.MoveTo x) found hook may = comes_with TreePhase.MoveTo (λ y. may) (move_after x x.step found).0
-  access_after (TreePhase.Mark x) found hook may = mark_access x x.step found may
-  access_after (TreePhase.OpenFile x) found hook may = comes_with TreePhase.OpenFile (λ y. tt) (open_after x x.step found).0
-  access_after (TreePhase.Snapshot x) found hook may = comes_with TreePhase.Snapshot (λ y. may) (snapshot_after x x.step found).0
-  access_after (TreePhase.ClearMarks x) found hook may = absurd may
+  access_after x found hook may = grind (arith, comes_with, mark_access)
 
   -- so what comes after it fits
   next_fits : (t : ℕ) (n : Next TreePhase) → NextFits (tree_bounds c) t n → AccessAfter n →
@@ -176,7 +158,7 @@ call_off x = record { roles = refl; closing_none = λ i. refl }
 pub next_off : (n : Next TreePhase) → IsOffGates (phase_after (map_next Phase.Trees n))
 next_off n = grind arith
 
--- the parts that no event of a call touches
+-- the parts that no step of a call touches
 abbrev pub is_gate_part : Part → Bool
 is_gate_part Holding = true
 is_gate_part (AtMount m) = true
@@ -188,7 +170,7 @@ is_gate_part part = false
 pub gate_words : (part : Part) → is_gate_part part ≡ true → (old new : Words) → IsBesideTree old new → SameWords old new part
 gate_words part h old new same = grind arith
 
--- an event at the tree, of whatever operation: it writes no other word but `umount`, and leaves its task's accesses
+-- a step at the tree, of whatever operation: it writes no other word but `umount`, and leaves its task's accesses
 pub record IsAtTree (w : World) (phase : Phase) (hook : HookAnswer) : Type 0 where
   pub touches : IsCallTouch (next_of phase hook)
   pub leaves : LeavesAccesses (after_of phase (found_at w.words phase hook) hook).1
@@ -246,14 +228,14 @@ module _ (c : Config) (w : World) (good : IsGood c w) (t : ℕ) (lt : t < c.task
   pub gate_parts : (part : Part) → is_gate_part part ≡ true → Holds c (after_step w t phase hook) part
   gate_parts part h = left_alone c w t lt part words_then view_then (gate_words part h w.words words_then beside_then) (gate_view part h) (good part)
 
-  -- what comes after the event fits the accesses that it leaves
+  -- what comes after the step fits the accesses that it leaves
   pub fitting_then : Fits c t (held_after action_then (held_of (w.views t))) view_then.phase →
       Holds c (after_step w t phase hook) Fitting
   fitting_then fits y ly =
       each_updated (λ z (u : View). ViewFits c z u) w.views t view_then y
       (subst (λ k. Fits c t k view_then.phase) (sym held_then) fits) (λ ne. good Fitting y ly)
 
-  -- the shown model is as it was but for the tree and the task's open files
+  -- the shown state is as it was but for the tree and the task's open files
   shown_then : shown c (after_step w t phase hook) ≡ record (shown c w) {
     opens = update (shown c w).opens t (held_after action_then (held_of (w.views t))).files;
     tree = λ n. node_shown (words_then.node n);
@@ -272,7 +254,7 @@ module _ (c : Config) (w : World) (good : IsGood c w) (t : ℕ) (lt : t < c.task
         tree = λ n. node_shown (words_then.node n);
       })
 
-  -- so where the nodes that are shown move by the event's action, the model does
+  -- so where the nodes that are shown move by the step's action, the model does
   pub shown_moves : (action : Option Action) → action_then ≡ action → LeaveFor c w good t lt action →
       MovesBy (tree_bounds c) w.words.node words_then.node action →
       ModelMoves c (shown c w) t action (shown c (after_step w t phase hook))
@@ -292,7 +274,7 @@ module _ (c : Config) (w : World) (good : IsGood c w) (t : ℕ) (lt : t < c.task
         }) ∙ sym (tree_alone (model_limits c) (shown c w) t action leave),
   )
 
-  -- the files of the world then: as many tasks have each open as its word says
+  -- the files of the state then: as many tasks have each open as its word says
   pub files_then : IsWithin c → LeaveFor c w good t lt action_then → MovesBy (tree_bounds c) w.words.node words_then.node action_then →
       HasFile (held_after action_then (held_of (w.views t))).files (file_of view_then.phase) → Holds c (after_step w t phase hook) Files
   files_then within leave moves has = record {
@@ -319,7 +301,7 @@ module _ (c : Config) (w : World) (good : IsGood c w) (t : ℕ) (lt : t < c.task
       (sym (bare_beside w.words words_then beside_then))
       (subst (λ r. TreeHolds (tree_bounds c) (tree_in (is_sealed w.words) (is_bare_at w.words) words_then (update (tree_roles w) t r))) is kept)))
 
--- a call at the tree has such events alone
+-- a call at the tree has such steps alone
 pub call_at : (w : World) (x : TreePhase) (hook : HookAnswer) → IsAtTree w (Phase.Trees x) hook
 call_at w x hook = record {
   touches = call_touch x hook;
@@ -330,7 +312,7 @@ call_at w x hook = record {
 
 module _ (c : Config) (within : IsWithin c) (w : World) (good : IsGood c w) (t : ℕ) (lt : t < c.tasks) (x : TreePhase) (hook : HookAnswer)
     (e : (w.views t).phase ≡ Some (Phase.Trees x)) where
-  -- what the event finds, and what comes after it
+  -- what the step finds, and what comes after it
   abbrev pub call_found : ℕ
   call_found = found_at w.words (Phase.Trees x) hook
 
@@ -351,7 +333,7 @@ module _ (c : Config) (within : IsWithin c) (w : World) (good : IsGood c w) (t :
       fitting_then c w good t lt (Phase.Trees x) hook e (call_at w x hook)
       (call_goes c (held_of (w.views t)) within t x call_found hook (call_fits c w good t lt x e))
 
-  -- what the tree's own law says of the event, where a snapshot has noted this after it
+  -- what the tree's own law says of the step, where a snapshot has noted this after it
   abbrev pub TreeKeeps : Type 0
   TreeKeeps =
       Holds c (after_step w t (Phase.Trees x) hook) Tree × MovesBy (tree_bounds c) w.words.node call_words.node (after x call_found hook).1

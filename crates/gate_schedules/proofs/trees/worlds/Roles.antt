@@ -1,10 +1,8 @@
 -- What the phases of each operation are not at the tree.
-use Rattle.std.proofs.Common.{◌≡◌, ℕ, arith}
-use Rattle.gated_tree.specs.{Roles.{cleared, is_bare, words_read, frees}}
-use Rattle.mount_counts.specs.declared.remounts.RemountStep.{RemountStep}
-use Rattle.freeze_levels.specs.declared.freezes.FreezeStep.{FreezeStep}
+use Rattle.gate_schedules.proofs.Prelude.{FreezeStep, arith, ℕ, ◌≡◌}
+use Rattle.gated_tree.specs.Roles.{cleared, is_bare, words_read, frees}
 use Rattle.composite_ops.specs.declared.file_closes.phases.ClosePhase.{ClosePhase}
-use Rattle.gate_world.specs.Roles.{close_tree_role, remount_tree_role, freeze_tree_role}
+use Rattle.gate_world.specs.Roles.{close_tree_role, freeze_tree_role}
 
 -- of a close, but that it frees its node
 pub close_apart : (x : ClosePhase) → (cleared (close_tree_role x) ≡ 0) × (is_bare (close_tree_role x) ≡ 0) × (words_read (close_tree_role x) ≡ 0)
@@ -14,8 +12,3 @@ close_apart x = grind arith
 pub freeze_apart : (nodes : ℕ) (s : FreezeStep) →
     (is_bare (freeze_tree_role nodes s) ≡ 0) × (words_read (freeze_tree_role nodes s) ≡ 0) × ((n : ℕ) → frees n (freeze_tree_role nodes s) ≡ 0)
 freeze_apart nodes s = grind arith
-
--- and of a remount, but that it does that, and relies on that no file is removed
-pub remount_apart : (nodes : ℕ) (s : RemountStep) →
-    (words_read (remount_tree_role nodes s) ≡ 0) × ((n : ℕ) → frees n (remount_tree_role nodes s) ≡ 0)
-remount_apart nodes s = grind arith

@@ -1,25 +1,20 @@
--- The tree of a world, as the laws of the tree have it: what an event of a task leaves of it, and what it shows.
-use Rattle.access_model.specs.{States.{IsDirectory, is_dirty}, declared.actions.{Action.Action, Holder.Holder}}
-use Rattle.cpu_words.specs.Words.{Words}
+-- The tree of a state, as the laws of the tree have it: what a step of a task leaves of it, and what it shows.
+use Rattle.gate_schedules.proofs.Prelude.{Action, Bool, Config, Fits, Fitting, FreezeStep, Holds, IsGood, IsWithin, List, None, Option, Phase}
+use Rattle.gate_schedules.proofs.Prelude.{PhaseFits, Some, Stages, Traced, Tree, TreePhase, View, Words, World, ap, arith, eqb_tells, held_of, inl}
+use Rattle.gate_schedules.proofs.Prelude.{inr, nat_lt, refl, stage_role_of, subst, sym, tree_bounds, tree_role_of, update, ℕ, ◌<◌, ◌≡◌, ◌≤◌}
+use Rattle.access_model.specs.{States.{IsDirectory, is_dirty}, declared.actions.Holder.Holder}
 use Rattle.finite_sums.proofs.Totals.{total_none}
-use Rattle.finite_sums.specs.Sums.{update}
-use Rattle.freeze_levels.specs.declared.{freezes.FreezeStep.{FreezeStep, TheVariants.Closes}, thaws.ThawStep.ThawStep}
-use Rattle.gate_world.specs.{Configs.IsWithin, Fits.{Fits, FreezeFits, PhaseFits}, Remounts.RemountFits, Roles.{freeze_stage_role, freeze_tree_role}}
-use Rattle.gate_world.specs.Roles.{place_of, remount_stage_role, remount_tree_role, reopening_role, thaw_stage_role}
-use Rattle.gate_world.specs.{Roles.tree_stage_role, Rules.{Fitting, Holds, IsGood, Stages, Tree, marks_of, stage_role_of, stage_roles}}
-use Rattle.gate_world.specs.{Trees.{is_bare_at, is_sealed, tree_bounds, tree_of, tree_role_of, tree_roles}, Views.held_of}
-use Rattle.gate_world.specs.{Worlds.World, declared.{config.Config.Config, views.{Traced.Traced, View.View}, work.Phase.{Phase, TheVariants.Closes}}}
+use Rattle.freeze_levels.specs.declared.{freezes.FreezeStep.TheVariants.Closes, thaws.ThawStep.ThawStep}
+use Rattle.gate_world.specs.{Fits.FreezeFits, Remounts.RemountFits, Roles.{freeze_stage_role, freeze_tree_role, place_of, remount_stage_role}}
+use Rattle.gate_world.specs.{Roles.{remount_tree_role, reopening_role, thaw_stage_role, tree_stage_role}, Rules.{marks_of, stage_roles}}
+use Rattle.gate_world.specs.{Trees.{is_bare_at, is_sealed, tree_of, tree_roles}, declared.work.Phase.TheVariants.Closes}
 use Rattle.node_words.specs.Nodes.{dirty_in, kind_in, node_shown}
-use Rattle.gated_tree.specs.Roles.{AreWithin, Clearing, NobodyReads, RoleHolds}
-use Rattle.gated_tree.specs.{Roles.{TreeHolds, TreeState, sealed_by, words_read}, declared.{phases.TreePhase.TreePhase}}
+use Rattle.gated_tree.specs.Roles.{AreWithin, Clearing, NobodyReads, RoleHolds, TreeHolds, TreeState, sealed_by, words_read}
 use Rattle.mount_counts.specs.declared.remounts.RemountStep.{RemountStep}
 use Rattle.percpu_rwsem.specs.declared.writers.{DownWriteStep.DownWriteStep, UpWriteStep.UpWriteStep}
 use Rattle.freeze_laws.specs.stages.Roles.{CleanBelow, Freezing, KnowsStage, MarksHold, clean_by}
-use Rattle.std.proofs.{Common.{Bool, ap, arith, inl, inr, refl, subst, suc, sym, zero, ℕ, ◌<◌, ◌≡◌, ◌≤◌}, lemmas.Bool.le-leb}
-use Rattle.std.proofs.lemmas.Bool.Decides.{eqb_tells}
-use Rattle.std.specs.Prelude.{List, None, Option, Some, false, nat_lt, true}
-use Rattle.gate_schedules.proofs.trees.Each.{each_event}
-use Rattle.gate_schedules.specs.trees.Events.{Event}
+use Rattle.std.{proofs.lemmas.Bool.le-leb, specs.Prelude.{false, true}}
+use Rattle.gate_schedules.{proofs.trees.Each.each_event, specs.trees.Events.Event}
 
 pub tree_within : (c : Config) → IsWithin c → AreWithin (tree_bounds c)
 tree_within c within = record { tasks = within.tasks; some_node = within.some_node; nodes = within.nodes; capacity = within.capacity }
@@ -37,7 +32,7 @@ pub shown_clean : (word : ℕ) → (kind_in word ≡ 0 → word ≡ 0) → is_di
 shown_clean word free clean = grind arith
 
 module _ (c : Config) (w : World) (good : IsGood c w) (t : ℕ) (lt : t < c.tasks) (ws : Words) (v : View) where
-  -- the tree of the world after an event of this task
+  -- the tree of the state after a step of this task
   abbrev pub tree_then : TreeState
   tree_then = record {
     sealed = is_sealed ws;
@@ -55,7 +50,7 @@ module _ (c : Config) (w : World) (good : IsGood c w) (t : ℕ) (lt : t < c.task
   pub tree_holds : TreeHolds (tree_bounds c) tree_then → Holds c (record { words = ws; views = update w.views t v }) Tree
   tree_holds h = subst (TreeHolds (tree_bounds c)) (sym tree_moves) h
 
-  -- where the event is one of the tree's, all holds of it again, and the nodes that are shown move by its action
+  -- where the step is one of the tree's, all holds of it again, and the nodes that are shown move by its action
   pub tree_after : IsWithin c → (action : Option Action) → Event (tree_bounds c) (tree_of w) t tree_then action →
       Holds c (record { words = ws; views = update w.views t v }) Tree
   tree_after within action event =
@@ -88,10 +83,7 @@ module _ (c : Config) (w : World) (good : IsGood c w) where
 
   closing_clean : (level : ℕ) (s : DownWriteStep) (owner : Bool) →
       CleanBelow (clean_by (Freezing level (place_of s) owner)) (marks_of w.words)
-  closing_clean zero s owner = none_clean
-  closing_clean (suc zero) s owner = none_clean
-  closing_clean (suc (suc level)) (DownWriteStep.Sums sum) owner = none_clean
-  closing_clean (suc (suc level)) s owner = none_clean
+  closing_clean level s owner = grind (arith, none_clean)
 
   reopening_clean : (level : ℕ) (s : UpWriteStep) → CleanBelow (clean_by (reopening_role level s)) (marks_of w.words)
   reopening_clean level s = grind arith

@@ -1,4 +1,4 @@
--- whatever atomic operation the event is, the law of the event is what its step on the table asks
+-- whatever atomic operation the step is, the law of the step is what the table's step asks
 use Rattle.cpu_words.specs.declared.events.Touch.TheVariants.{Load, Store, Add, Sub, Or, And, Swap, Cas}
 use Rattle.gate_steps.proofs.TableSimulation.{lifted_at}
 use Rattle.gate_steps.proofs.steps.touch_at.Goals as goal

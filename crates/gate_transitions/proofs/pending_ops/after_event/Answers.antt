@@ -1,4 +1,4 @@
--- an up-read has one event, whatever it finds
+-- an up-read has one step, whatever it finds
 use Rattle.gate_world.specs.declared.work.Phase.TheVariants.{UpReads}
 use Rattle.gate_transitions.proofs.pending_ops.after_event.Goals as goal
 

@@ -1,4 +1,4 @@
--- each event of the line goes on from what the one before it left
+-- each step of the line goes on from what the one before it left
 use Rattle.std.proofs.Common.{refl}
 use Rattle.std.specs.Prelude.{Ok}
 use Rattle.gate_steps.proofs.call_events.Leading.{led_on, led_once, seated_stands}

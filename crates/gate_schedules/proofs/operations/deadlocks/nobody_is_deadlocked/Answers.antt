@@ -1,4 +1,5 @@
-use Rattle.gate_schedules.proofs.operations.{AllOperations.phase_ends, deadlocks.{RepliesOrFrozen.world_replies, Settles.world_settles, BlockedOrProgress.world_goes}}
+use Rattle.gate_schedules.proofs.operations.{AllOperations.phase_ends, deadlocks.{BlockedOrProgress.world_goes, RepliesOrFrozen.world_replies}}
+use Rattle.gate_schedules.proofs.operations.deadlocks.Settles.{world_settles}
 use Rattle.gate_schedules.proofs.operations.deadlocks.nobody_is_deadlocked.Goals as goal
 
 pub returns-clause-progress : goal.returns-clause-progress

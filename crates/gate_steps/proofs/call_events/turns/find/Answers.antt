@@ -1,4 +1,4 @@
--- the event is known, so what it left of the task's fields and what comes after it are
+-- the step is known, so what it left of the task's fields and what comes after it are
 use Rattle.std.specs.Prelude.{None, Ok}
 use Rattle.gate_steps.proofs.call_events.{Turning.{inside_so, acts_so}, Leading.{led_by}}
 use Rattle.gate_steps.proofs.call_events.turns.find.Goals as goal

@@ -1,4 +1,4 @@
--- A beginning shows what its entry makes of the world.
+-- A beginning shows what its transition makes of the state.
 use Rattle.std.proofs.Common.{◌<◌, arith}
 use Rattle.program_replay.proofs.Driving.{begin_drives, begin_told}
 use Rattle.program_replay.proofs.gates_driver.GatesDriverDriver.begin.Goals as goal

@@ -1,4 +1,4 @@
--- A step shows what its entry makes of the world.
+-- A step shows what its transition makes of the state.
 use Rattle.std.proofs.Common.{◌<◌, arith}
 use Rattle.program_replay.proofs.Driving.{idle_drives, step_drives}
 use Rattle.program_replay.proofs.gates_driver.GatesDriverDriver.step.Goals as goal

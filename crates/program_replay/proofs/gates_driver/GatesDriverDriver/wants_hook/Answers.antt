@@ -1,4 +1,4 @@
--- What a task asks is what its phase asks in the world.
+-- What a task asks is what its phase asks in the state.
 use Rattle.std.proofs.Common.{◌≡◌, ◌-◌, ◌<◌, ◌∙◌, List, get_or, ap, sym, subst, arith}
 use Rattle.gate_schedules.specs.Answers.{asked_by, wanted_hook}
 use Rattle.vfs_gates.specs.TaskStates.{SeatedTask}

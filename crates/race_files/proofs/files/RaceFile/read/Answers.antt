@@ -21,7 +21,7 @@ returns-clause-core c = λ p shows.
     (IfOk-weaker c.twin.result _ Is (λ core is. subst Is (sym is) (c.gates-2.ensures p shows)) c.twin.ensures)
     c.map_err.ensures.cases c.map_err.ensures.variant c.in_ok-core.was
 
--- tasks that are idle in the core are so in the world that it shows
+-- tasks that are idle in the core are so in the state that it shows
 idle_there : (core : Memory) (p : ReplayState) → CoreShows core p.config p.world → ((t : ℕ) → t < core.config.tasks → phase_in core t ≡ None) →
     AllAreIdle p
 idle_there core p shows idle t less =

@@ -1,4 +1,4 @@
--- an event of a snapshot is noted, and one of any other operation leaves the room as it is
+-- a step of a snapshot is noted, and one of any other operation leaves the room as it is
 use Rattle.std.proofs.Common.{ap, sym, subst, ◌∙◌}
 use Rattle.std.specs.Prelude.{None}
 use Rattle.gate_world.specs.{declared.work.Phase.TheVariants.{Trees}, Views.{phase_after}, Work.{after_of}}

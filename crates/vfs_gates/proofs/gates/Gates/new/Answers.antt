@@ -1,4 +1,4 @@
--- the words are as they begin until the first event, and the first task rests
+-- the words are as they begin until the first step, and the first task rests
 use Rattle.std.proofs.Common.{refl, sym, subst, true≢false}
 use Rattle.vfs_gates.specs.{Ended.{HasOpeningWords}, TaskStates.{SeatedTask}, Held.{Rests}}
 use Rattle.vfs_gates.proofs.{Closing.{opens_so}, Resting.{first_empty}}

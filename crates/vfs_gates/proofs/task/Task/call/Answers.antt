@@ -1,4 +1,4 @@
--- a call at the tree: its beginning, its events, and what the task shows then
+-- a call at the tree: its beginning, its steps, and what the task shows then
 use Rattle.std.proofs.Common.{refl, sym, ap, ◌∙◌}
 use Rattle.access_model.specs.declared.replies.Next.TheVariants.{Done}
 use Rattle.gate_world.specs.declared.work.Phase.TheVariants.{Trees}
@@ -9,7 +9,7 @@ use Rattle.vfs_gates.specs.TaskStates.{SeatedTask, own_number}
 use Rattle.gate_steps.proofs.call_events.Running.{was_refused, was_done, told_whole}
 use Rattle.vfs_gates.proofs.task.Task.call.Goals as goal
 
--- the call, and what its events have left
+-- the call, and what its steps have left
 abbrev call : After-run_to_reply → Call
 call c =
     call_with c.args.op c.self.inside c.args.gates.now.words.config c.args.self.now c.self.view_is c.requires.from.1 c.self.invariant.0

@@ -9,7 +9,7 @@ use Rattle.gate_steps.proofs.call_events.Running.{was_told}
 use Rattle.vfs_gates.specs.TaskStates.{SeatedTask, refusal_at}
 use Rattle.vfs_gates.proofs.task.Task.create.Goals as goal
 
--- an answer that is honest tells of a node
+-- an answer that is justified tells of a node
 node_or_not : (dir : ℕ) (kind : Kind) (c : Config) (trace : List Traced) (answer : Result Reply GateError) →
     IsHonestAnswer c (Create dir kind) answer trace → IfOk (told_as the_reply answer) IsNodeReply
 node_or_not dir kind c trace (Ok reply) honest = honest

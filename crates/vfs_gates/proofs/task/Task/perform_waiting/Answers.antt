@@ -1,4 +1,4 @@
--- a call that does its events until it replies: its beginning, the events, and what the task shows then
+-- a call that does its steps until it replies: its beginning, the steps, and what the task shows then
 use Rattle.std.proofs.Common.{refl, sym, ap, ◌∙◌, [], add-zero}
 use Rattle.std.specs.Prelude.{None}
 use Rattle.access_model.specs.declared.replies.Next.TheVariants.{Done}
@@ -10,13 +10,13 @@ use Rattle.gate_steps.proofs.call_events.{Asking.{was_refused_asking, was_done_a
 use Rattle.vfs_gates.specs.TaskStates.{SeatedTask, own_number, task_state}
 use Rattle.vfs_gates.proofs.task.Task.perform_waiting.Goals as goal
 
--- the call, and what its events have left
+-- the call, and what its steps have left
 abbrev call : (g : _) → After-wait_for_reply-answer g → Call
 call g c =
     call_with c.args.op c.self.inside c.args.gates.now.words.config c.args.self.now c.self.view_is c.requires.from.1 c.self.invariant.0
     c.admit.result c.admit.ensures c.in_default.not-Err (g.P.PendingOp.as_phase c.args.first) c.requires.first
 
--- done whole, it has asked the hooks that its events read
+-- done whole, it has asked the hooks that its steps read
 asking : (g : _) (c : After-wait_for_reply-answer g) →
     CalledAsking g.H.TimedHooks.answers (call g c).op (call g c).start c.args.hooks.now
     (task_state c.wait_for_reply-answer.new.seat.table_id c.args.gates.now.words.config None None c.wait_for_reply-answer.new.seat.me.0) c.wait_for_reply-answer.result.0

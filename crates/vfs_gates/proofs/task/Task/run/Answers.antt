@@ -1,4 +1,4 @@
--- its beginning and its events
+-- its beginning and its steps
 use Rattle.std.proofs.{Common.{sym}, lemmas.Result.{err_from_is_err_and}}
 use Rattle.gate_steps.specs.call_events.Runs.{the_reply}
 use Rattle.gate_steps.proofs.call_events.Running.{was_refused, was_done, told_whole}

@@ -1,4 +1,4 @@
--- the event of its kind is the event of the operation
+-- the step of its kind is the step of the operation
 use Rattle.std.proofs.{Common.{sym, ap, ◌∙◌, refl, subst}, lemmas.Option.{none-some}}
 use Rattle.vfs_gates.specs.TaskStates.{SeatedTask}
 use Rattle.gate_steps.proofs.call_events.Running.{told_then}

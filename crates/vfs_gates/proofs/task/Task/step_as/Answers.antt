@@ -1,4 +1,4 @@
--- the fields after an event are what the seat knows after it
+-- the fields after a step are what the seat knows after it
 use Rattle.std.proofs.Common.{◌≡◌, ◌+◌, ◌∙◌, sym, ap, refl, subst}
 use Rattle.std.specs.Prelude.{Option, Some, None}
 use Rattle.access_model.specs.{declared.replies.Next.{Next}, Replies.{map_next}}

@@ -1,4 +1,4 @@
--- what comes after an event at the level, along what the phase is and what its calls ensure
+-- what comes after a step at the level, along what the phase is and what its calls ensure
 use Rattle.std.proofs.Common.{sym, ◌∙◌}
 use Rattle.composite_ops.specs.file_closes.Phases.{after, then_frees}
 use Rattle.composite_ops.proofs.file_closes.phases.ClosePhase.after.Goals as goal

@@ -1,0 +1,31 @@
+-- each load goes on from what the one before it left
+use Rattle.access_model.specs.declared.replies.Next.TheVariants.{Go}
+use Rattle.percpu_rwsem.specs.declared.writers.DownWriteStep.TheVariants.{Sums}
+use Rattle.call_ends.specs.Closings.{closing_at}
+use Rattle.gate_steps.proofs.call_events.Leading.{led_on, led_to, led_nowhere, still_stands}
+use Rattle.call_ends.proofs.Closing.{sums_on, sums_last, fewer_words}
+use Rattle.call_ends.proofs.closings.sum_counts.Goals as goal
+
+pub loop-further-init : goal.loop-further-init
+loop-further-init c = record {
+  led = led_nowhere c.args.gates.now (Go (closing_at c.args.freeze.now c.args.level (Sums c.args.sum))) c.args.accesses.now c.args.seat.now;
+}
+
+pub find-found-requires-clause-stands : goal.find-found-requires-clause-stands
+find-found-requires-clause-stands c = still_stands c.loop-further.invariant.led c.requires
+
+pub loop-further-smaller : goal.loop-further-smaller
+loop-further-smaller c = fewer_words c.loop-further.sum c.in-More.further c.find-found.result c.args.freeze.now.processors c.in-More.ensures.step
+
+pub loop-further-preserved : goal.loop-further-preserved
+loop-further-preserved c = record {
+  led = led_on c.loop-further.invariant.led
+      (led_to (sums_on c.args.freeze.now c.args.level c.loop-further.sum c.in-More.further c.find-found.result c.in-More.ensures.step)
+      c.find-found.ensures.led);
+}
+
+pub returns-in-Total : goal.returns-in-Total
+returns-in-Total c =
+    led_on c.loop-further.invariant.led
+    (led_to (sums_last c.args.freeze.now c.args.level c.loop-further.sum c.in-Total.total c.find-found.result c.in-Total.ensures.step)
+    c.find-found.ensures.led)

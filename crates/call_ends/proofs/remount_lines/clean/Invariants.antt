@@ -1,0 +1,16 @@
+-- the steps have led to the node that is next
+use Rattle.std.proofs.Common.{◌-◌}
+use Rattle.std.specs.Prelude.{None}
+use Rattle.access_model.specs.declared.replies.Next.TheVariants.{Go}
+use Rattle.mount_counts.specs.declared.remounts.RemountStep.TheVariants.{ClearsMark}
+use Rattle.call_ends.specs.Remounting.{remounting_at}
+use Rattle.gate_steps.specs.call_events.Led.{Led}
+use Rattle.call_ends.proofs.remount_lines.clean.Given as goal
+
+abbrev pub invariant-loop-next : goal.invariant-loop-next
+invariant-loop-next l = record {
+  led : Led l.fn.gates None (Go (remounting_at l.fn.remount (ClearsMark 1))) l.fn.accesses l.fn.seat (Go (remounting_at l.fn.remount (ClearsMark l.node))) l.fn.accesses l.seat;
+}
+
+abbrev pub decreases-loop-next : goal.decreases-loop-next
+decreases-loop-next l = l.fn.remount.nodes - l.node

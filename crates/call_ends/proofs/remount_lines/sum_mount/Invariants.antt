@@ -1,0 +1,16 @@
+-- the loads have led to the sum as far as it has come
+use Rattle.std.proofs.Common.{◌-◌}
+use Rattle.std.specs.Prelude.{None}
+use Rattle.access_model.specs.declared.replies.Next.TheVariants.{Go}
+use Rattle.mount_counts.specs.declared.remounts.RemountStep.TheVariants.{Sums}
+use Rattle.call_ends.specs.Remounting.{first_count, remounting_at}
+use Rattle.gate_steps.specs.call_events.Led.{Led}
+use Rattle.call_ends.proofs.remount_lines.sum_mount.Given as goal
+
+abbrev pub invariant-loop-further : goal.invariant-loop-further
+invariant-loop-further l = record {
+  led : Led l.fn.gates None (Go (remounting_at l.fn.remount (first_count l.fn.mount l.fn.held))) l.fn.accesses l.fn.seat (Go (remounting_at l.fn.remount (Sums l.fn.mount l.fn.held l.sum))) l.fn.accesses l.seat;
+}
+
+abbrev pub decreases-loop-further : goal.decreases-loop-further
+decreases-loop-further l = l.fn.remount.processors - l.sum.words

@@ -1,4 +1,0 @@
-pub mod Closing
-pub mod CallingBack
-pub mod Remounting
-pub mod Reopening

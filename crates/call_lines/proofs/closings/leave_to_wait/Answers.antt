@@ -1,7 +1,0 @@
--- the freeze that is left stands there
-use Rattle.std.proofs.Common.{ap}
-use Rattle.access_model.specs.declared.replies.Next.TheVariants.{Wait}
-use Rattle.call_lines.proofs.closings.leave_to_wait.Goals as goal
-
-pub returns : goal.returns
-returns c = ap (λ p. Wait p) c.closing.ensures

@@ -1,9 +1,0 @@
--- the exit goes on from the store
-use Rattle.gate_steps.proofs.call_events.Leading.{led_on, still_stands}
-use Rattle.call_lines.proofs.thaw_lines.reopen.Goals as goal
-
-pub exit-requires : goal.exit-requires
-exit-requires c = still_stands c.find-cleared.ensures.led c.requires
-
-pub returns : goal.returns
-returns c = led_on c.find-cleared.ensures.led c.exit.ensures
