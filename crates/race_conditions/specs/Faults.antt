@@ -2,6 +2,7 @@
 use Rattle.std.specs.Prelude.{ℕ, List, codes}
 use Rattle.race_conditions.specs.declared.faults.Expected.{Expected}
 use Rattle.race_conditions.specs.declared.faults.Expected.TheVariants.{Fact, Shallower, Close, End, Task, DotOrHolds, Call, EqualsOrDue, Answer, Code, Held, Equals, Access, Mount, Level, Stage, Holder, Node, NodeFact}
+use Rattle.race_conditions.specs.declared.faults.Expected.TheVariants.{Dot, FlagsOrCount, Count, Value}
 
 abbrev pub text_of : Expected → List ℕ
 text_of Fact = codes "a fact, '!' or '('"
@@ -23,3 +24,7 @@ text_of Stage = codes "a stage"
 text_of Holder = codes "'kernel' or 'user'"
 text_of Node = codes "a node"
 text_of NodeFact = codes "'free', 'file', 'dir', 'dirty' or 'removed'"
+text_of Dot = codes "'.'"
+text_of FlagsOrCount = codes "'flags', or 'cpu' and a processor,"
+text_of Count = codes "'cpu' and a processor"
+text_of Value = codes "a value of the word"

@@ -4,22 +4,30 @@
 --   all        one [ '&' all ]
 --   one        '!' one, '(' condition ')', or a fact
 --   fact       TASK '.' CALL 'due', or 'waits' in its place, TASK '.' CALL '=' answer, TASK 'holds' held, 'sb' '=' access,
---              'mount' MOUNT '=' access, 'stage' '=' STAGE, 'holder' holder, or 'node' NODE kind
+--              'mount' MOUNT '=' access, 'stage' '=' STAGE, 'holder' holder, 'node' NODE kind, or word '=' value
 --   answer     'ok', 'skipped', or 'refused', behind which a reason may stand: a name, or 'Hook' CODE
 --   held       'mount' MOUNT, 'level' LEVEL, or 'file' NODE
 --   access     'ro', or 'rw'
 --   holder     'kernel', or 'user'
 --   kind       'free', 'file', 'dir', 'dirty', or 'removed'
+--   word       'umount', 'holders', 'remount', 'removed', 'used', 'blockLEVEL', 'syncLEVEL', 'nodeNODE', 'kidsNODE',
+--              'mountMOUNT' '.' 'flags', 'mountMOUNT' '.' 'cpuPROCESSOR', or 'levelLEVEL' '.' 'cpuPROCESSOR'
+--   value      of each word a number, of a count also '-' and a number, and of umount 'free', or 'task' TASK,
+--              of holders 'nobody', 'kernel', 'user', or 'kernel' ',' 'user', of blockLEVEL 'open', or 'closed',
+--              of mountMOUNT.flags 'none', 'READONLY', 'HOLD', or 'READONLY' ',' 'HOLD'
 --
 -- So `!` binds most, and `&` more than `|`.
-use Rattle.std.specs.Prelude.{◌≡◌, ◌||◌, ℕ, zero, suc, nat_lt, Bool, true, false, if◌then◌else◌, List, [], ◌∷◌, codes, bytes_eq, find, Option, Some, None, Result, Ok, Err, slice_index}
+use Rattle.std.specs.Prelude.{◌≡◌, ◌||◌, ℕ, zero, suc, ◌+◌, nat_lt, Bool, true, false, if◌then◌else◌, List, [], ◌∷◌, codes, bytes_eq, find, Option, Some, None, is_some, Result, Ok, Err, slice_index, length, take, drop}
 use Rattle.access_model.specs.{Errors.{name_of}, declared.actions.Gate.TheVariants.{Mount as MountGate, Level as LevelGate}}
 use Rattle.access_model.specs.declared.{actions.Holder.{Holder, TheVariants.{Kernel, User}}, errors.GateError.{GateError}}
 use Rattle.access_model.specs.declared.errors.GateError.TheVariants.{NoEntry, Again, NoMemory, Busy, NotDir, IsDir, Invalid, TooMany, NoSpace, ReadOnly, Order, Hook}
+use Rattle.cpu_words.specs.{Touches.{wrap_sub}, declared.names.WordName.{WordName}}
+use Rattle.cpu_words.specs.declared.names.WordName.TheVariants.{Umount, Holders as HoldersWord, Remount, Removed as RemovedWord, MountFlags, MountCount}
+use Rattle.cpu_words.specs.declared.names.WordName.TheVariants.{Block, Sync, LevelCount, Used, Node as NodeWord, Kids}
 use Rattle.gate_world.specs.declared.config.Config.{Config}
 use Rattle.race_conditions.specs.{Conditions.{Formula, Is, Not, And, Or}, declared.conditions.CallAnswer.{CallAnswer}}
 use Rattle.race_conditions.specs.declared.conditions.{CallAnswer.TheVariants.{Done, Refused, RefusedFor, Skipped}, Fact.{Fact}}
-use Rattle.race_conditions.specs.declared.conditions.Fact.TheVariants.{Answered, Due, Holds, HasOpen, Superblock, Mount, Stage, FrozenBy, Node}
+use Rattle.race_conditions.specs.declared.conditions.Fact.TheVariants.{Answered, Due, Holds, HasOpen, Superblock, Mount, Stage, FrozenBy, Node, Word}
 use Rattle.race_conditions.specs.declared.conditions.NodeFact.{NodeFact, TheVariants.{Free, File, Dir, Dirty, Removed}}
 use Rattle.race_conditions.specs.{Pieces.{end_of, is_next, piece_at, unexpected}, declared.faults.ConditionFault.{ConditionFault}}
 use Rattle.race_conditions.specs.declared.faults.ConditionFault.TheVariants.{Unexpected as IsUnexpected, NoMemory as OutOfMemory}
@@ -56,6 +64,10 @@ abbrev pub between : ℕ → ℕ → Option ℕ → Option ℕ
 between least limit None = None
 between least limit (Some n) = if nat_lt n least then None else if nat_lt n limit then Some n else None
 
+-- the number that a piece has behind this beginning
+abbrev pub numbered : List ℕ → List ℕ → Option ℕ
+numbered beginning piece = if bytes_eq (take (length beginning) piece) beginning then number_of (drop (length beginning) piece) else None
+
 -- the reasons that have no code
 abbrev pub reasons : List GateError
 reasons = NoEntry ∷ Again ∷ NoMemory ∷ Busy ∷ NotDir ∷ IsDir ∷ Invalid ∷ TooMany ∷ NoSpace ∷ ReadOnly ∷ Order ∷ []
@@ -72,6 +84,10 @@ module _ (text : List ℕ) where
 
   unfoldable pub number_at : ℕ → ℕ → ℕ → Expected → Read ℕ
   number_at least limit at expected = stands_for expected at (between least limit (number_of (piece_at text at)))
+
+  -- this beginning and, in the same piece, a number from here up to below there
+  unfoldable pub index_at : List ℕ → ℕ → ℕ → ℕ → Expected → Read ℕ
+  index_at beginning least limit at expected = stands_for expected at (between least limit (numbered beginning (piece_at text at)))
 
   -- this piece
   unfoldable pub after_piece : List ℕ → ℕ → Expected → Result ℕ Unexpected
@@ -150,7 +166,134 @@ module _ (text : List ℕ) where
     holder ← holder_at at
     Ok (FrozenBy holder.0, holder.1)
 
+  -- the value of a word: a number
+  unfoldable pub plain_at : ℕ → Read ℕ
+  plain_at at = stands_for expect.Value at (number_of (piece_at text at))
+
+  -- behind `-`: 0 less a number, as a word has it
+  unfoldable pub negative_at : ℕ → Read ℕ
+  negative_at at = do
+    number ← plain_at at
+    Ok (wrap_sub 0 number.0, number.1)
+
+  unfoldable pub count_at : ℕ → Read ℕ
+  count_at at = if is_next text at (codes "-") then negative_at (end_of text at) else plain_at at
+
+  unfoldable pub block_at : ℕ → Read ℕ
+  block_at at =
+      if is_next text at (codes "open") then Ok (0, end_of text at) else
+      if is_next text at (codes "closed") then Ok (1, end_of text at) else plain_at at
+
+  -- behind the name of the first of two bits and `,`: the name of the second one
+  unfoldable pub both_bits_at : List ℕ → ℕ → Read ℕ
+  both_bits_at second at = do
+    behind ← after_piece second at expect.Value
+    Ok (3, behind)
+
+  -- behind the name of the first of two bits: it alone, or both
+  unfoldable pub first_bit_at : List ℕ → ℕ → Read ℕ
+  first_bit_at second at = if is_next text at (codes ",") then both_bits_at second (end_of text at) else Ok (1, at)
+
+  -- the names of two bits, or of none
+  unfoldable pub bits_at : List ℕ → List ℕ → List ℕ → ℕ → Read ℕ
+  bits_at none first second at =
+      if is_next text at none then Ok (0, end_of text at) else
+      if is_next text at first then first_bit_at second (end_of text at) else
+      if is_next text at second then Ok (2, end_of text at) else plain_at at
+
   module _ (c : Config) where
+    -- behind `task`: as a lock's word has its owner
+    unfoldable pub owner_at : ℕ → Read ℕ
+    owner_at at = do
+      owner ← number_at 0 c.tasks at expect.Task
+      Ok (owner.0 + 1, owner.1)
+
+    unfoldable pub lock_at : ℕ → Read ℕ
+    lock_at at =
+        if is_next text at (codes "free") then Ok (0, end_of text at) else
+        if is_next text at (codes "task") then owner_at (end_of text at) else plain_at at
+
+    -- the value of this word
+    unfoldable pub value_at : WordName → ℕ → Read ℕ
+    value_at Umount at = lock_at at
+    value_at HoldersWord at = bits_at (codes "nobody") (codes "kernel") (codes "user") at
+    value_at (MountFlags m) at = bits_at (codes "none") (codes "READONLY") (codes "HOLD") at
+    value_at (MountCount m p) at = count_at at
+    value_at (Block i) at = block_at at
+    value_at (LevelCount i p) at = count_at at
+    value_at name at = plain_at at
+
+    -- behind `mountMOUNT .`
+    unfoldable pub mount_count_at : ℕ → ℕ → Read WordName
+    mount_count_at m at = do
+      cpu ← index_at (codes "cpu") 0 c.processors at expect.FlagsOrCount
+      Ok (MountCount m cpu.0, cpu.1)
+
+    unfoldable pub mount_field_at : ℕ → ℕ → Read WordName
+    mount_field_at m at = if is_next text at (codes "flags") then Ok (MountFlags m, end_of text at) else mount_count_at m at
+
+    unfoldable pub mount_word_at : ℕ → Read WordName
+    mount_word_at at = do
+      mount ← index_at (codes "mount") 0 c.mounts at expect.Mount
+      dot ← after_piece (codes ".") mount.1 expect.Dot
+      mount_field_at mount.0 dot
+
+    unfoldable pub level_word_at : ℕ → Read WordName
+    level_word_at at = do
+      level ← index_at (codes "level") 1 4 at expect.Level
+      dot ← after_piece (codes ".") level.1 expect.Dot
+      cpu ← index_at (codes "cpu") 0 c.processors dot expect.Count
+      Ok (LevelCount level.0 cpu.0, cpu.1)
+
+    unfoldable pub block_word_at : ℕ → Read WordName
+    block_word_at at = do
+      level ← index_at (codes "block") 1 4 at expect.Level
+      Ok (Block level.0, level.1)
+
+    unfoldable pub sync_word_at : ℕ → Read WordName
+    sync_word_at at = do
+      level ← index_at (codes "sync") 1 4 at expect.Level
+      Ok (Sync level.0, level.1)
+
+    unfoldable pub node_word_at : ℕ → Read WordName
+    node_word_at at = do
+      node ← index_at (codes "node") 0 c.nodes at expect.Node
+      Ok (NodeWord node.0, node.1)
+
+    unfoldable pub kids_word_at : ℕ → Read WordName
+    kids_word_at at = do
+      node ← index_at (codes "kids") 0 c.nodes at expect.Node
+      Ok (Kids node.0, node.1)
+
+    -- this beginning and, in the same piece, some number
+    abbrev pub is_numbered : List ℕ → ℕ → Bool
+    is_numbered beginning at = is_some (numbered beginning (piece_at text at))
+
+    -- a word of which there are several
+    unfoldable pub numbered_word_at : ℕ → Read WordName
+    numbered_word_at at =
+        if is_numbered (codes "mount") at then mount_word_at at else
+        if is_numbered (codes "level") at then level_word_at at else
+        if is_numbered (codes "block") at then block_word_at at else
+        if is_numbered (codes "sync") at then sync_word_at at else
+        if is_numbered (codes "node") at then node_word_at at else
+        if is_numbered (codes "kids") at then kids_word_at at else Err (unexpected text at expect.Fact)
+
+    unfoldable pub word_at : ℕ → Read WordName
+    word_at at =
+        if is_next text at (codes "umount") then Ok (Umount, end_of text at) else
+        if is_next text at (codes "holders") then Ok (HoldersWord, end_of text at) else
+        if is_next text at (codes "remount") then Ok (Remount, end_of text at) else
+        if is_next text at (codes "removed") then Ok (RemovedWord, end_of text at) else
+        if is_next text at (codes "used") then Ok (Used, end_of text at) else numbered_word_at at
+
+    unfoldable pub word_fact_at : ℕ → Read Fact
+    word_fact_at at = do
+      word ← word_at at
+      equals ← after_piece (codes "=") word.1 expect.Equals
+      value ← value_at word.0 equals
+      Ok (Word word.0 value.0, value.1)
+
     unfoldable pub mount_fact_at : ℕ → Read Fact
     mount_fact_at at = do
       mount ← number_at 0 c.mounts at expect.Mount
@@ -212,7 +355,7 @@ module _ (text : List ℕ) where
           if is_next text at (codes "mount") then mount_fact_at (end_of text at) else
           if is_next text at (codes "stage") then stage_fact_at (end_of text at) else
           if is_next text at (codes "holder") then holder_fact_at (end_of text at) else
-          if is_next text at (codes "node") then node_fact (end_of text at) else Err (unexpected text at expect.Fact)
+          if is_next text at (codes "node") then node_fact (end_of text at) else word_fact_at at
 
       -- a condition of each rank, where one that is a part of it is read so
       module _ (part : Rank → ℕ → Read Formula) where

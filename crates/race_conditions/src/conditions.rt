@@ -1,6 +1,7 @@
 //! What is said of a state.
 
 use access_model::{Gate, GateError, Holder};
+use cpu_words::WordName;
 
 /// How a call has answered, or that it was skipped.
 #[derive(Clone, Copy)]
@@ -28,8 +29,8 @@ pub enum NodeFact {
     Removed,
 }
 
-/// A fact of a state: of what the calls have answered, or of what the gates show. None of them speaks of how often a section was entered,
-/// which a state of a race leaves out.
+/// A fact of a state: of what the calls have answered, of what the gates show, or of a word. None of them speaks of how often a section was
+/// entered, which a state of a race leaves out.
 #[derive(Clone, Copy)]
 pub enum Fact {
     /// A task's call has answered so; calls count from 0.
@@ -71,6 +72,11 @@ pub enum Fact {
     Node {
         node: u8,
         is: NodeFact,
+    },
+    /// A word has this value.
+    Word {
+        word: WordName,
+        value: u64,
     },
 }
 

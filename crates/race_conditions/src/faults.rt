@@ -46,6 +46,14 @@ pub enum Expected {
     Node,
     /// `free`, `file`, `dir`, `dirty` or `removed`.
     NodeFact,
+    /// `.`.
+    Dot,
+    /// `flags`, or `cpu` and a processor of the configuration, as in `cpu0`.
+    FlagsOrCount,
+    /// `cpu` and a processor of the configuration.
+    Count,
+    /// A value of the word.
+    Value,
 }
 
 impl Expected {
@@ -73,6 +81,10 @@ impl Expected {
             Expected::Holder => "'kernel' or 'user'",
             Expected::Node => "a node",
             Expected::NodeFact => "'free', 'file', 'dir', 'dirty' or 'removed'",
+            Expected::Dot => "'.'",
+            Expected::FlagsOrCount => "'flags', or 'cpu' and a processor,",
+            Expected::Count => "'cpu' and a processor",
+            Expected::Value => "a value of the word",
         }
     }
 }

@@ -17,12 +17,13 @@ pub mod state_at;
 pub mod systems;
 pub mod verdicts;
 pub mod views;
+mod word_facts;
 
 pub use claim_text::parse_claim;
 pub use claims::{Claim, ClaimKind};
 pub use conditions::{CallAnswer, Condition, Fact, NodeFact};
 pub use faults::{ConditionFault, Expected, Unexpected};
 pub use parsing::{Names, parse};
-pub use searching::race_ends;
+pub use searching::{open_marks, race_ends};
 pub use verdicts::{Verdict, judge};
 pub use views::StateView;

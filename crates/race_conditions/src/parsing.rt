@@ -9,6 +9,7 @@ ghost use Rattle.race_conditions.specs.Parsing.{access_at, after_piece, answer_a
 
 use crate::faults::{ConditionFault, Expected, Unexpected};
 use crate::pieces::{end_of, is_next, piece_at, unexpected};
+use crate::word_facts::word_fact_at;
 use crate::{CallAnswer, Condition, Fact, NodeFact};
 use access_model::{Gate, GateError, Holder};
 use gate_world::Config;
@@ -186,7 +187,7 @@ fn fact_at(names: &Names, text: &[u8], at: usize) -> Result<(Fact, usize), Unexp
     } else if is_next(text, at, "node") {
         node_fact(names, text, end_of(text, at))
     } else {
-        Err(unexpected(text, at, Expected::Fact))
+        word_fact_at(names.config, text, at)
     }
 }
 
@@ -445,7 +446,7 @@ fn node_fact(names: &Names, text: &[u8], at: usize) -> Result<(Fact, usize), Une
 
 /// Reads a number that is at least the one and below the other.
 #[tactic(auto, unfolding(crate::specs::Parsing::number_at))]
-fn number_at(
+pub(crate) fn number_at(
     text: &[u8],
     least: u8,
     limit: u8,
@@ -464,7 +465,12 @@ fn number_at(
 
 /// Reads this piece.
 #[tactic(auto, unfolding(crate::specs::Parsing::after_piece))]
-fn after_piece(text: &[u8], piece: &str, at: usize, expected: Expected) -> Result<usize, Unexpected>
+pub(crate) fn after_piece(
+    text: &[u8],
+    piece: &str,
+    at: usize,
+    expected: Expected,
+) -> Result<usize, Unexpected>
     ensures { result ≡ after_piece text.now piece.now at expected }
 {
     if is_next(text, at, piece) {
