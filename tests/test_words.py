@@ -49,11 +49,6 @@ EXCEPT = {
     "replay_forms/src/screen.rt": r"event",
     "schedule_lines/src/names.rt": r"events?",
 }
-# The comments of these are still to be rewritten.
-LATER = (
-    "histories/",
-    "history_files/",
-)
 DOC = re.compile(r"\s*//[/!] ?(.*)")
 REMARK = {".rt": re.compile(r"(?:.*\s)?// (.*)"), ".antt": re.compile(r"\s*-- ?(.*)")}
 
@@ -87,7 +82,7 @@ def files_of(crates):
         for part in ("src", "specs", "proofs"):
             for path in glob.glob(f"{ROOT}/crates/{crate}/{part}/**/*", recursive=True):
                 name = os.path.relpath(path, f"{ROOT}/crates")
-                if path.endswith(tuple(REMARK)) and not name.startswith(LATER):
+                if path.endswith(tuple(REMARK)):
                     yield path
 
 

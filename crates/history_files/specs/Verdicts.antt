@@ -6,7 +6,7 @@ use Rattle.histories.specs.{Executions.{HasMost, IsAdmitted}, declared.markers.M
 use Rattle.history_files.specs.Files.{IsHistoryIn}
 use Rattle.schedule_lines.specs.{Printed.{Prints}, declared.output.Output.{Output}}
 
--- On this core some execution has all markers, whatever world the core shows.
+-- On this core some execution has all markers, whatever state the core shows.
 abbrev pub IsPossible : Memory → List Marker → Type 0
 IsPossible core markers = (w : World) → Represents core w → IsAdmitted core.config markers w
 

@@ -1,14 +1,8 @@
 //! The execution that leads to the first line of a history that can't be.
 
-ghost use Rattle.std.specs.Prelude.{◌≡◌, ◌<◌, ◌≤◌, ◌+◌, length};
-ghost use Rattle.exploration.specs.Tables.{IsTable};
-ghost use Rattle.histories.specs.Eager.{next_eager};
-
 use crate::players::Player;
 use crate::verdicts::Verdict;
 use crate::{HistorySource, Notes, line_at};
-use exploration::trace;
-use histories::Played;
 use race_files::Lines;
 use schedule_text::Output;
 use std::alloc::AllocError;
@@ -24,17 +18,9 @@ pub fn put_execution(
     notes: &Notes,
     verdict: &Verdict,
     text: &mut Output,
-) -> Result<(), AllocError>
-    requires table { IsTable (next_eager verdict.now.history.tasks verdict.now.history.markers.items) (verdict.now.history.tasks + 1)
-        verdict.now.judged.found.states verdict.now.judged.found.origins.items verdict.now.judged.found.edges.items }
-    requires within { verdict.now.judged.farthest < length verdict.now.judged.found.states }
-{
+) -> Result<(), AllocError> {
     let Verdict { history, judged } = verdict;
-    let played = Played {
-        history,
-        alloc: source.alloc,
-    };
-    let movers = trace(source.alloc, &played, &judged.found, judged.farthest)?;
+    let movers = judged.movers(source.alloc)?;
     text.text(source.set_up_lines());
     let mut player = Player::new(source, history.tasks())?;
     let mut lines = Lines::new(source.bytes);

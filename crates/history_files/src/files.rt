@@ -112,7 +112,7 @@ fn set_up(alloc: Global, before: &[u8]) -> Result<Core, ReplayFault>
     Ok(file.core)
 }
 
-/// The same lines, and behind them the line `race`.
+/// Returns these lines, and behind them the line `race`.
 pub(crate) fn with_race(alloc: Global, before: &[u8]) -> Result<Output, AllocError>
     ensures { IfOk result (λ race. race.bytes.items ≡ before.now ++ codes "race\n") }
 {

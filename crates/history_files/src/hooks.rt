@@ -33,7 +33,7 @@ pub fn failure_of(words: &[u8]) -> Result<HookFailure, Fault>
     }
 }
 
-/// The same operations, in each of which a hook fails.
+/// Returns these operations, in each of which the hook fails.
 ///
 /// # Errors
 ///
@@ -50,7 +50,7 @@ pub fn failing(
     Ok(all_failing(*calls, failure))
 }
 
-/// The same operations, in each of which a hook fails.
+/// Returns these operations, in each of which the hook fails.
 fn all_failing(mut row: [Option<Call>; CALLS], failure: HookFailure) -> [Option<Call>; CALLS]
     ensures { result ≡ failing_from 8 0 failure row }
 {
@@ -77,7 +77,7 @@ fn fails(call: Option<Call>) -> bool
     }
 }
 
-/// The same operation, in which this hook fails.
+/// Returns this operation, in which the hook fails.
 fn with_failure(call: Option<Call>, failure: HookFailure) -> Option<Call>
     ensures { result ≡ with_failure failure call }
 {

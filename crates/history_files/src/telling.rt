@@ -1,8 +1,6 @@
 //! What is told of a verdict.
 
 ghost use Rattle.std.specs.Prelude.{◌≡◌, ◌<◌, ◌≤◌, ◌+◌, ◌++◌, None, IfOk, IfSome, codes, decimal, length, slice_index_or};
-ghost use Rattle.exploration.specs.Tables.{IsTable};
-ghost use Rattle.histories.specs.Eager.{next_eager};
 ghost use Rattle.schedule_lines.specs.Printed.{Prints};
 
 use crate::executions::put_execution;
@@ -58,9 +56,6 @@ pub fn tell<'a>(
     notes: &Notes,
     verdict: &Verdict,
 ) -> Result<Told, AllocError>
-    requires table { IsTable (next_eager verdict.now.history.tasks verdict.now.history.markers.items) (verdict.now.history.tasks + 1)
-        verdict.now.judged.found.states verdict.now.judged.found.origins.items verdict.now.judged.found.edges.items }
-    requires within { verdict.now.judged.farthest < length verdict.now.judged.found.states }
     ensures possible { IfOk result (λ told. told.fault ≡ None → length verdict.now.history.markers.items ≤ verdict.now.judged.passed) }
     ensures impossible { IfOk result (λ told. IfSome told.fault (λ fault. verdict.now.judged.passed < length verdict.now.history.markers.items)) }
     ensures line { IfOk result (λ told. IfSome told.fault (λ fault. fault.line ≡ slice_index_or notes.now.lines.items verdict.now.judged.passed 0)) }
@@ -109,7 +104,7 @@ fn put_possible(notes: &Notes, verdict: &Verdict, text: &mut Output) {
     text.text(b"possible: ");
     put_count(notes.calls, b" call", text);
     text.text(b"; ");
-    put_count(verdict.judged.found.states.len() as u64, b" state", text);
+    put_count(verdict.judged.found() as u64, b" state", text);
     text.text(b"\n");
 }
 
@@ -185,7 +180,7 @@ impl Before {
     /// Finds it among all states of a verdict.
     fn of(alloc: Global, verdict: &Verdict) -> Result<Before, AllocError> {
         let Verdict { history, judged } = verdict;
-        let states = &judged.found.states;
+        let states = judged.states();
         let played = Played { history, alloc };
         let task = match history.markers().get(judged.passed as usize) {
             Some(marker) => marker.task(),

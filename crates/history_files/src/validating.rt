@@ -1,8 +1,6 @@
 //! The validation of a text.
 
-ghost use Rattle.std.specs.Prelude.{◌≡◌, ◌+◌, ◌<◌, ◌≤◌, None, IfErr, IfOk, IfSome, OnOk, length, slice_index_or};
-ghost use Rattle.exploration.specs.Tables.{IsTable};
-ghost use Rattle.histories.specs.Eager.{next_eager};
+ghost use Rattle.std.specs.Prelude.{◌≡◌, ◌<◌, ◌≤◌, None, IfErr, IfOk, IfSome, OnOk, length, slice_index_or};
 ghost use Rattle.history_files.specs.Unjudged.{IsUnjudged};
 ghost use Rattle.history_files.specs.Verdicts.{HasPossible, IsImpossibleAt, TellsVerdict};
 
@@ -42,9 +40,6 @@ fn judge_file<W: Observer>(
     limit: usize,
     watch: &mut W,
 ) -> Result<JudgedFile, Unvalidated>
-    ensures table { IfOk result (λ file. IsTable (next_eager file.verdict.history.tasks file.verdict.history.markers.items) (file.verdict.history.tasks + 1)
-        file.verdict.judged.found.states file.verdict.judged.found.origins.items file.verdict.judged.found.edges.items) }
-    ensures within { IfOk result (λ file. file.verdict.judged.farthest < length file.verdict.judged.found.states) }
     ensures possible { IfOk result (λ file. length file.verdict.history.markers.items ≤ file.verdict.judged.passed → HasPossible bytes.now) }
     ensures impossible { IfOk result (λ file. file.verdict.judged.passed < length file.verdict.history.markers.items →
         IsImpossibleAt bytes.now (slice_index_or file.notes.lines.items file.verdict.judged.passed 0)) }

@@ -1,8 +1,6 @@
 //! The verdict on a history.
 
-ghost use Rattle.std.specs.Prelude.{◌≡◌, ◌<◌, ◌≤◌, ◌+◌, true, false, IfOk, length};
-ghost use Rattle.exploration.specs.Tables.{IsTable};
-ghost use Rattle.histories.specs.Eager.{next_eager};
+ghost use Rattle.std.specs.Prelude.{◌≡◌, ◌<◌, ◌≤◌, true, false, IfOk, length};
 ghost use Rattle.history_files.specs.Verdicts.{IsImpossible, IsPossible};
 
 use crate::unjudged::Unjudged;
@@ -27,12 +25,12 @@ impl Verdict {
         self.judged.passed as usize >= self.history.markers().len()
     }
 
-    /// Returns whether the search came far enough for a verdict: some execution has the whole history, or all states were found.
+    /// Returns whether the search came far enough for a verdict: some execution has the whole history, or none has more of it.
     fn is_known(&self) -> bool
         ensures { result ≡ true → self.now.judged.passed < length self.now.history.markers.items →
-            self.now.judged.found.expanded ≡ length self.now.judged.found.origins.items }
+            self.now.judged.is_most ≡ true }
     {
-        self.is_possible() || self.judged.found.is_whole()
+        self.is_possible() || self.judged.is_most
     }
 }
 
@@ -48,9 +46,6 @@ pub fn verdict_of<W: Observer>(
     limit: usize,
     watch: &mut W,
 ) -> Result<Verdict, Unjudged>
-    ensures table { IfOk result (λ verdict. IsTable (next_eager verdict.history.tasks verdict.history.markers.items) (verdict.history.tasks + 1)
-        verdict.judged.found.states verdict.judged.found.origins.items verdict.judged.found.edges.items) }
-    ensures within { IfOk result (λ verdict. verdict.judged.farthest < length verdict.judged.found.states) }
     ensures markers { IfOk result (λ verdict. verdict.history.markers.items ≡ markers.items) }
     ensures possible { IfOk result (λ verdict. length markers.items ≤ verdict.judged.passed → IsPossible core.now markers.items) }
     ensures impossible { IfOk result (λ verdict. verdict.judged.passed < length markers.items → IsImpossible core.now markers.items verdict.judged.passed) }

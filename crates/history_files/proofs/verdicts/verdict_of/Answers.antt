@@ -13,4 +13,4 @@ returns-then-is_known-clause-impossible g c = λ some.
     let same : length c.in-Ok.history.markers.items ≡ length c.args.markers.items = ap (λ (m : List Marker). length m) c.in-Ok.ensures.markers in
     let less : c.in-Ok-judge_history.judged.passed < length c.in-Ok.history.markers.items = omega (arith, some, same) in
     is_impossible c.args.core.now c.in-Ok.history.markers.items c.args.markers.items c.in-Ok.ensures.markers c.in-Ok-judge_history.judged.passed
-    (c.in-Ok-judge_history.ensures.most (c.is_known.ensures c.if-is_known.true less ∙ c.in-Ok-judge_history.ensures.table.lengths)) some
+    (c.in-Ok-judge_history.ensures.most (c.is_known.ensures c.if-is_known.true less)) some
