@@ -9,8 +9,8 @@ use Rattle.gate_world.specs.{Worlds.{World, begin_refusal, happens, run, opening
 use Rattle.gate_world.specs.declared.entries.Entry.{TheVariants.{Begins}}
 use Rattle.gate_schedules.proofs.schedules.{Beginnings.{refusal_agree, may_begin, first_fits, ok_means, err_means}, Runs.run_more}
 use Rattle.gate_core.proofs.Each.{seat_cases}
-use Rattle.gate_schedules.specs.{Answers.{unless_refused, begin_answer}, TaskStates.{task_holdings}}
-use Rattle.gate_schedules.specs.declared.task_states.TaskState.{TaskState}
+use Rattle.gate_transitions.specs.{Answers.{unless_refused, begin_answer}, TaskStates.{task_holdings}}
+use Rattle.gate_transitions.specs.declared.task_states.TaskState.{TaskState}
 use Rattle.gate_core.specs.{Memory.{Memory, Represents, IsSound, no_seat, seat_of}, Moves.{refusal_in, begun_of, begun}}
 
 module _ (memory : Memory) (sound : IsSound memory) (t : ℕ) (lt : t < memory.config.tasks)

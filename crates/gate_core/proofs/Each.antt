@@ -1,7 +1,7 @@
 -- One task's record among all.
 use Rattle.std.proofs.{Common.{◌≡◌, ℕ, ◌<◌, List, length, sym, subst, inl, inr, get_or-set_same, get_or-set_other}, lemmas.Bool.Decides.eqb_tells}
 use Rattle.std.specs.Prelude.{slice_index_or, slice_set}
-use Rattle.gate_schedules.specs.declared.task_states.TaskState.{TaskState}
+use Rattle.gate_transitions.specs.declared.task_states.TaskState.{TaskState}
 use Rattle.gate_core.specs.Memory.{no_seat}
 
 -- what holds of one record that is written and of each other one holds of each

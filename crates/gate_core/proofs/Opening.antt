@@ -4,7 +4,7 @@ use Rattle.std.specs.Prelude.{None, slice_index_or, replicate}
 use Rattle.cpu_words.{proofs.Places.opening_listed, specs.{Lists.AreOpening, Names.words_in_all}}
 use Rattle.gate_world.specs.{Configs.{IsWithin, extents_kept}, Fits.Fits, Holdings.{Agree, holdings_of}, Worlds.opening, declared.config.Config.Config}
 use Rattle.gate_schedules.proofs.frames.Places.{are_few}
-use Rattle.gate_schedules.specs.{TaskStates.{idle_task, task_holdings}, declared.task_states.TaskState.{TaskState}}
+use Rattle.gate_transitions.specs.{TaskStates.{idle_task, task_holdings}, declared.task_states.TaskState.{TaskState}}
 use Rattle.gate_core.specs.Memory.{Memory, Represents, IsSound, no_seat}
 
 -- a list of one value has it at each place, and past its end where it is the default

@@ -14,8 +14,8 @@ use Rattle.gate_world.specs.declared.{accesses.Accesses.Accesses, config.Config.
 use Rattle.gate_schedules.proofs.frames.{Accesses.{holdings_of_after, long_after, wide_after, deep_after, agree_after}, Agreeing.{agree_self, agree_sym}}
 use Rattle.gate_schedules.proofs.{frames.Places.are_few, schedules.{Phases.{word_there, word_placed, action_fits, fits_after, fits_agree}, Runs.run_more}}
 use Rattle.gate_core.proofs.Each.{seat_cases}
-use Rattle.gate_schedules.specs.{Answers.{progress_of, step_answer}, TaskStates.{task_holdings}, declared.task_states.TaskState.{TaskState}}
-use Rattle.gate_schedules.specs.declared.steps.{Progress.{Progress}, Step.{Step}}
+use Rattle.gate_transitions.specs.{Answers.{progress_of, step_answer}, TaskStates.{task_holdings}, declared.task_states.TaskState.{TaskState}}
+use Rattle.gate_transitions.specs.declared.steps.{Progress.{Progress}, Step.{Step}}
 use Rattle.gate_core.specs.Memory.{Memory, Represents, IsSound, no_seat, seat_of}
 use Rattle.gate_core.specs.{Moves.{phase_in, stepped_of, stepped, progress_by, progress_in}, Stepped.{IsStep}}
 

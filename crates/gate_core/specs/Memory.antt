@@ -3,7 +3,7 @@ use Rattle.std.specs.Prelude.{◌≡◌, ℕ, ◌<◌, None, List, [], length, s
 use Rattle.cpu_words.specs.{declared.names.WordName.{WordName}, Names.{IsWord, place, words_in_all}, Words.{read}}
 use Rattle.gate_world.specs.{declared.config.Config.{Config}, Configs.{IsWithin, extents_kept}, Holdings.{Agree}, Views.{held_of}}
 use Rattle.gate_world.specs.{Worlds.{World, run, opening}, declared.entries.Entry.{Entry}, Fits.{Fits}}
-use Rattle.gate_schedules.specs.{declared.task_states.TaskState.{TaskState}, TaskStates.{task_holdings}}
+use Rattle.gate_transitions.specs.{declared.task_states.TaskState.{TaskState}, TaskStates.{task_holdings}}
 
 -- the fields of the core
 pub record Memory : Type 0 where

@@ -5,8 +5,8 @@ use Rattle.cpu_words.specs.{Hooks.HookAnswer, Names.place, Touches.{left, found_
 use Rattle.freeze_levels.specs.declared.hooks.HookKind.{HookKind}
 use Rattle.gate_world.specs.{Accesses.accesses_after, Beginnings.{first_phase, refusal}, Views.phase_after, Work.{next_of, after_of}}
 use Rattle.gate_world.specs.declared.{operations.Op.Op, work.Phase.Phase}
-use Rattle.gate_schedules.specs.{Answers.{progress_of, asked_by}, TaskStates.{task_holdings}, declared.steps.Progress.{Progress}}
-use Rattle.gate_schedules.specs.declared.steps.Progress.TheVariants.{Idle}
+use Rattle.gate_transitions.specs.{Answers.{progress_of, asked_by}, TaskStates.{task_holdings}, declared.steps.Progress.{Progress}}
+use Rattle.gate_transitions.specs.declared.steps.Progress.TheVariants.{Idle}
 use Rattle.gate_core.specs.Memory.{Memory, seat_of}
 
 -- the phase of a task, of an idle one or none that is there None

@@ -2,7 +2,7 @@
 use Rattle.std.specs.Prelude.{◌≡◌, ℕ}
 use Rattle.cpu_words.specs.Hooks.{HookAnswer}
 use Rattle.gate_world.specs.{Worlds.{World, happens}, declared.entries.Entry.TheVariants.{Steps}}
-use Rattle.gate_schedules.specs.{Answers.{step_answer}, declared.steps.Step.{Step}}
+use Rattle.gate_transitions.specs.{Answers.{step_answer}, declared.steps.Step.{Step}}
 use Rattle.gate_core.specs.{Memory.{Memory, Represents}, Moves.{stepped, progress_in}}
 
 -- A task's next step makes the second memory of the first: it is that of the task's phase, shows what the transition makes of each state that

@@ -4,7 +4,7 @@ use crate::machine::Core;
 use access_model::GateError;
 use cpu_words::WordName;
 use freeze_levels::HookKind;
-use gate_schedules::{Driver, Step};
+use gate_transitions::{Driver, Step};
 use gate_world::{Config, Op};
 use std::alloc::Global;
 

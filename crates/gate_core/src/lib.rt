@@ -5,8 +5,7 @@
 mod drivers;
 pub mod machine;
 
-pub use gate_schedules::{
-    Driver, Progress, Step, TaskState, every_schedule, every_schedule_keeps_the_rule,
-};
+pub use gate_schedules::{every_schedule, every_schedule_keeps_the_rule};
+pub use gate_transitions::{Driver, Progress, Step, TaskState};
 pub use gate_world::{Accesses, Config, Op};
 pub use machine::{Core, words_at_start};

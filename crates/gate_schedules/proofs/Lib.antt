@@ -1,5 +1,4 @@
 pub mod Prelude
-pub mod same_phases
 pub mod frames
 pub mod traces
 pub mod mounts

@@ -1,5 +1,3 @@
-pub mod TaskStates
-pub mod Answers
 pub mod Frozen
 pub mod Leads
 pub mod operations

@@ -1,6 +1,5 @@
 //! Whole executions, and what holds of each of them: the theorem (`schedules`); below it the laws of all operations (`operations`) and of the
-//! calls at the tree (`trees`). What a step tells (`steps`), what is kept of a task between its steps (`task_states`), and what moves the gates of a
-//! execution (`Driver`), by whatever program does them.
+//! calls at the tree (`trees`).
 //!
 //! In `proofs` a folder says what its lemmas are of:
 //!
@@ -10,21 +9,15 @@
 //!   `AllOperations` knows them all. `deadlocks`: who comes to a reply, and who is blocked.
 //! - `mounts`, `levels`, `writers` (freezes and thaws at a level), `trees/worlds`: what several operations do there; `trees`: the tree alone.
 //! - `frames`: what a step leaves alone, conjunct by conjunct of the invariant, and what the owner of `umount` relies on.
-//! - `traces`: what a trace tells from step to step. `same_phases`: phases that compare equal are the same.
+//! - `traces`: what a trace tells from step to step.
 //!
 //! In the folder of an operation a file says what it proves: `Events`, that each step keeps the invariant (a want's loads are in `Loads`); `Parts`,
 //! what a step leaves of each part; `Runs`, what it is of each level; `Fits`, what comes after it; `Trace`, what a trace tells; `Causes` and
 //! `Waits`, why a call is refused or waits; `Progress`, that steps come nearer to the reply; `Laws`, all of these as one value.
 #![tactic(auto)]
 
-pub mod drivers;
 pub mod operations;
 pub mod schedules;
-pub mod steps;
-pub mod task_states;
 pub mod trees;
 
-pub use drivers::Driver;
 pub use schedules::{every_schedule, every_schedule_keeps_the_rule};
-pub use steps::{Progress, Step};
-pub use task_states::TaskState;

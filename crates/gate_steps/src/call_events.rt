@@ -8,7 +8,7 @@ mod turns;
 mod words;
 
 pub use crate::{Closed, StepPlay, index_of, word_of};
-pub use gate_schedules::{Progress, Step, TaskState};
+pub use gate_transitions::{Progress, Step, TaskState};
 pub use hooks::TimedHooks;
 pub use turns::{StepResult, do_event, find, find_asking, find_first, step_once};
 pub use words::{GateWords, GhostSeat};

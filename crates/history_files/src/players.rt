@@ -3,7 +3,7 @@
 use crate::{HistorySource, Operations};
 use access_model::{GateError, Reply};
 use gate_core::Core;
-use gate_schedules::Progress;
+use gate_transitions::Progress;
 use histories::Marker;
 use race_files::Calls;
 use races::{CALLS, Call, CallAnswers, call_in};

@@ -8,7 +8,7 @@ ghost use Rattle.transcripts.specs.Sessions.{ShowsPlayIfAny};
 ghost use Rattle.transcripts.specs.Transcript.{ReplayState, line_effect};
 
 use crate::player::{Player, print_line};
-use gate_schedules::Driver;
+use gate_transitions::Driver;
 use schedule_text::{Fault, Line, Output, Request};
 use std::alloc::{AllocError, Global};
 use transcripts::Session;

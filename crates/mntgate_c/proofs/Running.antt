@@ -3,7 +3,7 @@ use Rattle.std.proofs.Common.{◌≡◌, ℕ, zero, suc, refl, sym, ap, ◌∙�
 use Rattle.std.specs.Prelude.{Some, None, Ok}
 use Rattle.access_model.specs.declared.replies.Next.{Next, TheVariants.{Go, Wait, Done}}
 use Rattle.cpu_words.specs.{Hooks.{HookAnswer}, Touches.{found_by}}
-use Rattle.gate_schedules.specs.{Answers.{asked_by, progress_of}, declared.steps.{Progress.{Progress, TheVariants.{Going}}, Step.{Step}}}
+use Rattle.gate_transitions.specs.{Answers.{asked_by, progress_of}, declared.steps.{Progress.{Progress, TheVariants.{Going}}, Step.{Step}}}
 use Rattle.gate_world.specs.{Views.{phase_after}, Work.{after_of, next_of}, declared.work.Phase.{Phase}}
 use Rattle.gate_steps.specs.call_events.Stepped.{Stepped}
 use Rattle.vfs_gates.specs.TaskStates.{SeatedTask}

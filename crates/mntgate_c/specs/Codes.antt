@@ -5,7 +5,7 @@ use Rattle.access_model.specs.declared.errors.GateError.TheVariants.{NoEntry, Ag
 use Rattle.access_model.specs.declared.replies.Reply.{Reply, TheVariants.{Unit as UnitReply, Node, Ran, Tree}}
 use Rattle.cpu_words.specs.Hooks.{HookAnswer}
 use Rattle.freeze_levels.specs.declared.hooks.HookKind.{HookKind, TheVariants.{Sync, FreezeFs, UnfreezeFs, Reconfigure, KeepWaiting}}
-use Rattle.gate_schedules.specs.declared.steps.Progress.{Progress, TheVariants.{Idle, Going, Waiting, Done}}
+use Rattle.gate_transitions.specs.declared.steps.Progress.{Progress, TheVariants.{Idle, Going, Waiting, Done}}
 use Rattle.mntgate_c.specs.declared.codes.Outcome.{Outcome}
 
 -- The refusal of an errno; from 65536 on a hook's code is added to that. Any other number is read as the failure of a hook with a code that

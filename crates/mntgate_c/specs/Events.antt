@@ -7,7 +7,7 @@ use Rattle.access_model.specs.declared.actions.Kind.TheVariants.{File, Dir}
 use Rattle.cpu_words.specs.declared.events.{Event.{Event}, Touch.{Touch, TheVariants.{Load, Store, Add, Sub, Or, And, Swap, Cas}}}
 use Rattle.cpu_words.specs.declared.names.WordName.{WordName}
 use Rattle.cpu_words.specs.declared.names.WordName.TheVariants.{Umount, Stage, Holders, SbFlags, Remount, Removed, MountFlags, MountCount, Block, Sync, LevelCount, Section, Used, Node, Kids}
-use Rattle.gate_schedules.specs.declared.steps.Step.{Step}
+use Rattle.gate_transitions.specs.declared.steps.Step.{Step}
 use Rattle.mntgate_c.specs.{Codes.{progress_at}, declared.events.{ActionRecord.{ActionRecord}, EventRecord.{EventRecord}}}
 use Rattle.mntgate_c.specs.declared.events.{StepRecord.{StepRecord}, WordRecord.{WordRecord}}
 

@@ -1,7 +1,7 @@
 -- What a run of steps is.
 use Rattle.std.specs.Prelude.{◌≡◌, ◌⊎◌, ℕ, zero, suc, ◌≤◌, Some, None, Ok}
 use Rattle.cpu_words.specs.Hooks.{HookAnswer}
-use Rattle.gate_schedules.specs.{Answers.{asked_by}, declared.steps.{Progress.{Progress, TheVariants.{Going}}, Step.{Step}}}
+use Rattle.gate_transitions.specs.{Answers.{asked_by}, declared.steps.{Progress.{Progress, TheVariants.{Going}}, Step.{Step}}}
 use Rattle.gate_world.specs.declared.work.Phase.{Phase}
 use Rattle.gate_steps.specs.call_events.Stepped.{Stepped}
 use Rattle.vfs_gates.specs.TaskStates.{SeatedTask}

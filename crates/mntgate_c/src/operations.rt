@@ -2,7 +2,7 @@
 
 ghost use Rattle.std.specs.Prelude.{◌≡◌, ◌<◌, ◌≤◌, true, Some, None, Err, OnOk, OnErr};
 ghost use Rattle.access_model.specs.declared.errors.GateError.TheVariants.{Invalid};
-ghost use Rattle.gate_schedules.specs.Answers.{unless_refused};
+ghost use Rattle.gate_transitions.specs.Answers.{unless_refused};
 ghost use Rattle.gate_steps.specs.call_events.Runs.{OpUnderWay};
 ghost use Rattle.gate_world.specs.declared.operations.Op.{Op as OpType};
 ghost use Rattle.vfs_gates.specs.TaskStates.{refusal_at};

@@ -1,7 +1,7 @@
 //! Several steps in one call.
 
 ghost use Rattle.std.specs.Prelude.{◌≡◌, Some};
-ghost use Rattle.gate_schedules.specs.declared.steps.Progress.TheVariants.{Idle};
+ghost use Rattle.gate_transitions.specs.declared.steps.Progress.TheVariants.{Idle};
 ghost use Rattle.gate_world.specs.declared.operations.Op.{Op as OpType};
 ghost use Rattle.gate_world.specs.declared.work.Phase.{Phase as PhaseType};
 ghost use Rattle.gate_steps.specs.call_events.Runs.{OpUnderWay, ProgressMatches};

@@ -11,7 +11,7 @@ use Rattle.gate_world.specs.Worlds.{World, after_step, found_at, happens, value_
 use Rattle.gate_world.specs.declared.entries.Entry.{Entry, TheVariants.{Steps}}
 use Rattle.gate_world.specs.declared.{config.Config.{Config}, operations.Op.{Op}, views.View.{View}, work.Phase.{Phase}}
 use Rattle.gate_schedules.proofs.{frames.{Accesses.{holdings_of_after}, Places.{are_few}}, schedules.Phases.{fits_after, word_placed, word_there}}
-use Rattle.gate_schedules.specs.{Answers.{phase_step, step_answer}, declared.steps.Step.{Step}}
+use Rattle.gate_transitions.specs.{Answers.{phase_step, step_answer}, declared.steps.Step.{Step}}
 use Rattle.gate_steps.specs.{Seating.{DealtNumbers, HasWitness, IsPrefix, items_after}, call_events.{Grown.{HasSeen}, Stepped.{Stepped}}}
 use Rattle.gate_steps.proofs.call_events.Grown.{after_more, only_seen}
 use Rattle.vfs_gates.specs.TaskStates.{SeatedTask, own_number, own_view}

@@ -9,7 +9,7 @@ use Rattle.gate_world.specs.Worlds.{World, after_begin, begin_of, begin_refusal,
 use Rattle.gate_world.specs.declared.entries.Entry.{TheVariants.{Begins}}
 use Rattle.gate_world.specs.declared.{config.Config.{Config}, operations.Op.{Op}, views.View.{View}, work.Phase.{Phase}}
 use Rattle.gate_schedules.proofs.schedules.Beginnings.{first_fits, may_begin}
-use Rattle.gate_schedules.specs.Answers.{begin_answer, unless_refused}
+use Rattle.gate_transitions.specs.Answers.{begin_answer, unless_refused}
 use Rattle.vfs_gates.specs.TaskStates.{SeatedTask, own_number, own_view, refusal_at}
 use Rattle.program_replay.specs.{Shown.{IsShown, TasksShow}, Standing.{with_begun}}
 

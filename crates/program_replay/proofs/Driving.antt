@@ -3,8 +3,8 @@ use Rattle.std.proofs.{Common.{◌≡◌, ℕ, zero, suc, ◌-◌, ◌<◌, List
 use Rattle.std.specs.Prelude.{Option, Some, None, Result, Ok, Err, OnOk, OnErr, slice_index_or, slice_set}
 use Rattle.access_model.specs.declared.errors.GateError.{GateError}
 use Rattle.cpu_words.specs.{Hooks.{HookAnswer}, Names.{place}, declared.events.Event.{Event}}
-use Rattle.gate_schedules.specs.Answers.{asked_by, begin_answer, idle_step, step_answer, unless_refused, wanted_hook}
-use Rattle.gate_schedules.specs.declared.steps.Step.{Step}
+use Rattle.gate_transitions.specs.Answers.{asked_by, begin_answer, idle_step, step_answer, unless_refused, wanted_hook}
+use Rattle.gate_transitions.specs.declared.steps.Step.{Step}
 use Rattle.gate_steps.specs.call_events.Stepped.{Stepped}
 use Rattle.gate_world.specs.Worlds.{World, happens}
 use Rattle.gate_world.specs.declared.{config.Config.{Config}, entries.Entry.TheVariants.{Begins, Steps}, operations.Op.{Op}, work.Phase.{Phase}}

@@ -3,7 +3,7 @@ use Rattle.std.proofs.{Common.{◌≡◌, ℕ, ◌≤◌, refl}, lemmas.Bool.{le
 use Rattle.std.specs.Prelude.{◌<◌, None, Err}
 use Rattle.access_model.specs.declared.errors.GateError.TheVariants.{Invalid}
 use Rattle.cpu_words.specs.Hooks.{HookAnswer}
-use Rattle.gate_schedules.specs.Answers.{begin_answer, idle_step, step_answer, wanted_hook}
+use Rattle.gate_transitions.specs.Answers.{begin_answer, idle_step, step_answer, wanted_hook}
 use Rattle.gate_world.specs.{Worlds.{World, happens}, declared.{config.Config.{Config}, entries.Entry.TheVariants.{Begins, Steps}, operations.Op.{Op}}}
 
 -- where there is no such task

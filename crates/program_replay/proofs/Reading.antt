@@ -7,7 +7,7 @@ use Rattle.gate_world.specs.{Headline.{world_after}, Views.{actions_after, phase
 use Rattle.gate_world.specs.Worlds.{World, found_at, opening, run, value_at, words_after}
 use Rattle.gate_world.specs.declared.entries.Entry.{Entry, TheVariants.{Begins, Steps}}
 use Rattle.gate_world.specs.declared.{config.Config.{Config}, operations.Op.{Op}, views.View.{View}, work.Phase.{Phase}}
-use Rattle.gate_schedules.specs.{Answers.{phase_step}, declared.steps.Step.{Step}}
+use Rattle.gate_transitions.specs.{Answers.{phase_step}, declared.steps.Step.{Step}}
 use Rattle.gate_steps.specs.Histories.{then_begins}
 use Rattle.gate_steps.specs.Seating.{DealtNumbers, HasWitness, IsPrefix, done_by, entered, items_after, numbered, world_entered, world_left}
 use Rattle.gate_steps.specs.call_events.{Grown.{HasSeen}, SeatedTasks.{own_number, own_view}, Stepped.{ToldIn}}

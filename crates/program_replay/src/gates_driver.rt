@@ -3,7 +3,7 @@
 ghost use Rattle.std.specs.Prelude.{◌≡◌, ◌≢◌, ◌<◌, ◌≤◌, ◌+◌, ℕ, [], All, List, Some, Err, IfErr, IfOk, OnErr, OnOk, length, slice_index_or, vec_len};
 ghost use Rattle.access_model.specs.declared.errors.GateError.TheVariants.{Invalid, NoMemory};
 ghost use Rattle.cpu_words.specs.Names.{words_in_all};
-ghost use Rattle.gate_schedules.specs.Answers.{asked_by, begin_answer, idle_step, step_answer, unless_refused, wanted_hook};
+ghost use Rattle.gate_transitions.specs.Answers.{asked_by, begin_answer, idle_step, step_answer, unless_refused, wanted_hook};
 ghost use Rattle.gate_world.specs.Configs.{IsWithin};
 ghost use Rattle.gate_world.specs.Worlds.{World, happens, opening};
 ghost use Rattle.gate_world.specs.declared.config.Config.{Config as ConfigType};

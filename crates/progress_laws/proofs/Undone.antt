@@ -12,8 +12,9 @@ use Rattle.cpu_words.specs.{Touches.event_of, declared.events.{Event.Event, Touc
 use Rattle.freeze_laws.{proofs.stages.Facts.other_zero, specs.stages.Roles.{StageRole, Owning, closes, freezes, is_full, owns as stage_owns, reopens}}
 use Rattle.freeze_laws.specs.stages.Roles.{under_way}
 use Rattle.percpu_rwsem.specs.Writers.{up_write_next}
-use Rattle.gate_schedules.{proofs.{operations.deadlocks.FreezeProgress.not_none, schedules.HeadlineProof.whole_operations}, specs.Answers.phase_step}
-use Rattle.gate_schedules.specs.{Answers.{progress_of, step_answer}, declared.steps.Progress.Progress}
+use Rattle.gate_schedules.proofs.{operations.deadlocks.FreezeProgress.{not_none}, schedules.HeadlineProof.{whole_operations}}
+use Rattle.gate_transitions.specs.Answers.{phase_step}
+use Rattle.gate_transitions.specs.{Answers.{progress_of, step_answer}, declared.steps.Progress.{Progress}}
 use Rattle.gate_world.specs.{Headline.{OperationTells, OperationsAreKept, ViewTells}, Operations.failed_adds, Owners.{is_owned_word, last_left}}
 use Rattle.gate_world.specs.{Owners.takes_lock, Roles.freeze_stage_role, Rules.{Known, Stages, stage_role_of, stage_roles}, Views.HoldsAsBefore}
 use Rattle.gate_world.specs.{Views.with_hook, Work.next_of, Worlds.opening, declared.views.Traced.Traced, traces.Found.{clean_found, cleans, gave_up}}

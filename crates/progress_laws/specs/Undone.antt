@@ -2,7 +2,7 @@
 use Rattle.std.specs.Prelude.{◌≡◌, ℕ, ◌≤◌, Some, Err, List, [], ◌∷◌, ◌++◌}
 use Rattle.access_model.specs.declared.{actions.{Action.{Action, TheVariants.{Clean, Pass, Reopen, Stage}}, Holder.Holder}, errors.GateError.TheVariants.Hook}
 use Rattle.cpu_words.specs.Hooks.{HookAnswer}
-use Rattle.gate_schedules.specs.{Answers.step_answer, declared.steps.Progress.TheVariants.Done}
+use Rattle.gate_transitions.specs.{Answers.{step_answer}, declared.steps.Progress.TheVariants.{Done}}
 use Rattle.gate_world.specs.{Headline.world_after, Operations.failed_adds, Views.HoldsAsBefore, Worlds.{World, happens}, traces.Found.gave_up}
 use Rattle.gate_world.specs.declared.{config.Config.Config, entries.Entry.{Entry, TheVariants.Steps}, operations.Op.TheVariants.Freeze}
 

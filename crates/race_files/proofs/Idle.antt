@@ -2,7 +2,7 @@
 use Rattle.std.proofs.Common.{◌≡◌, ◌∙◌, ℕ, ◌<◌, None, Option, sym, subst, arith, refl, true, IfSome, List}
 use Rattle.std.proofs.lemmas.{Bool.lt-ltb, List.get_or_default}
 use Rattle.gate_core.specs.{Drivers.{CoreShows}, Memory.{IsSound, Memory, no_seat, seat_of}, Moves.{phase_in}}
-use Rattle.gate_schedules.specs.declared.task_states.TaskState.{TaskState}
+use Rattle.gate_transitions.specs.declared.task_states.TaskState.{TaskState}
 use Rattle.gate_world.specs.declared.{config.Config.{Config}, work.Phase.{Phase}}
 use Rattle.race_files.specs.Races.{AllAreIdle, IsRecent}
 use Rattle.races.specs.Counts.{is_recent}

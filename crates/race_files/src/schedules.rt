@@ -3,7 +3,7 @@
 use crate::calls::Calls;
 use access_model::{GateError, Reply};
 use gate_core::Core;
-use gate_schedules::{Progress, Step};
+use gate_transitions::{Progress, Step};
 use races::{CallAnswers, Race};
 use schedule_text::Output;
 use std::alloc::{AllocError, Global};

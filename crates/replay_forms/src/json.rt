@@ -8,7 +8,7 @@ use crate::trace::{Entry, Happening, Taken, touch_name};
 use crate::waits::{Culprit, Wait};
 use access_model::{GateError, Holder, NodeInfo};
 use cpu_words::{Touch, WordName};
-use gate_schedules::Driver;
+use gate_transitions::Driver;
 use model_state::Model;
 use schedule_text::Output;
 use serde_json::{Map, Value};

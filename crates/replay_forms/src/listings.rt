@@ -1,7 +1,7 @@
 //! The words that `words` and `tree` list.
 
 use cpu_words::WordName;
-use gate_schedules::Driver;
+use gate_transitions::Driver;
 use std::alloc::{AllocError, Global};
 use transcripts::Session;
 

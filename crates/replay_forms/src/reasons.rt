@@ -3,7 +3,7 @@
 use crate::terms::{Term, call_term};
 use access_model::GateError;
 use cpu_words::WordName;
-use gate_schedules::Driver;
+use gate_transitions::Driver;
 use gate_world::Op;
 use schedule_text::Output;
 use transcripts::Session;

@@ -10,7 +10,7 @@ use crate::reasons::Asker;
 use crate::trace::{Entry, Happening, Taken};
 use crate::waits::Wait;
 use cpu_words::{Event, WordName};
-use gate_schedules::{Driver, Progress, Step};
+use gate_transitions::{Driver, Progress, Step};
 use gate_world::Op;
 use schedule_text::{HookFailure, Output, Request, TaskCommand};
 use std::alloc::Global;

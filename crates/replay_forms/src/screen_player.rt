@@ -2,7 +2,7 @@
 
 use crate::forms::Look;
 use crate::screen::Screen;
-use gate_schedules::Driver;
+use gate_transitions::Driver;
 use line_players::Player;
 use schedule_text::{Fault, Line, Output};
 use std::alloc::Global;

@@ -2,7 +2,7 @@
 
 use crate::forms::{Form, Look, Style};
 use crate::screen_player::ScreenPlayer;
-use gate_schedules::Driver;
+use gate_transitions::Driver;
 use line_players::LineReplay;
 use schedule_text::Output;
 use std::alloc::{AllocError, Global};

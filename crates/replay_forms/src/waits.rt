@@ -2,7 +2,7 @@
 
 use crate::forms::Style;
 use cpu_words::{Event, WordName};
-use gate_schedules::Driver;
+use gate_transitions::Driver;
 use schedule_text::Output;
 use transcripts::Session;
 

@@ -3,7 +3,7 @@ use Rattle.std.{proofs.Common.{◌≡◌, true, false, List, [], ◌++◌, refl,
 use Rattle.access_model.specs.declared.errors.GateError.{GateError}
 use Rattle.gate_world.specs.refusals.Causes.{trail_of, since_begun, last_question, moments_of_sum, was_counted, SomeWasCounted, WantRefused, ChangeRefused}
 use Rattle.gate_world.specs.{Worlds.{run, opening}, declared.{operations.Op.{Op}, entries.Entry.{Entry, TheVariants.{Begins}}}}
-use Rattle.gate_schedules.specs.{Answers.{step_answer}, declared.steps.Progress.{Progress}}
+use Rattle.gate_transitions.specs.{Answers.{step_answer}, declared.steps.Progress.{Progress}}
 use Rattle.test_schedules.specs.Schedules.{small, steps}
 
 -- a remount while another task holds an access, up to its last step, which refuses it as busy

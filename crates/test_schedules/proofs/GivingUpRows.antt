@@ -7,7 +7,8 @@ use Rattle.cpu_words.specs.{Hooks.HookAnswer, declared.names.WordName.WordName}
 use Rattle.freeze_levels.specs.declared.hooks.HookKind.{HookKind}
 use Rattle.gate_world.specs.{Views.holds_level, Worlds.{run, history, opening}, declared.{operations.Op.Op, views.Traced.Traced}}
 use Rattle.gate_world.specs.{declared.entries.Entry.{Entry, TheVariants.{Begins, Steps}}, traces.{Found.{ReadAnswer, clears_word, is_clearing}, Traces.{IsHonest, Tells}}}
-use Rattle.gate_schedules.specs.{Answers.{step_answer, wanted_hook}, operations.Progress.AFreezeIsKept, declared.steps.Progress.{Progress}}
+use Rattle.gate_schedules.specs.operations.Progress.{AFreezeIsKept}
+use Rattle.gate_transitions.specs.{Answers.{step_answer, wanted_hook}, declared.steps.Progress.{Progress}}
 use Rattle.test_schedules.specs.Schedules.{small, steps}
 
 -- a freeze beside a reader of level 1 that stays: after its sum it asks whether to wait on, and is kept

@@ -3,7 +3,7 @@ use Rattle.std.{proofs.Common.{◌≡◌, true, List, [], ◌∷◌, ◌++◌, r
 use Rattle.access_model.specs.declared.{actions.{Action.Action, Gate.Gate, Holder.Holder}, errors.GateError.GateError, replies.Reply.Reply}
 use Rattle.gate_world.specs.{Worlds.{run, history, opening}, declared.operations.Op.Op}
 use Rattle.gate_world.specs.declared.entries.Entry.{Entry, TheVariants.{Begins, Steps}}
-use Rattle.gate_schedules.specs.{Answers.{step_answer}, declared.steps.Progress.{Progress}}
+use Rattle.gate_transitions.specs.{Answers.{step_answer}, declared.steps.Progress.{Progress}}
 use Rattle.test_schedules.specs.Schedules.{small, steps, moves}
 
 -- a change of an idle mount to read-only

@@ -10,7 +10,7 @@ use Rattle.gate_world.specs.declared.entries.Entry.{Entry, TheVariants.{Begins}}
 use Rattle.cpu_words.specs.Touches.{event_of}
 use Rattle.mount_counts.specs.declared.phases.MountPhase.{MountPhase}
 use Rattle.node_words.specs.Nodes.{node_shown}
-use Rattle.gate_schedules.specs.{Answers.{step_answer}, declared.steps.Progress.{Progress}}
+use Rattle.gate_transitions.specs.{Answers.{step_answer}, declared.steps.Progress.{Progress}}
 use Rattle.gate_steps.specs.{Seating.{DealtNumbers, IsPrefix}, call_events.Caused.{IsCausedBy}}
 use Rattle.gate_steps.specs.call_events.{Spans.{IsEventDuring, IsCausedDuring, IsTreeDuring}, SeatedTasks.{own_number}}
 use Rattle.test_schedules.specs.Schedules.{small, steps}

@@ -3,7 +3,7 @@ use Rattle.std.{proofs.Common.{◌≡◌, ◌+◌, ◌*◌, true, List, [], ◌�
 use Rattle.access_model.specs.declared.{actions.{Action.Action, Gate.Gate, Holder.Holder, Kind.Kind}, errors.GateError.GateError, replies.Reply.Reply}
 use Rattle.gate_world.specs.{traces.Snapshots.values_noted, Worlds.{run, history, opening}, declared.operations.Op.Op}
 use Rattle.gate_world.specs.declared.entries.Entry.{Entry, TheVariants.{Begins}}
-use Rattle.gate_schedules.specs.{Answers.{step_answer}, declared.steps.Progress.{Progress}}
+use Rattle.gate_transitions.specs.{Answers.{step_answer}, declared.steps.Progress.{Progress}}
 use Rattle.test_schedules.specs.Schedules.{small, steps}
 
 -- a create, with write access: it loads the directory and the one other node, charges the child and takes the node

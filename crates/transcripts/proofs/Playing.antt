@@ -6,7 +6,7 @@ use Rattle.cpu_words.specs.Hooks.{HookAnswer}
 use Rattle.gate_world.specs.{declared.{config.Config.{Config}, work.Phase.{Phase}}, Configs.{model_limits}, Rules.{Moves}}
 use Rattle.gate_world.specs.Worlds.{World, happens, run, history, opening, action_of, phase_action, task_of, with_action}
 use Rattle.gate_world.specs.{declared.entries.Entry.{Entry, TheVariants.{Steps}}, Shown.{shown}}
-use Rattle.gate_schedules.specs.{Answers.{step_answer, phase_step, idle_step}, declared.steps.Step.{Step}}
+use Rattle.gate_transitions.specs.{Answers.{step_answer, phase_step, idle_step}, declared.steps.Step.{Step}}
 use Rattle.gate_schedules.proofs.schedules.HeadlineProof.{whole_run, whole_moves}
 use Rattle.transcripts.specs.{Transcript.{ReplayState, played}, Reached.{IsReached}}
 

@@ -3,8 +3,8 @@ use Rattle.std.proofs.Common.{◌≡◌, ℕ, ◌+◌, ◌-◌, ◌<◌, suc, re
 use Rattle.std.specs.Prelude.{Bool, true, false, Option, Result}
 use Rattle.access_model.specs.declared.{errors.GateError.{GateError}, replies.Reply.{Reply}}
 use Rattle.cpu_words.specs.Hooks.{HookAnswer}
-use Rattle.gate_schedules.specs.declared.steps.Progress.{Progress, TheVariants.{Idle, Going, Waiting, Done as Ended}}
-use Rattle.gate_schedules.specs.Answers.{step_answer}
+use Rattle.gate_transitions.specs.declared.steps.Progress.{Progress, TheVariants.{Idle, Going, Waiting, Done as Ended}}
+use Rattle.gate_transitions.specs.Answers.{step_answer}
 use Rattle.gate_world.specs.{Worlds.{World}, declared.config.Config.{Config}}
 use Rattle.schedule_text.specs.declared.commands.HookFailure.{HookFailure}
 use Rattle.transcripts.specs.Transcript.{ReplayState, after_event, hook_answer, next_progress, next_play, run_from, run_of}

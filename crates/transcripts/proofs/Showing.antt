@@ -8,7 +8,7 @@ use Rattle.cpu_words.specs.Hooks.{HookAnswer}
 use Rattle.gate_world.specs.{Configs.{model_limits}, declared.{config.Config.{Config}, operations.Op.{Op}}}
 use Rattle.gate_world.specs.Worlds.{World, happens, action_of, with_action, task_of}
 use Rattle.gate_world.specs.declared.entries.Entry.{Entry, TheVariants.{Begins, Steps}}
-use Rattle.gate_schedules.specs.{Answers.{step_answer}, declared.steps.{Progress.{Progress}, Step.{Step}}}
+use Rattle.gate_transitions.specs.{Answers.{step_answer}, declared.steps.{Progress.{Progress}, Step.{Step}}}
 use Rattle.schedule_lines.specs.declared.faults.Fault.{Fault}
 use Rattle.transcripts.specs.{Transcript.{ReplayState, played, after_event}, Sessions.{ShowsPlay}, declared.session.Session.{Session}}
 use Rattle.transcripts.proofs.Playing.{reached_more, allowed, step_adds}

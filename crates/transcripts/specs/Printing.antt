@@ -2,7 +2,7 @@
 use Rattle.std.specs.Prelude.{ℕ, Bool, true, false, List, [], ◌++◌, Option, Some, None}
 use Rattle.access_model.specs.declared.actions.Action.{Action}
 use Rattle.cpu_words.specs.declared.events.Event.{Event}
-use Rattle.gate_schedules.specs.declared.steps.{Progress.{Progress, TheVariants.{Idle, Going, Waiting, Done}}, Step.{Step}}
+use Rattle.gate_transitions.specs.declared.steps.{Progress.{Progress, TheVariants.{Idle, Going, Waiting, Done}}, Step.{Step}}
 use Rattle.schedule_lines.specs.Printing.{event_line, idle_line, waiting_line, answer_line}
 
 -- the task has to look or try again

@@ -9,8 +9,8 @@ use Rattle.cpu_words.specs.declared.names.WordName.TheVariants.{Umount, Stage, H
 use Rattle.cpu_words.specs.Words.{read}
 use Rattle.gate_world.specs.{declared.config.Config.{Config}, Worlds.{World, happens, action_of, task_of, with_action, opening}}
 use Rattle.gate_world.specs.declared.entries.Entry.{Entry, TheVariants.{Begins, Steps}}
-use Rattle.gate_schedules.specs.declared.steps.Progress.{Progress, TheVariants.{Idle, Going, Waiting, Done as Ended}}
-use Rattle.gate_schedules.specs.Answers.{begin_answer, step_answer, wanted_hook}
+use Rattle.gate_transitions.specs.declared.steps.Progress.{Progress, TheVariants.{Idle, Going, Waiting, Done as Ended}}
+use Rattle.gate_transitions.specs.Answers.{begin_answer, step_answer, wanted_hook}
 use Rattle.schedule_text.specs.declared.commands.{HookFailure.{HookFailure}, Line.{Line}}
 use Rattle.schedule_text.specs.declared.commands.Line.TheVariants.{Skipped, Config as ConfigLine, Request as RequestLine}
 use Rattle.schedule_text.specs.declared.commands.{Request.{Request, TheVariants.{Words, Tree, Model, Task}}, TaskCommand.{TaskCommand}}

@@ -4,7 +4,7 @@ ghost use Rattle.std.specs.Prelude.{◌≡◌};
 ghost use Rattle.schedule_lines.specs.Printed.{Prints};
 ghost use Rattle.transcripts.specs.Printing.{step_text, reply_after, ended_text, is_waiting};
 
-use gate_schedules::{Progress, Step};
+use gate_transitions::{Progress, Step};
 use schedule_text::Output;
 
 /// The step, and then the reply where there is one; or that the task is idle. `used` is the blocks charged now.

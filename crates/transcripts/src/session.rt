@@ -8,7 +8,7 @@ ghost use Rattle.access_model.specs.declared.errors.GateError.TheVariants.{Inval
 use crate::printing::{print_ended, print_step};
 use access_model::{GateError, Holder};
 use cpu_words::WordName;
-use gate_schedules::{Driver, Progress, Step};
+use gate_transitions::{Driver, Progress, Step};
 use gate_world::{Config, Op};
 use model_state::Model;
 use schedule_text::{Fault, HookFailure, Output, Request, TaskCommand};
@@ -56,7 +56,7 @@ pub fn settled(out: &Output) -> Result<(), Fault>
 }
 
 impl<D: Driver> Session<D> {
-    ghost use Rattle.gate_schedules.specs.Answers.{begin_answer, step_answer};
+    ghost use Rattle.gate_transitions.specs.Answers.{begin_answer, step_answer};
     ghost use Rattle.gate_world.specs.declared.entries.Entry.{TheVariants.{Begins, Steps}};
     ghost use Rattle.transcripts.specs.Limits.{is_config};
     ghost use Rattle.transcripts.specs.Sessions.{ShowsPlay};

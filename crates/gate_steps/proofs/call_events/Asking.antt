@@ -2,7 +2,7 @@
 use Rattle.std.proofs.Common.{arith, ◌≡◌, ℕ, List, ap, sym, subst, ◌∙◌}
 use Rattle.std.specs.Prelude.{Option, Some, None, Result, Ok, Err}
 use Rattle.access_model.specs.declared.{errors.GateError.{GateError}, replies.Reply.{Reply}}
-use Rattle.gate_schedules.specs.Answers.{unless_refused}
+use Rattle.gate_transitions.specs.Answers.{unless_refused}
 use Rattle.gate_world.specs.declared.operations.Op.{Op}
 use Rattle.gate_steps.specs.{call_events.{Runs.{told_as, the_reply}, SeatedTasks.{SeatedTask, refusal_at}}, Seating.{DealtNumbers}}
 use Rattle.gate_steps.specs.call_events.Asking.{Ask, asks_with, WereAsked, CalledAsking, RepliesAsking}

@@ -12,8 +12,8 @@ use Rattle.std.specs.Prelude.{Option, Some, None}
 use Rattle.access_model.specs.declared.{actions.Action.Action, replies.Next.Next}
 use Rattle.cpu_words.specs.{Hooks.HookAnswer, Touches.{found_by, event_of}, declared.events.Touch.{Touch}}
 use Rattle.cpu_words.specs.declared.{events.{Event.Event}, names.WordName.WordName}
-use Rattle.gate_schedules.specs.{Answers.{progress_of}, TaskStates.{task_holdings}, declared.task_states.TaskState.{TaskState}}
-use Rattle.gate_schedules.specs.declared.steps.Progress.{Progress}
+use Rattle.gate_transitions.specs.{Answers.{progress_of}, TaskStates.{task_holdings}, declared.task_states.TaskState.{TaskState}}
+use Rattle.gate_transitions.specs.declared.steps.Progress.{Progress}
 use Rattle.gate_schedules.proofs.frames.{Accesses.{holdings_of_after, long_after, wide_after, deep_after, agree_after}, Agreeing.agree_sym}
 use Rattle.gate_schedules.proofs.schedules.Phases.{action_fits, fits_after, fits_agree}
 use Rattle.atomic_table.specs.Seated.{TableId}

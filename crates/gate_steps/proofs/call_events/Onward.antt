@@ -8,7 +8,7 @@ use Rattle.access_model.specs.declared.{actions.Action.{Action}, errors.GateErro
 use Rattle.access_model.specs.{declared.replies.{Next.TheVariants.{Go, Wait, Done}, Reply.{Reply}}, Replies.{map_next}}
 use Rattle.atomic_table.specs.Seated.{TableId}
 use Rattle.cpu_words.specs.{Hooks.{HookAnswer}, declared.events.Event.{Event}}
-use Rattle.gate_schedules.specs.{Answers.{progress_of}, declared.steps.Progress.TheVariants.{Done as Ended}}
+use Rattle.gate_transitions.specs.{Answers.{progress_of}, declared.steps.Progress.TheVariants.{Done as Ended}}
 use Rattle.gate_world.specs.{Configs.{IsWithin}, Views.{phase_after}, declared.{accesses.Accesses.{Accesses}, config.Config.{Config}}}
 use Rattle.gate_world.specs.declared.{operations.Op.{Op}, work.Phase.{Phase}}
 use Rattle.gate_steps.proofs.call_events.{Running.{events_left, falls}, Turning.{went_so}}

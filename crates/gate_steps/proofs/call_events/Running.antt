@@ -13,8 +13,8 @@ use Rattle.access_model.specs.declared.replies.{Next.TheVariants.{Go, Wait, Done
 use Rattle.cpu_words.specs.{Hooks.{HookAnswer}, Touches.{found_by, event_of}}
 use Rattle.gate_schedules.proofs.{frames.OperationLaws.{most_events_of_all, IsSmall}, schedules.Beginnings.may_begin}
 use Rattle.gate_schedules.proofs.operations.AllOperations.{op_keeps}
-use Rattle.gate_schedules.specs.declared.steps.{Progress.{Progress, TheVariants.{Done as Ended, Waiting}}, Step.{Step}}
-use Rattle.gate_schedules.specs.Answers.{progress_of, unless_refused}
+use Rattle.gate_transitions.specs.declared.steps.{Progress.{Progress, TheVariants.{Done as Ended, Waiting}}, Step.{Step}}
+use Rattle.gate_transitions.specs.Answers.{progress_of, unless_refused}
 use Rattle.gate_steps.specs.Seating.{DealtNumbers, numbered, HaveHistory, entered, done_by, items_after, world_left, HasWitness}
 use Rattle.gate_steps.specs.call_events.{SeatedTasks.{SeatedTask, own_number, own_view, refusal_at}, Stepped.{Stepped}}
 use Rattle.gate_steps.specs.call_events.Asking.{Ask, asks_of, asks_with, call_at, next_call, OpUnderWayWith, OpAfterStepWith}

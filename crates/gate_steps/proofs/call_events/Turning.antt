@@ -10,7 +10,7 @@ use Rattle.std.proofs.Common.{List, List, ◌≡◌, ℕ, ◌<◌, Bool, refl, s
 use Rattle.std.specs.Prelude.{Option, Some, None}
 use Rattle.access_model.specs.declared.{actions.Action.Action, replies.Next.{Next, TheVariants.{Go, Wait, Done}}}
 use Rattle.cpu_words.specs.{Hooks.HookAnswer, Names.{place, words_in_all}, Touches.event_of, declared.events.{Event.Event}}
-use Rattle.gate_schedules.specs.{Answers.{progress_of}, declared.{task_states.TaskState.{TaskState}, steps.Step.{Step}}}
+use Rattle.gate_transitions.specs.{Answers.{progress_of}, declared.{task_states.TaskState.{TaskState}, steps.Step.{Step}}}
 use Rattle.gate_schedules.proofs.schedules.Phases.{word_placed}
 use Rattle.atomic_table.specs.Seated.{TableId}
 use Rattle.gate_steps.proofs.call_events.{Going.{may_add, ghost_agrees_left, stepped_here}, Running.{went_on, went_asking}}

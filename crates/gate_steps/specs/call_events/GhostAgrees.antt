@@ -2,7 +2,7 @@
 use Rattle.std.specs.Prelude.{◌≡◌, ℕ, ◌<◌, ◌≤◌, Bool, true, false, Option, Some, None, List, [], ◌∷◌, length, slice_index_or}
 use Rattle.gate_world.specs.{Configs.IsWithin, Fits.Fits, Holdings.Agree, Views.held_of, declared.{config.Config.Config, operations.Op.Op, views.View.View}}
 use Rattle.gate_world.specs.declared.work.Phase.{Phase}
-use Rattle.gate_schedules.specs.{TaskStates.{task_holdings}, declared.task_states.TaskState.{TaskState}}
+use Rattle.gate_transitions.specs.{TaskStates.{task_holdings}, declared.task_states.TaskState.{TaskState}}
 use Rattle.gate_steps.specs.{Seating.{DealtNumbers, NumberMayStep, times}, declared.seating.Numbered.Numbered}
 use Rattle.gate_steps.specs.call_events.SeatedTasks.{Empty}
 

@@ -11,7 +11,7 @@ use Rattle.gate_world.specs.traces.Traces.{actions_of, IsHonestAnswer, most_even
 use Rattle.gated_tree.specs.declared.trees.TreeWords.{TreeWords}
 use Rattle.gate_steps.specs.Seating.{DealtNumbers, numbered, HaveHistory, done_by, HasWitness}
 use Rattle.gate_steps.specs.call_events.{Grown.{StaySeen}, Refused.{IsUnchangedBy, WaitsHonestly}, SeatedTasks.{SeatedTask, own_number, own_view, refusal_at}}
-use Rattle.gate_schedules.specs.declared.steps.Progress.{Progress, TheVariants.{Idle, Going, Waiting, Done as Ended}}
+use Rattle.gate_transitions.specs.declared.steps.Progress.{Progress, TheVariants.{Idle, Going, Waiting, Done as Ended}}
 
 -- the steps of a trace before earlier ones, the newest first
 abbrev pub events_onto : List Traced → List Event → List Event

@@ -3,7 +3,7 @@ use Rattle.std.specs.Prelude.{◌≡◌, ℕ, Option, Some, None, List, [], ◌�
 use Rattle.gate_world.specs.declared.{entries.Entry.{Entry}, config.Config.{Config}, operations.Op.{Op}, work.Phase.{Phase}}
 use Rattle.gate_world.specs.{Views.{phase_after}, Work.{next_of, after_of}}
 use Rattle.cpu_words.specs.{Hooks.{HookAnswer}, Touches.{found_by, event_of}}
-use Rattle.gate_schedules.specs.{declared.steps.Step.{Step}, Answers.{progress_of, phase_step}}
+use Rattle.gate_transitions.specs.{declared.steps.Step.{Step}, Answers.{progress_of, phase_step}}
 use Rattle.gate_steps.specs.{Seating.{DealtNumbers, items_after, HasWitness}, call_events.SeatedTasks.{SeatedTask}}
 
 -- the step of a phase that found this

@@ -6,7 +6,7 @@ use Rattle.gate_world.specs.declared.{config.Config.{Config}, operations.Op.{Op}
 use Rattle.gate_world.specs.declared.accesses.Accesses.{Accesses}
 use Rattle.gated_tree.specs.declared.{growth.Grow.{Grow}, phases.TreePhase.TheVariants.{Grow as Grows}}
 use Rattle.mount_counts.specs.declared.phases.{Change.{Change}, MountPhase.TheVariants.{Change as Changes}}
-use Rattle.gate_schedules.specs.{declared.{task_states.TaskState.{TaskState}, steps.Step.{Step}}, Answers.{progress_of}}
+use Rattle.gate_transitions.specs.{declared.{task_states.TaskState.{TaskState}, steps.Step.{Step}}, Answers.{progress_of}}
 use Rattle.gate_steps.specs.{Seating.{DealtNumbers}, call_events.GhostAgrees.{GhostAgrees}}
 use Rattle.composite_ops.specs.declared.write_access.phases.WritePhase.{WritePhase}
 

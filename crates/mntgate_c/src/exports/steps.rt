@@ -2,8 +2,8 @@
 
 ghost use Rattle.std.specs.Prelude.{◌≡◌, true, Some, None, Err, OnOk, OnErr};
 ghost use Rattle.access_model.specs.declared.errors.GateError.TheVariants.{Invalid};
-ghost use Rattle.gate_schedules.specs.Answers.{unless_refused, asked_by, idle_step};
-ghost use Rattle.gate_schedules.specs.declared.steps.Progress.TheVariants.{Idle};
+ghost use Rattle.gate_transitions.specs.Answers.{unless_refused, asked_by, idle_step};
+ghost use Rattle.gate_transitions.specs.declared.steps.Progress.TheVariants.{Idle};
 ghost use Rattle.gate_world.specs.declared.operations.Op.{Op as OpType};
 ghost use Rattle.gate_world.specs.declared.work.Phase.{Phase as PhaseType};
 ghost use Rattle.gate_steps.specs.call_events.Runs.{OpUnderWay, ProgressMatches};

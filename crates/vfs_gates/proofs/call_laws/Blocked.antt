@@ -8,7 +8,7 @@ use Rattle.gate_world.specs.{Headline.world_after, refusals.{Waits.HasCulpritAmo
 use Rattle.gate_world.specs.{Work.{next_of, after_of}, Worlds.{World, found_at}}
 use Rattle.gate_world.specs.declared.entries.Entry.{Entry, TheVariants.{Begins}}
 use Rattle.gate_world.specs.declared.{config.Config.Config, operations.Op.Op, views.{Traced.Traced, View.View}, work.Phase.Phase}
-use Rattle.gate_schedules.specs.{Answers.{progress_of}, declared.steps.{Progress.{TheVariants.{Waiting}}, Step.Step}}
+use Rattle.gate_transitions.specs.{Answers.{progress_of}, declared.steps.{Progress.TheVariants.{Waiting}, Step.{Step}}}
 use Rattle.gate_schedules.proofs.schedules.HeadlineProof.{whole_waits}
 use Rattle.gate_steps.specs.{Histories.then_begins, Seating.{DealtNumbers, IsPrefix, HasWitness, NumberMayStep, entered, world_entered}, declared.seating.Numbered.Numbered}
 use Rattle.gate_steps.specs.call_events.{Runs.{AreMoves, Called}, SeatedTasks.{SeatedTask, own_number}, Spans.{HappensAfter, IsEventDuring}}

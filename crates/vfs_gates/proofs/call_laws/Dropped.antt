@@ -4,7 +4,8 @@ use Rattle.std.specs.Prelude.{Option, Some}
 use Rattle.cpu_words.specs.Hooks.{HookAnswer}
 use Rattle.gate_world.specs.{Headline.world_after, Worlds.{World, opening}}
 use Rattle.gate_world.specs.declared.{config.Config.Config, entries.Entry.Entry, operations.Op.Op, views.View.View, work.Phase.Phase}
-use Rattle.gate_schedules.specs.{declared.steps.Step.Step, operations.Progress.IsUnderWay}
+use Rattle.gate_schedules.specs.operations.Progress.{IsUnderWay}
+use Rattle.gate_transitions.specs.declared.steps.Step.{Step}
 use Rattle.gate_schedules.proofs.schedules.HeadlineProof.{whole_rule}
 use Rattle.gate_steps.specs.{Seating.{DealtNumbers, HasWitness}, call_events.{SeatedTasks.SeatedTask, Stepped.Stepped}}
 use Rattle.gate_steps.proofs.call_events.Moments.{run_append}

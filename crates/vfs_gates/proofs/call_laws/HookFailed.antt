@@ -2,7 +2,7 @@
 use Rattle.std.proofs.Common.{◌≡◌, ℕ, List, [], ◌∷◌, ◌++◌, refl, sym, ap, ◌∙◌, subst, arith, lt-ltb}
 use Rattle.std.specs.Prelude.{Option, Some, None, Result, Err, Ok, if◌then◌else◌}
 use Rattle.access_model.specs.declared.{actions.Holder.{Holder}, errors.GateError.{GateError, TheVariants.{Hook}}, replies.Reply.{Reply}}
-use Rattle.gate_schedules.specs.{Answers.{idle_step, phase_step, progress_of, step_answer}, declared.steps.{Progress.TheVariants.{Done}, Step.{Step}}}
+use Rattle.gate_transitions.specs.{Answers.{idle_step, phase_step, progress_of, step_answer}, declared.steps.{Progress.TheVariants.{Done}, Step.{Step}}}
 use Rattle.gate_schedules.proofs.schedules.Runs.{run_more}
 use Rattle.gate_world.specs.{Headline.{world_after}, Worlds.{World, opening}}
 use Rattle.gate_world.specs.declared.{config.Config.{Config}, entries.Entry.{Entry, TheVariants.{Steps}}, operations.Op.TheVariants.{Freeze}, views.Traced.{Traced}}

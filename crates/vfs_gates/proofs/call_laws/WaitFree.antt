@@ -12,7 +12,7 @@ use Rattle.gate_world.specs.{Configs.IsWithin, Views.{phase_after, with_hook}, W
 use Rattle.gate_world.specs.traces.TraceStates.{CloseReadIsValid, IsNext, IsTrace, OpenReadIsValid, ReadIsValid, WordIsValid, state_of_trace}
 use Rattle.gate_world.specs.traces.Traces.{IsShort, MayWait, most_events}
 use Rattle.gate_world.specs.declared.{config.Config.Config, entries.Entry.Entry, operations.Op.Op, views.Traced.Traced, work.Phase.{Phase, TheVariants.{Trees, Closes}}}
-use Rattle.gate_schedules.specs.declared.steps.Progress.{TheVariants.{Waiting}}
+use Rattle.gate_transitions.specs.declared.steps.Progress.TheVariants.{Waiting}
 use Rattle.gate_schedules.proofs.operations.AllOperations.{op_keeps}
 use Rattle.gate_steps.specs.Seating.{DealtNumbers}
 use Rattle.gate_steps.specs.call_events.{Runs.{AreMoves, Called, OpUnderWay, ProgressMatches}, SeatedTasks.{SeatedTask, own_number}}

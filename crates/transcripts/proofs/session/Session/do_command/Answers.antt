@@ -1,6 +1,6 @@
 use Rattle.std.proofs.Common.{◌≡◌, ℕ, List, ◌++◌, ◌∙◌, ap, sym, subst}
 use Rattle.std.specs.Prelude.{OnOk}
-use Rattle.gate_schedules.specs.{Answers.{step_answer}, declared.steps.Step.{Step}}
+use Rattle.gate_transitions.specs.{Answers.{step_answer}, declared.steps.Step.{Step}}
 use Rattle.schedule_text.specs.declared.commands.TaskCommand.{TaskCommand}
 use Rattle.schedule_lines.proofs.Printed.{printed_if_whole}
 use Rattle.transcripts.specs.{Printing.{step_text}, Transcript.{command_outcome}}

@@ -1,7 +1,7 @@
 //! What is kept of one task at run time: its phase and its accesses.
 
 ghost use Rattle.std.specs.Prelude.{◌≡◌};
-ghost use Rattle.gate_schedules.specs.TaskStates.{idle_task};
+ghost use Rattle.gate_transitions.specs.TaskStates.{idle_task};
 
 use gate_world::{Accesses, Phase};
 

@@ -29,7 +29,7 @@ pub struct Step {
 }
 
 impl Step {
-    ghost use Rattle.gate_schedules.specs.Answers.{idle_step};
+    ghost use Rattle.gate_transitions.specs.Answers.{idle_step};
 
     /// The step of an idle task.
     pub fn idle() -> Step
@@ -44,7 +44,7 @@ impl Step {
 }
 
 impl Progress {
-    ghost use Rattle.gate_schedules.specs.Answers.{progress_of};
+    ghost use Rattle.gate_transitions.specs.Answers.{progress_of};
 
     /// How the operation stands, and its next phase.
     pub fn of(next: Next<Phase>) -> (Progress, Option<Phase>)

@@ -13,7 +13,7 @@ pub trait Driver: Drop {
     ghost use Rattle.access_model.specs.declared.errors.GateError.TheVariants.{Invalid, NoMemory};
     ghost use Rattle.cpu_words.specs.Names.{IsWord};
     ghost use Rattle.cpu_words.specs.Words.{read};
-    ghost use Rattle.gate_schedules.specs.Answers.{begin_answer, step_answer, wanted_hook};
+    ghost use Rattle.gate_transitions.specs.Answers.{begin_answer, step_answer, wanted_hook};
     ghost use Rattle.gate_world.specs.Configs.{IsWithin, extents_of};
     ghost use Rattle.gate_world.specs.Worlds.{World, happens, opening};
     ghost use Rattle.gate_world.specs.declared.entries.Entry.{TheVariants.{Begins, Steps}};

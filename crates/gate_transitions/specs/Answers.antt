@@ -5,7 +5,7 @@ use Rattle.cpu_words.specs.{Touches.{event_of}, Hooks.{HookAnswer}}
 use Rattle.freeze_levels.specs.declared.hooks.HookKind.{HookKind}
 use Rattle.gate_world.specs.{declared.{config.Config.{Config}, operations.Op.{Op}, work.Phase.{Phase}}, Beginnings.{or_refusal}}
 use Rattle.gate_world.specs.{Work.{next_of, after_of, hook_of}, Worlds.{World, begin_refusal, value_at, found_at}}
-use Rattle.gate_schedules.specs.declared.steps.{Progress.{Progress, TheVariants.{Idle, Going, Waiting, Done as Ended}}, Step.{Step}}
+use Rattle.gate_transitions.specs.declared.steps.{Progress.{Progress, TheVariants.{Idle, Going, Waiting, Done as Ended}}, Step.{Step}}
 
 -- the refusal, where there is one
 abbrev pub unless_refused : Option GateError → Result (Unit {0}) GateError

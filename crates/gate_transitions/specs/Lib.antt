@@ -1,0 +1,2 @@
+pub mod TaskStates
+pub mod Answers
