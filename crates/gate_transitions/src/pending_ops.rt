@@ -8,7 +8,7 @@ use composite_ops::{ClosePhase, WritePhase};
 use cpu_words::{Touch, WordName};
 use freeze_levels::{Freeze, Thaw};
 use gate_world::Phase;
-use gated_tree::{Grow, TreePhase};
+use gated_tree::{Create, Grow, Mark, MoveTo, OpenFile, Remove, TreePhase};
 use mount_counts::{Change, MountPhase, Remount, Want};
 use percpu_rwsem::{Callback, DownRead, UpRead};
 
@@ -292,6 +292,54 @@ impl PendingOp for TreePhase {
     }
 }
 
+impl PendingOp for Create {
+    ghost use Rattle.gate_world.specs.declared.work.Phase.TheVariants.{Trees};
+    ghost use Rattle.gated_tree.specs.declared.phases.TreePhase.TheVariants.{Create as Creates};
+
+    ghost as_phase = { λ create. Trees (Creates create) };
+
+    #[inline(always)]
+    fn phase(self) -> Phase {
+        Phase::Trees(TreePhase::Create(self))
+    }
+
+    #[inline(always)]
+    fn next(self, hook: Result<(), u16>) -> (WordName, Touch) {
+        let _ = hook;
+        self.next()
+    }
+
+    #[inline(always)]
+    fn after(self, found: u64, hook: Result<(), u16>) -> (Next<Create>, Option<Action>) {
+        let _ = hook;
+        self.after(found)
+    }
+}
+
+impl PendingOp for Remove {
+    ghost use Rattle.gate_world.specs.declared.work.Phase.TheVariants.{Trees};
+    ghost use Rattle.gated_tree.specs.declared.phases.TreePhase.TheVariants.{Remove as Removes};
+
+    ghost as_phase = { λ remove. Trees (Removes remove) };
+
+    #[inline(always)]
+    fn phase(self) -> Phase {
+        Phase::Trees(TreePhase::Remove(self))
+    }
+
+    #[inline(always)]
+    fn next(self, hook: Result<(), u16>) -> (WordName, Touch) {
+        let _ = hook;
+        self.next()
+    }
+
+    #[inline(always)]
+    fn after(self, found: u64, hook: Result<(), u16>) -> (Next<Remove>, Option<Action>) {
+        let _ = hook;
+        self.after(found)
+    }
+}
+
 impl PendingOp for Grow {
     ghost use Rattle.gate_world.specs.declared.work.Phase.TheVariants.{Trees};
     ghost use Rattle.gated_tree.specs.declared.phases.TreePhase.TheVariants.{Grow as Grows};
@@ -304,7 +352,85 @@ impl PendingOp for Grow {
     }
 
     #[inline(always)]
+    fn next(self, hook: Result<(), u16>) -> (WordName, Touch) {
+        let _ = hook;
+        self.next()
+    }
+
+    #[inline(always)]
     fn after(self, found: u64, hook: Result<(), u16>) -> (Next<Grow>, Option<Action>) {
+        let _ = hook;
+        self.after(found)
+    }
+}
+
+impl PendingOp for MoveTo {
+    ghost use Rattle.gate_world.specs.declared.work.Phase.TheVariants.{Trees};
+    ghost use Rattle.gated_tree.specs.declared.phases.TreePhase.TheVariants.{MoveTo as Moves};
+
+    ghost as_phase = { λ moving. Trees (Moves moving) };
+
+    #[inline(always)]
+    fn phase(self) -> Phase {
+        Phase::Trees(TreePhase::MoveTo(self))
+    }
+
+    #[inline(always)]
+    fn next(self, hook: Result<(), u16>) -> (WordName, Touch) {
+        let _ = hook;
+        self.next()
+    }
+
+    #[inline(always)]
+    fn after(self, found: u64, hook: Result<(), u16>) -> (Next<MoveTo>, Option<Action>) {
+        let _ = hook;
+        self.after(found)
+    }
+}
+
+impl PendingOp for Mark {
+    ghost use Rattle.gate_world.specs.declared.work.Phase.TheVariants.{Trees};
+    ghost use Rattle.gated_tree.specs.declared.phases.TreePhase.TheVariants.{Mark as Marks};
+
+    ghost as_phase = { λ mark. Trees (Marks mark) };
+
+    #[inline(always)]
+    fn phase(self) -> Phase {
+        Phase::Trees(TreePhase::Mark(self))
+    }
+
+    #[inline(always)]
+    fn next(self, hook: Result<(), u16>) -> (WordName, Touch) {
+        let _ = hook;
+        self.next()
+    }
+
+    #[inline(always)]
+    fn after(self, found: u64, hook: Result<(), u16>) -> (Next<Mark>, Option<Action>) {
+        let _ = hook;
+        self.after(found)
+    }
+}
+
+impl PendingOp for OpenFile {
+    ghost use Rattle.gate_world.specs.declared.work.Phase.TheVariants.{Trees};
+    ghost use Rattle.gated_tree.specs.declared.phases.TreePhase.TheVariants.{OpenFile as Opens};
+
+    ghost as_phase = { λ opening. Trees (Opens opening) };
+
+    #[inline(always)]
+    fn phase(self) -> Phase {
+        Phase::Trees(TreePhase::OpenFile(self))
+    }
+
+    #[inline(always)]
+    fn next(self, hook: Result<(), u16>) -> (WordName, Touch) {
+        let _ = hook;
+        self.next()
+    }
+
+    #[inline(always)]
+    fn after(self, found: u64, hook: Result<(), u16>) -> (Next<OpenFile>, Option<Action>) {
         let _ = hook;
         self.after(found)
     }

@@ -112,7 +112,9 @@ impl Create {
         }
     }
 
-    pub(crate) fn next(self) -> (WordName, Touch)
+    /// The word and the touch of the next step.
+    #[inline(always)]
+    pub fn next(self) -> (WordName, Touch)
         ensures { result ≡ create_next self self.step }
     {
         let kids = WordName::Kids(self.dir);
@@ -157,7 +159,9 @@ impl Create {
         }
     }
 
-    pub(crate) fn after(self, found: u64) -> (Next<Create>, Option<Action>)
+    /// What comes after the step, which found this, and the action that the step adds.
+    #[inline(always)]
+    pub fn after(self, found: u64) -> (Next<Create>, Option<Action>)
         ensures { result ≡ create_after self self.step found }
     {
         let next = match self.step {
@@ -192,7 +196,9 @@ impl Remove {
         }
     }
 
-    pub(crate) fn next(self) -> (WordName, Touch)
+    /// The word and the touch of the next step.
+    #[inline(always)]
+    pub fn next(self) -> (WordName, Touch)
         ensures { result ≡ remove_next self self.step }
     {
         match self.step {
@@ -226,7 +232,9 @@ impl Remove {
         Next::Go(Remove { step, ..self })
     }
 
-    pub(crate) fn after(self, found: u64) -> (Next<Remove>, Option<Action>)
+    /// What comes after the step, which found this, and the action that the step adds.
+    #[inline(always)]
+    pub fn after(self, found: u64) -> (Next<Remove>, Option<Action>)
         ensures { result ≡ remove_after self self.step found }
     {
         let next = match self.step {
@@ -268,7 +276,9 @@ impl MoveTo {
         }
     }
 
-    pub(crate) fn next(self) -> (WordName, Touch)
+    /// The word and the touch of the next step.
+    #[inline(always)]
+    pub fn next(self) -> (WordName, Touch)
         ensures { result ≡ move_next self self.step }
     {
         match self.step {
@@ -292,7 +302,9 @@ impl MoveTo {
         Next::Go(MoveTo { step, ..self })
     }
 
-    pub(crate) fn after(self, found: u64) -> (Next<MoveTo>, Option<Action>)
+    /// What comes after the step, which found this, and the action that the step adds.
+    #[inline(always)]
+    pub fn after(self, found: u64) -> (Next<MoveTo>, Option<Action>)
         ensures { result ≡ move_after self self.step found }
     {
         let next = match self.step {

@@ -61,8 +61,9 @@ impl Grow {
         }
     }
 
+    /// The word and the touch of the next step.
     #[inline(always)]
-    pub(crate) fn next(self) -> (WordName, Touch)
+    pub fn next(self) -> (WordName, Touch)
         ensures { result ≡ grow_next self self.step }
     {
         let blocks = u64::from(self.blocks);

@@ -39,7 +39,9 @@ impl Mark {
         }
     }
 
-    pub(crate) fn next(self) -> (WordName, Touch)
+    /// The word and the touch of the next step.
+    #[inline(always)]
+    pub fn next(self) -> (WordName, Touch)
         ensures { result ≡ mark_next self self.step }
     {
         let touch = match self.step {
@@ -65,7 +67,9 @@ impl Mark {
         }
     }
 
-    pub(crate) fn after(self, found: u64) -> (Next<Mark>, Option<Action>)
+    /// What comes after the step, which found this, and the action that the step adds.
+    #[inline(always)]
+    pub fn after(self, found: u64) -> (Next<Mark>, Option<Action>)
         ensures { result ≡ mark_after self self.step found }
     {
         let next = match self.step {

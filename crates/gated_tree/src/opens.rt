@@ -50,7 +50,9 @@ impl OpenFile {
         }
     }
 
-    pub(crate) fn next(self) -> (WordName, Touch)
+    /// The word and the touch of the next step.
+    #[inline(always)]
+    pub fn next(self) -> (WordName, Touch)
         ensures { result ≡ open_next self self.step }
     {
         let touch = match self.step {
@@ -64,7 +66,9 @@ impl OpenFile {
         (WordName::Node(self.file), touch)
     }
 
-    pub(crate) fn after(self, found: u64) -> (Next<OpenFile>, Option<Action>)
+    /// What comes after the step, which found this, and the action that the step adds.
+    #[inline(always)]
+    pub fn after(self, found: u64) -> (Next<OpenFile>, Option<Action>)
         ensures { result ≡ open_after self self.step found }
     {
         let next = match self.step {

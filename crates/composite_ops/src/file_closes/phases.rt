@@ -138,6 +138,7 @@ impl ClosePhase {
     }
 
     /// The word and the touch of the next step.
+    #[inline(always)]
     pub fn next(self) -> (WordName, Touch)
         ensures { result ≡ next self }
     {
@@ -163,6 +164,7 @@ impl ClosePhase {
     }
 
     /// What comes after the step, which found this, and the action that the step adds.
+    #[inline(always)]
     pub fn after(self, found: u64) -> (Next<ClosePhase>, Option<Action>)
         ensures { result ≡ after self found }
     {
