@@ -217,6 +217,11 @@ class Ftrace(Converted):
             "config 3 1 2 2 8\n0 want 0 0\n0 run\n1 wantwrite 1 0\n1 run\n",
         )
 
+    def test_a_return_that_tells_nothing(self):
+        self.expect(self.lines("7 freeze sb=0x1 who=2", "7 freeze_return ret=-16", "8 want_write mnt=0x5 sb=0x1", "8 want_write_return ret=0",
+                               "8 drop_write mnt=0x5 sb=0x1", "8 drop_write_return "),
+                    "0 freeze user", "0 refused 16", "0 wantwrite 0 *", "0 ok", "0 dropwrite 0 *", "0 ok")  # fmt: skip
+
     def test_one_superblock(self):
         events = self.lines(
             "7 freeze sb=0x1 who=2",
