@@ -307,7 +307,8 @@ def make_ready(options, with_module):
 
 
 def accelerator(emulate):
-    """What qemu runs the guest by: the processor, where it can, and else an emulation with a thread for each of its processors."""
+    """What qemu runs the guest by: the processor, where it can, and else an emulation with a thread for each of its processors. In a virtual machine
+    /dev/kvm may be there without either flag, for guests of its own kind alone (kvm_pvm): a stock kernel doesn't come up by it."""
     if emulate:
         return "tcg,thread=multi"
     with open("/proc/cpuinfo", encoding="utf-8") as info:
