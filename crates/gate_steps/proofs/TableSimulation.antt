@@ -205,15 +205,15 @@ step_simulates c slots id (x ∷ xs) seen carried begins phase hook acts s held 
       ),
     )
 
--- The same at a place, a touch and a moment that equal those of the phase, with the place's bound
-pub lifted_at : (c : Config) (slots words id : ℕ) (me : Me (Unit {0}) Knowledge) (d : Config) (begins starts : Option Op) (p q : Phase)
-    (h k : HookAnswer) (r : WordName × Touch) (i : ℕ) (touch : Touch) →
-    c ≡ d → begins ≡ starts → p ≡ q → h ≡ k → r ≡ next_of p h → i ≡ table_index (place r.0) → r.1 ≡ touch → words ≡ table_length →
+-- The same at a place, a touch and a moment that equal those of the phase, with the place's bound; the tables are the same.
+pub lifted_at : {T : Type 0} {seated shared : T} {c d : Config} {words i : ℕ} {begins starts : Option Op} {p q : Phase} {h k : HookAnswer}
+    {r : WordName × Touch} {touch : Touch} (slots id : ℕ) (me : Me (Unit {0}) Knowledge) →
+    seated ≡ shared → c ≡ d → begins ≡ starts → p ≡ q → h ≡ k → r ≡ next_of p h → i ≡ table_index (place r.0) → r.1 ≡ touch → words ≡ table_length →
     place (next_of p h).0 < words_in_all → OwnNumberMayStep c begins p me.0.items →
-    (i < words) × Allows (holds c) slots id me i (left touch) (λ n. happened d starts q k me (found_by touch n))
-lifted_at c slots words id me d begins starts p q h k r i touch ec eb ep eh er ei et ew small acts =
+    (seated ≡ shared) × (i < words) × Allows (holds c) slots id me i (left touch) (λ n. happened d starts q k me (found_by touch n))
+lifted_at {T} {seated} {shared} {c} {d} {words} {i} {begins} {starts} {p} {q} {h} {k} {r} {touch} slots id me table ec eb ep eh er ei et ew small acts =
     let at : i ≡ table_index (place (next_of p h).0) = ei ∙ ap (λ (z : WordName × Touch). table_index (place z.0)) er in
     let same : (next_of p h).1 ≡ touch = ap (λ (z : WordName × Touch). z.1) (sym er) ∙ et in
     let P : Config × Option Op × Phase × HookAnswer × ℕ × Touch →
     Type 0 = λ z. Allows (holds c) slots id me z.4 (left z.5) (λ n. happened z.0 z.1 z.2 z.3 me (found_by z.5 n)) in
-    (omega arith, subst P (λ j. (ec j, eb j, ep j, eh j, sym at j, same j)) (step_simulates c slots id me.0.items me.0.seen me.1 begins p h acts))
+    (table, omega arith, subst P (λ j. (ec j, eb j, ep j, eh j, sym at j, same j)) (step_simulates c slots id me.0.items me.0.seen me.1 begins p h acts))
