@@ -1,13 +1,10 @@
 -- What an operation has asked, by where it stands: a fact that holds at its first phase, and that each step keeps, holds after each trace.
-use Rattle.std.{proofs.Common.{Bool, List, [], false, subst, true, ℕ, ◌∷◌}, specs.Prelude.{Result, if◌then◌else◌}}
-use Rattle.access_model.specs.declared.{actions.Action.Action, errors.GateError.GateError, replies.Next.{Next, TheVariants.{Done, Go, Wait}}}
-use Rattle.access_model.specs.declared.replies.Reply.{Reply}
-use Rattle.cpu_words.specs.Hooks.{HookAnswer}
-use Rattle.gate_world.specs.{Beginnings.first_phase, Views.actions_after, Work.after_of, declared.{config.Config.Config, operations.Op.Op}}
-use Rattle.gate_world.specs.{declared.{views.Traced.Traced, work.Phase.Phase}, traces.TraceStates.{state_of_trace, trace_state_after}}
-use Rattle.gate_world.specs.traces.Traces.{actions_of}
-use Rattle.gate_steps.specs.{Seating.DealtNumbers, call_events.{Asking.{Ask, asks_of, asks_with, call_at, next_call}, Runs.{Called, items_at}}}
-use Rattle.gate_steps.specs.call_events.SeatedTasks.{SeatedTask, own_number}
+use Rattle.gate_steps.proofs.Prelude.{Action, Ask, Called, Config, DealtNumbers, Done, GateError, Go, HookAnswer, List, Next, Op, Phase, Reply}
+use Rattle.gate_steps.proofs.Prelude.{Result, SeatedTask, Traced, Wait, [], actions_after, after_of, asks_with, call_at, own_number, state_of_trace}
+use Rattle.gate_steps.proofs.Prelude.{subst, ℕ, ◌∷◌}
+use Rattle.std.{proofs.Common.{Bool, false, true}, specs.Prelude.if◌then◌else◌}
+use Rattle.gate_world.specs.{Beginnings.first_phase, traces.{TraceStates.trace_state_after, Traces.actions_of}}
+use Rattle.gate_steps.specs.call_events.{Asking.{asks_of, next_call}, Runs.items_at}
 
 -- what comes next, whichever of two it is
 pub either_way : {A : Type 0} (P : A → Type 0) (b : Bool) (x y : A) → P x → P y → P (if b then x else y)

@@ -1,18 +1,17 @@
 -- The hooks that a freeze has asked, by its steps.
-use Rattle.std.{proofs.Common.{List, [], ap, arith, false, inl, inr, refl, suc, true, zero, ℕ, ◌∷◌, ◌≡◌}, specs.Prelude.{Err, Ok, Result}}
-use Rattle.access_model.specs.{Replies.map_next, declared.{actions.{Action.Action, Holder.Holder}, errors.GateError.{GateError, TheVariants.Hook}}}
-use Rattle.access_model.specs.declared.replies.{Next.{Next, TheVariants.{Done, Go, Wait}}, Reply.Reply}
-use Rattle.cpu_words.specs.Hooks.{HookAnswer}
+use Rattle.gate_steps.proofs.Prelude.{Action, Ask, Called, DealtNumbers, Done, Err, GateError, Go, HookAnswer, List, Next, Ok, Phase, Reply, Result}
+use Rattle.gate_steps.proofs.Prelude.{SeatedTask, Wait, [], actions_after, after_of, ap, arith, asks_with, call_at, map_next, refl, suc, zero, ℕ, ◌∷◌}
+use Rattle.gate_steps.proofs.Prelude.{◌≡◌}
+use Rattle.std.proofs.Common.{false, inl, inr, true}
+use Rattle.access_model.specs.declared.{actions.Holder.Holder, errors.GateError.TheVariants.Hook}
 use Rattle.percpu_rwsem.specs.{Writers.down_write_after, declared.writers.{DownWrite.DownWrite, DownWriteStep.DownWriteStep}}
 use Rattle.freeze_levels.specs.{Freezes.{after_closing, at_freeze, freeze_after}, declared.freezes.{Freeze.Freeze, FreezeStep.FreezeStep}}
 use Rattle.freeze_levels.specs.declared.freezes.FreezeStep.TheVariants.{Cleans, Closes, GivesUp, Holds, LocksAgain, LocksToUndo, Releases, Reopens}
 use Rattle.freeze_levels.specs.declared.freezes.FreezeStep.TheVariants.{SetsComplete, SetsFs, SetsPageFault, Undoes, Waits}
 use Rattle.freeze_levels.specs.declared.hooks.HookCall.TheVariants.{FreezeFs as FreezeCall, KeepWaiting as KeepWaitingCall, Sync as SyncCall}
-use Rattle.gate_world.specs.{Views.actions_after, Work.after_of, declared.{operations.Op.TheVariants.Freeze as FreezeOp, work.Phase.Phase}}
-use Rattle.gate_world.specs.{declared.work.Phase.TheVariants.Freezes, traces.Traces.actions_of}
-use Rattle.gate_steps.{proofs.call_events.Asked.{AskedAt, asked_by_call}, specs.{Seating.DealtNumbers, call_events.Asked.AskedBeforeSync}}
-use Rattle.gate_steps.specs.call_events.{Asked.{AskedByFreeze, AskedByRefusedFreeze, AskedSinceSync, agreed, failed, stored_third_stage}, Asking.Ask}
-use Rattle.gate_steps.specs.call_events.{Asking.{asks_of, asks_with, call_at}, Runs.Called, SeatedTasks.SeatedTask}
+use Rattle.gate_world.specs.{declared.{operations.Op.TheVariants.Freeze as FreezeOp, work.Phase.TheVariants.Freezes}, traces.Traces.actions_of}
+use Rattle.gate_steps.{proofs.call_events.Asked.{AskedAt, asked_by_call}, specs.call_events.Asked.{AskedBeforeSync, AskedByFreeze}}
+use Rattle.gate_steps.specs.call_events.{Asked.{AskedByRefusedFreeze, AskedSinceSync, agreed, failed, stored_third_stage}, Asking.asks_of}
 
 -- nothing was asked
 abbrev NoneAsked : List Action → List Ask → Type 0

@@ -1,15 +1,13 @@
 -- The hook that a remount has asked, by its steps.
-use Rattle.std.{proofs.Common.{Bool, List, [], arith, inr, refl, ℕ, ◌∷◌, ◌≡◌}, specs.Prelude.{Err, None, Ok, Result}}
-use Rattle.access_model.specs.{Replies.map_next, declared.{actions.Action.Action, errors.GateError.GateError, replies.Reply.Reply}}
-use Rattle.cpu_words.specs.Hooks.{HookAnswer}
+use Rattle.gate_steps.proofs.Prelude.{Action, Ask, Called, DealtNumbers, Err, GateError, HookAnswer, List, None, Ok, Phase, Reply, Result, SeatedTask}
+use Rattle.gate_steps.proofs.Prelude.{[], actions_after, after_of, arith, asks_with, call_at, map_next, refl, ℕ, ◌∷◌, ◌≡◌}
+use Rattle.std.proofs.Common.{Bool, inr}
 use Rattle.mount_counts.specs.{Remounts.{at_remount, remount_after}, declared.remounts.{Remount.Remount, RemountStep.RemountStep}}
 use Rattle.mount_counts.specs.declared.remounts.RemountStep.TheVariants.{ClearsRemount, Releases, SetsReadOnly, SetsWritable}
 use Rattle.freeze_levels.specs.declared.hooks.HookCall.TheVariants.{Reconfigure as ReconfigureCall}
-use Rattle.gate_world.specs.{Roles.remount_hook, Views.actions_after, Work.after_of, declared.{operations.Op.TheVariants.RemountSb, work.Phase.Phase}}
-use Rattle.gate_world.specs.declared.work.Phase.TheVariants.{Remounts}
-use Rattle.gate_steps.{proofs.call_events.Asked.{AskedAt, asked_by_call}, specs.{Seating.DealtNumbers, call_events.Asked.AskedByRefused}}
-use Rattle.gate_steps.specs.call_events.{Asked.{AtMostAsked, OnceAsked, agreed, failed}, Asking.{Ask, asks_of, asks_with, call_at}, Runs.Called}
-use Rattle.gate_steps.specs.call_events.SeatedTasks.{SeatedTask}
+use Rattle.gate_world.specs.{Roles.remount_hook, declared.{operations.Op.TheVariants.RemountSb, work.Phase.TheVariants.Remounts}}
+use Rattle.gate_steps.{proofs.call_events.Asked.{AskedAt, asked_by_call}, specs.call_events.Asked.{AskedByRefused, AtMostAsked, OnceAsked, agreed}}
+use Rattle.gate_steps.specs.call_events.{Asked.failed, Asking.asks_of}
 
 module _ (read_only : Bool) where
   -- it asks for this state

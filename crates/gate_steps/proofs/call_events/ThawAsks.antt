@@ -1,14 +1,12 @@
 -- The hook that a thaw has asked, by its steps.
-use Rattle.std.{proofs.Common.{List, [], ap, arith, refl, ℕ, ◌∷◌, ◌≡◌}, specs.Prelude.{Err, None, Ok, Result}}
-use Rattle.access_model.specs.{Replies.map_next, declared.{actions.{Action.Action, Holder.Holder}, errors.GateError.GateError, replies.Reply.Reply}}
-use Rattle.cpu_words.specs.Hooks.{HookAnswer}
-use Rattle.freeze_levels.specs.{Thaws.{at_thaw, thaw_after, thaw_hook}, declared.{hooks.HookCall.TheVariants.UnfreezeFs as UnfreezeCall, thaws.Thaw.Thaw}}
-use Rattle.freeze_levels.specs.declared.thaws.ThawStep.{ThawStep, TheVariants.{LeavesLast, Releases, Reopens, SetsUnfrozen}}
-use Rattle.gate_world.specs.{Views.actions_after, Work.after_of, declared.{operations.Op.TheVariants.Thaw as ThawOp, work.Phase.Phase}}
-use Rattle.gate_world.specs.declared.work.Phase.TheVariants.{Thaws}
-use Rattle.gate_steps.{proofs.call_events.Asked.{AskedAt, asked_by_call}, specs.{Seating.DealtNumbers, call_events.Asked.AskedByRefused}}
-use Rattle.gate_steps.specs.call_events.{Asked.{AtMostAsked, OnceAsked, agreed, failed}, Asking.{Ask, asks_of, asks_with, call_at}, Runs.Called}
-use Rattle.gate_steps.specs.call_events.SeatedTasks.{SeatedTask}
+use Rattle.gate_steps.proofs.Prelude.{Action, Ask, Called, DealtNumbers, Err, GateError, HookAnswer, List, None, Ok, Phase, Reply, Result, SeatedTask}
+use Rattle.gate_steps.proofs.Prelude.{[], actions_after, after_of, ap, arith, asks_with, call_at, map_next, refl, ℕ, ◌∷◌, ◌≡◌}
+use Rattle.access_model.specs.declared.actions.Holder.{Holder}
+use Rattle.freeze_levels.specs.{Thaws.{at_thaw, thaw_after, thaw_hook}, declared.hooks.HookCall.TheVariants.UnfreezeFs as UnfreezeCall}
+use Rattle.freeze_levels.specs.declared.thaws.{Thaw.Thaw, ThawStep.{ThawStep, TheVariants.{LeavesLast, Releases, Reopens, SetsUnfrozen}}}
+use Rattle.gate_world.specs.declared.{operations.Op.TheVariants.Thaw as ThawOp, work.Phase.TheVariants.Thaws}
+use Rattle.gate_steps.{proofs.call_events.Asked.{AskedAt, asked_by_call}, specs.call_events.Asked.{AskedByRefused, AtMostAsked, OnceAsked, agreed}}
+use Rattle.gate_steps.specs.call_events.{Asked.failed, Asking.asks_of}
 
 abbrev AtStep : ThawStep → List Ask → Type 0
 AtStep SetsUnfrozen asks = OnceAsked UnfreezeCall asks
