@@ -8,8 +8,8 @@ use Rattle.gate_world.specs.Headline.{actions_so_far, actions_since}
 use Rattle.gate_world.specs.declared.{entries.Entry.{Entry, TheVariants.{Begins}}, operations.Op.{Op, TheVariants.{Snapshot as SnapshotOp}}, views.Traced.{Traced}}
 use Rattle.gate_steps.specs.{Seating.{DealtNumbers, IsPrefix}, call_events.{Grown.{HasSeen, StaySeen}, Spans.{IsEventDuring}}}
 use Rattle.gate_steps.proofs.call_events.{Grown.{after_more}, Moments.{actions_append, part_more}}
-use Rattle.vfs_gates.specs.{Meetings.{Config, SawList}, TaskStates.{SeatedTask, own_number}}
-use Rattle.vfs_gates.proofs.{several_tasks.{Enclosed.{done_there}, FrozenUntilThawed.{some_number}, Told.{sent_list}}, Returning.{was_done}, Timing.{taken_during}}
+use Rattle.vfs_gates.proofs.{Returning.was_done, call_laws.Timing.taken_during, several_tasks.{Enclosed.done_there, FrozenUntilThawed.some_number}}
+use Rattle.vfs_gates.{proofs.several_tasks.Told.sent_list, specs.{Meetings.{Config, SawList}, TaskStates.{SeatedTask, own_number}}}
 use Rattle.example_message.proofs.Writing.{writes_more}
 use Rattle.example_message.specs.Words.{CopiesNow, HadWritten, HasEveryWrite, writes_in}
 

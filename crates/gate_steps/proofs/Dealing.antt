@@ -1,12 +1,11 @@
 -- The numbers stay dealt to the seats.
-use Rattle.std.proofs.Common.{◌≡◌, ℕ, zero, suc, ◌+◌, ◌<◌, ◌≤◌, ◌≢◌, eqb, List, [], ◌∷◌, ◌++◌, set, sym, refl, ap, ◌∙◌, subst, ⊎_elim, arith, eq-eqb, ne_eqb}
-use mathlib.Core.{Logic.{dite}, Option.{some, some-injective, some-ne-none}}
+use Rattle.gate_steps.proofs.Prelude.{DealtNumbers, List, Numbered, View, [], ap, arith, get_elem?, numbered, refl, some, some-injective}
+use Rattle.gate_steps.proofs.Prelude.{some-ne-none, subst, suc, sym, zero, ℕ, ◌++◌, ◌<◌, ◌∙◌, ◌∷◌, ◌≡◌, ◌≤◌}
+use Rattle.std.proofs.Common.{eq-eqb, eqb, ne_eqb, set, ⊎_elim, ◌+◌, ◌≢◌}
+use mathlib.Core.Logic.{dite}
 use native.Mathlib.Decide.{dec_lt}
-use lib.ListN.{get_elem?}
 use Rattle.atomic_table.proofs.Lists.{at_set}
-use Rattle.gate_world.specs.declared.views.View.{View}
-use Rattle.gate_steps.specs.declared.seating.Numbered.{Numbered}
-use Rattle.gate_steps.specs.Seating.{DealtNumbers, numbered, one_if, times, times_all, HaveViews, Dealt}
+use Rattle.gate_steps.specs.Seating.{Dealt, HaveViews, one_if, times, times_all}
 
 pub one_if-same : (n : ℕ) → one_if (eqb n n) ≡ 1
 one_if-same n = ap one_if (eq-eqb n n refl)

@@ -1,26 +1,21 @@
 -- A seat gives one of its numbers to a new seat, or takes back those of another.
-use Rattle.std.specs.Prelude.{Option}
-use Rattle.gate_world.specs.{Moments.HasMoment, Owners.KnowsWords, Rules.{IsGood, Part, Owner, Fitting, AtMount, Holds, owns, Known, Stages, Holding, Tree}}
-use Rattle.gate_world.specs.{Rules.{Files, AtLevel, SyncAt, Sections}, Trees.tree_role_of, Worlds.World, declared.{config.Config.Config, views.View.View}}
-use Rattle.gate_world.specs.declared.{views.Traced.{Traced}, work.Phase.{Phase}, entries.Entry.{Entry}}
-use Rattle.std.proofs.Common.{◌≡◌, ℕ, zero, suc, ◌+◌, ◌<◌, ◌≤◌, ◌≢◌, ◌⊎◌, cond, eqb, List, [], ◌∷◌, ◌++◌, set, sym, refl, ap, ◌∙◌, subst, inl, inr, ⊎_elim}
-use Rattle.std.proofs.{Common.{arith, eq-eqb, ne_eqb, map}, lemmas.List.{map-set, map-append}}
-use mathlib.Core.{Logic.{dite}, Option.{some, some-injective, some-ne-none}}
-use native.Mathlib.Decide.{ℕ_discrete, dec_le}
-use lib.ListN.{get_elem?}
-use Rattle.finite_sums.specs.Sums.{update}
-use Rattle.finite_sums.proofs.Totals.{update_at, update_off, each_updated}
+use Rattle.gate_steps.proofs.Prelude.{Config, DealtNumbers, Entry, Knowledge, List, Numbered, Option, Phase, Traced, View, World, [], ap, arith}
+use Rattle.gate_steps.proofs.Prelude.{get_elem?, knows, numbered, refl, some, some-injective, some-ne-none, subst, suc, sym, zero, ℕ, ◌++◌, ◌<◌, ◌∙◌}
+use Rattle.gate_steps.proofs.Prelude.{◌∷◌, ◌≡◌, ◌≤◌}
+use Rattle.gate_world.specs.{Moments.HasMoment, Owners.KnowsWords, Rules.{AtLevel, AtMount, Files, Fitting, Holding, Holds, IsGood, Known, Owner}}
+use Rattle.gate_world.specs.{Rules.{Part, Sections, Stages, SyncAt, Tree, owns}, Trees.tree_role_of}
+use Rattle.std.proofs.{Common.{cond, eq-eqb, eqb, inl, inr, map, ne_eqb, set, ⊎_elim, ◌+◌, ◌≢◌, ◌⊎◌}, lemmas.List.{map-append, map-set}}
+use mathlib.Core.Logic.{dite}
+use native.Mathlib.Decide.{dec_le, ℕ_discrete}
+use Rattle.finite_sums.{proofs.Totals.{each_updated, update_at, update_off}, specs.Sums.update}
 use Rattle.access_model.specs.Histories.{own_part}
-use Rattle.atomic_table.specs.Table.{Splits, Joins}
-use Rattle.atomic_table.proofs.Lists.{at_set, at_snoc, at_map, at_longer, set_else}
-use Rattle.gate_steps.specs.declared.seating.Knowledge.{Knowledge}
-use Rattle.gate_steps.specs.Seating.{knows, items_of, HaveSeen, known_kept, known_given, known_both}
-use Rattle.gate_steps.specs.{Histories.HasHistory, Seating.{DealtNumbers, numbered, one_if, times, times_all, HaveViews, Dealt, without, view_in, renewed}}
-use Rattle.gate_steps.specs.{Seating.{given_of, Spares, trace_kept}, declared.seating.Numbered.Numbered}
+use Rattle.atomic_table.{proofs.Lists.{at_longer, at_map, at_set, at_snoc, set_else}, specs.Table.{Joins, Splits}}
+use Rattle.gate_steps.proofs.Dealing.{apart, known, one_if-other, one_if-same, times-append, times_all-one, times_all-set, times_all-snoc}
+use Rattle.gate_steps.{proofs.{Reaching.renewed_reached, TableSimulation.holds}, specs.{Histories.HasHistory, Seating.{Dealt, HaveSeen, HaveViews}}}
+use Rattle.gate_steps.specs.Seating.{Spares, given_of, items_of, known_both, known_given, known_kept, one_if, renewed, times, times_all, trace_kept}
+use Rattle.gate_steps.specs.Seating.{view_in, without}
 use Rattle.cpu_words.specs.Words.{Words}
 use Rattle.gate_schedules.proofs.frames.Frames.{left_alone, shown_still}
-use Rattle.gate_steps.proofs.{Dealing.{one_if-same, one_if-other, times-append, times_all-set, times_all-one, times_all-snoc, known, apart}, TableSimulation.holds}
-use Rattle.gate_steps.proofs.Reaching.{renewed_reached}
 
 pub times-without : (n : ℕ) (l : DealtNumbers) → times n (without n l) ≡ 0
 times-without n [] = refl

@@ -1,16 +1,11 @@
 -- The schedule goes on from what each seat has seen.
-use Rattle.std.proofs.lemmas.Grind.{common_steps}
-use Rattle.std.proofs.Common.{◌≡◌, ℕ, zero, suc, ◌≤◌, List, [], ◌∷◌, ◌++◌, map, set, sym, refl, ◌∙◌, subst, ⊎_elim, arith}
-use Rattle.std.proofs.lemmas.List.{append_assoc, append-nil}
-use Rattle.std.specs.Prelude.{Option, Some, None}
-use mathlib.Core.Option.{some, some-injective, some-ne-none}
-use lib.ListN.{get_elem?}
-use Rattle.atomic_table.proofs.Lists.{at_set, at_map}
-use Rattle.cpu_words.specs.Hooks.{HookAnswer}
-use Rattle.gate_world.specs.declared.{entries.Entry.{Entry, TheVariants.{Begins, Steps}}, operations.Op.{Op}, views.View.{View}}
-use Rattle.gate_steps.specs.{declared.seating.{Numbered.{Numbered}, Knowledge.{Knowledge}}, Histories.{then_begins, then_steps}}
-use Rattle.gate_steps.specs.Seating.{DealtNumbers, knows, items_of, times, NoneOf, IsPrefix, HaveSeen, Dealt}
-use Rattle.gate_steps.proofs.Dealing.{times-at, times_all-two, known}
+use Rattle.gate_steps.proofs.Prelude.{DealtNumbers, Entry, HookAnswer, Knowledge, List, None, Numbered, Op, Option, Some, View, [], arith, get_elem?}
+use Rattle.gate_steps.proofs.Prelude.{knows, refl, some, some-injective, some-ne-none, subst, suc, sym, zero, ℕ, ◌++◌, ◌∙◌, ◌∷◌, ◌≡◌, ◌≤◌}
+use Rattle.std.proofs.{Common.{map, set, ⊎_elim}, lemmas.{Grind.common_steps, List.{append-nil, append_assoc}}}
+use Rattle.atomic_table.proofs.Lists.{at_map, at_set}
+use Rattle.gate_world.specs.declared.entries.Entry.TheVariants.{Begins, Steps}
+use Rattle.gate_steps.{proofs.Dealing.{known, times-at, times_all-two}, specs.{Histories.{then_begins, then_steps}, Seating.{Dealt, HaveSeen}}}
+use Rattle.gate_steps.specs.Seating.{IsPrefix, NoneOf, items_of, times}
 
 none_append : (n : ℕ) (a b : List Entry) → NoneOf n a → NoneOf n b → NoneOf n (a ++ b)
 none_append n [] b na nb = nb

@@ -1,3 +1,4 @@
+pub mod Prelude
 pub mod Dealing
 pub mod Growing
 pub mod TableWords

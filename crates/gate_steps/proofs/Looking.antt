@@ -1,17 +1,13 @@
 -- A seat that looks at the table, and one whose numbers are divided.
-use Rattle.std.proofs.Common.{◌≡◌, ℕ, ◌<◌, ◌≤◌, List, [], ◌∷◌, ◌++◌, set, map, sym, refl, ap, ◌∙◌, subst, ⊎_elim, arith}
-use Rattle.std.proofs.lemmas.List.{map-set, map-append, set-get_or}
-use mathlib.Core.{Logic.{dite}, Option.{some}}
+use Rattle.gate_steps.proofs.Prelude.{Config, DealtNumbers, Entry, Knowledge, List, View, World, [], ap, arith, get_elem?, knows, refl, some, subst}
+use Rattle.gate_steps.proofs.Prelude.{sym, ℕ, ◌++◌, ◌<◌, ◌∙◌, ◌∷◌, ◌≡◌, ◌≤◌}
+use Rattle.std.proofs.{Common.{map, set, ⊎_elim}, lemmas.List.{map-append, map-set, set-get_or}}
+use mathlib.Core.Logic.{dite}
 use native.Mathlib.Decide.{dec_le}
-use lib.ListN.{get_elem?}
-use Rattle.atomic_table.specs.Table.{Splits, Allows, keeps}
-use Rattle.atomic_table.proofs.Lists.{at_set, at_snoc, at_map, set_again}
-use Rattle.gate_world.specs.{Worlds.{World}, declared.{config.Config.Config, entries.Entry.{Entry}, views.View.View}}
-use Rattle.gate_steps.specs.{declared.seating.{Knowledge.Knowledge}, Meetings.{looked}, Rules.{Ruled}}
-use Rattle.gate_steps.specs.Seating.{DealtNumbers, knows, items_of, times, times_all, HaveSeen, Dealt}
-use Rattle.gate_steps.proofs.Dealing.{times-append, times_all-set, times_all-one, times_all-snoc, known}
-use Rattle.gate_steps.proofs.{Giving.{fewer_seen, at_behind}, Growing.{seen_now}, TableSimulation.{Carried, holds}}
-use Rattle.atomic_table.proofs.Lists.{at_longer}
+use Rattle.atomic_table.{proofs.Lists.{at_longer, at_map, at_set, at_snoc, set_again}, specs.Table.{Allows, Splits, keeps}}
+use Rattle.gate_steps.proofs.{Dealing.{known, times-append, times_all-one, times_all-set, times_all-snoc}, Giving.{at_behind, fewer_seen}}
+use Rattle.gate_steps.{proofs.{Growing.seen_now, TableSimulation.{Carried, holds}}, specs.{Meetings.looked, Rules.Ruled, Seating.{Dealt, HaveSeen}}}
+use Rattle.gate_steps.specs.Seating.{items_of, times, times_all}
 
 -- of a list in two parts each number stands in one of them
 module _ (tasks : ℕ) (views : ℕ → View) (seats : List DealtNumbers) (dealt : Dealt tasks views seats) (id : ℕ) (mine others : DealtNumbers)

@@ -1,17 +1,15 @@
 -- The table as it begins: the words of an opening, and one seat with all numbers.
-use Rattle.std.proofs.Common.{◌≡◌, ℕ, zero, suc, ◌+◌, ◌<◌, ◌≤◌, eqb, List, [], ◌∷◌, sym, refl, ap, ◌∙◌, subst, arith}
-use mathlib.Core.{Logic.{dite}, Option.{some, some-injective, some-ne-none}}
+use Rattle.gate_steps.proofs.Prelude.{Config, DealtNumbers, IsWithin, Knowledge, List, Numbered, [], ap, arith, get_elem?, knows, numbered, refl}
+use Rattle.gate_steps.proofs.Prelude.{some, some-injective, some-ne-none, subst, suc, sym, zero, ℕ, ◌<◌, ◌∙◌, ◌∷◌, ◌≡◌, ◌≤◌}
+use Rattle.std.proofs.Common.{eqb, ◌+◌}
+use mathlib.Core.Logic.{dite}
 use native.Mathlib.Decide.{ℕ_discrete}
-use lib.ListN.{get_elem?}
-use Rattle.cpu_words.specs.{Words.{opening_words}, Lists.{AreOpening}}
-use Rattle.cpu_words.proofs.Places.{opening_listed}
-use Rattle.gate_world.specs.{declared.config.Config.{Config}, Configs.{IsWithin, extents_kept}, Views.{opening_view}, Worlds.{opening}}
+use Rattle.cpu_words.{proofs.Places.opening_listed, specs.{Lists.AreOpening, Words.opening_words}}
+use Rattle.gate_world.specs.{Configs.extents_kept, Views.opening_view, Worlds.opening}
 use Rattle.gate_schedules.proofs.{frames.Places.are_few, schedules.Schedule.{opening_good, opening_shown}}
-use Rattle.gate_steps.specs.declared.seating.Numbered.{Numbered}
-use Rattle.gate_steps.specs.Seating.{DealtNumbers, numbered, one_if, times, knows, HaveViews, HaveSeen, deal}
-use Rattle.gate_steps.specs.Rules.{table_index, table_length, TableShows, TableInvariantHolds, first_items, first_known}
-use Rattle.gate_steps.specs.declared.seating.Knowledge.{Knowledge}
-use Rattle.gate_steps.proofs.{Dealing.{one_if-same, one_if-other}, TableWords.{apart}, Growing.{seen_now}, Reaching.{opening_reached}}
+use Rattle.gate_steps.proofs.{Dealing.{one_if-other, one_if-same}, Growing.seen_now, Reaching.opening_reached, TableWords.apart}
+use Rattle.gate_steps.specs.{Rules.{TableInvariantHolds, TableShows, first_items, first_known, table_index, table_length}, Seating.HaveSeen}
+use Rattle.gate_steps.specs.Seating.{HaveViews, deal, one_if, times}
 
 -- numbers below those that are dealt stand nowhere
 pub times-deal_below : (m from k : ℕ) → m < from → times m (deal from k) ≡ 0

@@ -1,16 +1,13 @@
 -- What some schedule makes of the opening, a table's state is again after each beginning, step and gift of a number.
-use Rattle.std.proofs.{Common.{arith, ◌≡◌, ℕ, ◌<◌, [], ◌∷◌, ◌++◌, refl, sym, ap, ◌∙◌, subst}, lemmas.Bool.{lt-ltb}}
-use Rattle.std.specs.Prelude.{is_some, false, Option, Some, None, List}
-use Rattle.finite_sums.specs.Sums.{update}
-use Rattle.finite_sums.proofs.Totals.{each_updated}
-use Rattle.cpu_words.specs.{Hooks.HookAnswer, Touches.event_of}
-use Rattle.access_model.specs.{Histories.Done}
-use Rattle.gate_world.specs.{Beginnings.{first_phase, refusal, view_refusal}, Holdings.holdings_of, Views.{phase_after, actions_after, begun_view, held_of}}
-use Rattle.gate_world.specs.{Views.{view_after, view_after_with_others, with_hook}, Work.{next_of, after_of}, Worlds.{World, after_begin}}
-use Rattle.gate_world.specs.declared.entries.Entry.{Entry, TheVariants.{Begins, Steps}}
-use Rattle.gate_world.specs.{Worlds.{words_after, after_step, after_step_with_others, run, opening, happens, history, with_action, action_of, task_of}}
-use Rattle.gate_world.specs.{Worlds.{value_at, found_at, phase_action}, declared.{config.Config.Config, operations.Op.Op}}
-use Rattle.gate_world.specs.declared.{views.{View.View}, work.Phase.Phase}
+use Rattle.gate_steps.proofs.Prelude.{Config, Entry, HookAnswer, None, Op, Option, Phase, Some, View, World, [], actions_after, after_of, ap, arith}
+use Rattle.gate_steps.proofs.Prelude.{event_of, held_of, next_of, phase_after, refl, subst, sym, ℕ, ◌++◌, ◌<◌, ◌∙◌, ◌∷◌, ◌≡◌}
+use Rattle.std.{proofs.lemmas.Bool.lt-ltb, specs.Prelude.{List, false, is_some}}
+use Rattle.finite_sums.{proofs.Totals.each_updated, specs.Sums.update}
+use Rattle.access_model.specs.Histories.{Done}
+use Rattle.gate_world.specs.{Beginnings.{first_phase, refusal, view_refusal}, Holdings.holdings_of, Views.{begun_view, view_after}}
+use Rattle.gate_world.specs.{Views.{view_after_with_others, with_hook}, Worlds.{action_of, after_begin, after_step, after_step_with_others, found_at}}
+use Rattle.gate_world.specs.Worlds.{happens, history, opening, phase_action, run, task_of, value_at, with_action, words_after}
+use Rattle.gate_world.specs.declared.entries.Entry.TheVariants.{Begins, Steps}
 use Rattle.gate_schedules.proofs.schedules.{Beginnings.may_begin, Runs.run_more}
 use Rattle.gate_steps.specs.{Histories.{BeginsIdle, IsLike, IsReached, IsWellFormed, then_steps}, Seating.renewed}
 

@@ -1,8 +1,6 @@
 -- No step stores into the word of a node or a sync word, so what it finds there is what the word held.
-use Rattle.std.proofs.Common.{arith, ℕ}
-use Rattle.gate_world.specs.{traces.TraceStates.{ReadIsValid}, declared.work.Phase.{Phase}, Work.{next_of}}
-use Rattle.cpu_words.specs.{Touches.{found_by}}
-use Rattle.cpu_words.specs.{Hooks.{HookAnswer}}
+use Rattle.gate_steps.proofs.Prelude.{HookAnswer, Phase, arith, found_by, next_of, ℕ}
+use Rattle.gate_world.specs.traces.TraceStates.{ReadIsValid}
 
 pub there_found : (phase : Phase) (hook : HookAnswer) (value : ℕ) → ReadIsValid phase (next_of phase hook).0 value →
     ReadIsValid phase (next_of phase hook).0 (found_by (next_of phase hook).1 value)

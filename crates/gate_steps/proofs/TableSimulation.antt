@@ -1,30 +1,25 @@
 -- The laws of one step and of a beginning as what the table's atomic step asks.
-use Rattle.std.proofs.Common.{◌≡◌, ℕ, suc, length, ◌<◌, List, [], ◌∷◌, set, sym, refl, ap, ◌∙◌, subst, length-set, arith, map}
-use Rattle.std.proofs.lemmas.List.{map-set}
-use Rattle.std.specs.Prelude.{is_some, Option, Some, None, slice_index}
-use Rattle.finite_sums.specs.Sums.{update}
-use Rattle.finite_sums.proofs.Totals.{update_at, update_off}
-use Rattle.atomic_table.specs.Table.{State, Me, keeps, Allows}
-use Rattle.access_model.specs.{Histories.{Done, end_of, IsLegal, IsMerge}, States.State as Shown, declared.{actions.Action.Action}}
-use Rattle.cpu_words.specs.{Hooks.HookAnswer, Names.{IsWord, place, words_in_all}, Touches.{left, found_by}, Words.{Words, read, put}}
-use Rattle.cpu_words.specs.declared.{events.Touch.{Touch}, names.WordName.WordName}
-use Rattle.gate_world.specs.{Beginnings.{first_phase, view_refusal}, Configs.{IsWithin, model_limits, extents_kept}, traces.TraceStates.ReadIsValid, Fits.Fits}
-use Rattle.gate_world.specs.{Moments.AllHaveMoments, Rules.{IsGood, Moves, StepKeeps, Fitting}, Shown.shown}
-use Rattle.gate_world.specs.{Views.{begun_view, view_after_with_others, held_of}, Work.{next_of, after_of}, Worlds.{World, words_after, value_at}}
-use Rattle.gate_world.specs.{Worlds.{found_at, after_step, after_step_with_others, phase_action, with_action}, declared.{config.Config.Config, operations.Op.Op}}
-use Rattle.gate_world.specs.declared.{views.{View.{View}}, work.Phase.{Phase}, entries.Entry.{Entry}}
+use Rattle.gate_steps.proofs.Prelude.{Action, Config, DealtNumbers, Entry, HookAnswer, IsWithin, Knowledge, List, None, Numbered, Op, Option, Phase}
+use Rattle.gate_steps.proofs.Prelude.{Some, View, World, [], after_of, ap, arith, found_by, get_elem?, held_of, knows, next_of, refl, some, subst}
+use Rattle.gate_steps.proofs.Prelude.{suc, sym, ℕ, ◌<◌, ◌∙◌, ◌∷◌, ◌≡◌}
+use Rattle.std.{proofs.{Common.{length, length-set, map, set}, lemmas.List.map-set}, specs.Prelude.{is_some, slice_index}}
+use Rattle.finite_sums.{proofs.Totals.{update_at, update_off}, specs.Sums.update}
+use Rattle.atomic_table.{proofs.Lists.at_map, specs.Table.{Allows, Me, State, keeps}}
+use Rattle.access_model.specs.{Histories.{Done, IsLegal, IsMerge, end_of}, States.State as Shown}
+use Rattle.cpu_words.specs.{Names.{IsWord, place, words_in_all}, Touches.left, Words.{Words, put, read}, declared.events.Touch.Touch}
+use Rattle.cpu_words.specs.declared.names.WordName.{WordName}
+use Rattle.gate_world.specs.{Beginnings.{first_phase, view_refusal}, Configs.{extents_kept, model_limits}, Fits.Fits, Moments.AllHaveMoments}
+use Rattle.gate_world.specs.{Rules.{Fitting, IsGood, Moves, StepKeeps}, Shown.shown, Views.{begun_view, view_after_with_others}, Worlds.after_step}
+use Rattle.gate_world.specs.Worlds.{after_step_with_others, found_at, phase_action, value_at, with_action, words_after}
+use Rattle.gate_world.specs.traces.TraceStates.{ReadIsValid}
 use Rattle.freeze_laws.specs.moments.Moments.{HaveDone}
-use Rattle.gate_schedules.proofs.{frames.{ValidWords.events_may_be, Snapshots.others_apart}, operations.AllOperations.phase_keeps, schedules.Beginnings.may_begin}
-use Rattle.gate_schedules.proofs.schedules.{Lists.{beside_lists, begin_lists}, Phases.word_there, Schedule.{begun_keeps, legal_more}}
-use Rattle.gate_schedules.proofs.{schedules.Snapshots.{beside_moments, begin_moments}, trees.worlds.Frozen.frozen_whole}
-use Rattle.gate_steps.proofs.{Dealing.{times-at, known_here, inside, redealt}, Reaching.{begun_reached, stepped_reached}, Stores.there_found}
-use Rattle.gate_steps.proofs.{Growing.{seen_all}, TableWords.{table_written}}
-use Rattle.gate_steps.specs.declared.seating.Knowledge.{Knowledge}
-use Rattle.gate_steps.specs.{Histories.{HasHistory, IsReached, then_begins, then_steps}, Rules.{table_index, table_length, TableShows, TableInvariantHolds}, Seating.{DealtNumbers, knows, items_of, HaveViews, Dealt, NumberMayStep}}
-use Rattle.gate_steps.specs.{Seating.{OwnNumberMayStep, entered, world_entered, done_by, items_after, happened}, declared.seating.Numbered.Numbered}
-use mathlib.Core.Option.{some}
-use lib.ListN.{get_elem?}
-use Rattle.atomic_table.proofs.Lists.{at_map}
+use Rattle.gate_schedules.proofs.{frames.{Snapshots.others_apart, ValidWords.events_may_be}, operations.AllOperations.phase_keeps}
+use Rattle.gate_schedules.proofs.schedules.{Beginnings.may_begin, Lists.{begin_lists, beside_lists}, Phases.word_there, Schedule.begun_keeps}
+use Rattle.gate_schedules.proofs.{schedules.{Schedule.legal_more, Snapshots.{begin_moments, beside_moments}}, trees.worlds.Frozen.frozen_whole}
+use Rattle.gate_steps.proofs.{Dealing.{inside, known_here, redealt, times-at}, Growing.seen_all, Reaching.{begun_reached, stepped_reached}}
+use Rattle.gate_steps.{proofs.{Stores.there_found, TableWords.table_written}, specs.Histories.{HasHistory, IsReached, then_begins, then_steps}}
+use Rattle.gate_steps.specs.{Rules.{TableInvariantHolds, TableShows, table_index, table_length}, Seating.{Dealt, HaveViews, NumberMayStep}}
+use Rattle.gate_steps.specs.Seating.{OwnNumberMayStep, done_by, entered, happened, items_after, items_of, world_entered}
 
 abbrev pub Carried : Type 0
 Carried = List (ℕ × Unit {0})
@@ -205,15 +200,15 @@ step_simulates c slots id (x ∷ xs) seen carried begins phase hook acts s held 
       ),
     )
 
--- The same at a place, a touch and a moment that equal those of the phase, with the place's bound
-pub lifted_at : (c : Config) (slots words id : ℕ) (me : Me (Unit {0}) Knowledge) (d : Config) (begins starts : Option Op) (p q : Phase)
-    (h k : HookAnswer) (r : WordName × Touch) (i : ℕ) (touch : Touch) →
-    c ≡ d → begins ≡ starts → p ≡ q → h ≡ k → r ≡ next_of p h → i ≡ table_index (place r.0) → r.1 ≡ touch → words ≡ table_length →
+-- The same at a place, a touch and a moment that equal those of the phase, with the place's bound; the tables are the same.
+pub lifted_at : {T : Type 0} {seated shared : T} {c d : Config} {words i : ℕ} {begins starts : Option Op} {p q : Phase} {h k : HookAnswer}
+    {r : WordName × Touch} {touch : Touch} (slots id : ℕ) (me : Me (Unit {0}) Knowledge) →
+    seated ≡ shared → c ≡ d → begins ≡ starts → p ≡ q → h ≡ k → r ≡ next_of p h → i ≡ table_index (place r.0) → r.1 ≡ touch → words ≡ table_length →
     place (next_of p h).0 < words_in_all → OwnNumberMayStep c begins p me.0.items →
-    (i < words) × Allows (holds c) slots id me i (left touch) (λ n. happened d starts q k me (found_by touch n))
-lifted_at c slots words id me d begins starts p q h k r i touch ec eb ep eh er ei et ew small acts =
+    (seated ≡ shared) × (i < words) × Allows (holds c) slots id me i (left touch) (λ n. happened d starts q k me (found_by touch n))
+lifted_at {T} {seated} {shared} {c} {d} {words} {i} {begins} {starts} {p} {q} {h} {k} {r} {touch} slots id me table ec eb ep eh er ei et ew small acts =
     let at : i ≡ table_index (place (next_of p h).0) = ei ∙ ap (λ (z : WordName × Touch). table_index (place z.0)) er in
     let same : (next_of p h).1 ≡ touch = ap (λ (z : WordName × Touch). z.1) (sym er) ∙ et in
     let P : Config × Option Op × Phase × HookAnswer × ℕ × Touch →
     Type 0 = λ z. Allows (holds c) slots id me z.4 (left z.5) (λ n. happened z.0 z.1 z.2 z.3 me (found_by z.5 n)) in
-    (omega arith, subst P (λ j. (ec j, eb j, ep j, eh j, sym at j, same j)) (step_simulates c slots id me.0.items me.0.seen me.1 begins p h acts))
+    (table, omega arith, subst P (λ j. (ec j, eb j, ep j, eh j, sym at j, same j)) (step_simulates c slots id me.0.items me.0.seen me.1 begins p h acts))

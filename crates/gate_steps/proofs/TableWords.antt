@@ -1,13 +1,11 @@
 -- The table: after a write of one word it shows the words with that one written.
-use Rattle.std.proofs.Common.{◌≡◌, ℕ, zero, suc, ◌<◌, List, [], ◌∷◌, length, sym, arith}
-use Rattle.std.specs.Prelude.{slice_index, slice_set}
-use mathlib.Core.Option.{some, some-injective, some-ne-none}
-use lib.ListN.{get_elem?}
-use Rattle.cpu_words.specs.{declared.names.WordName.{WordName}, Names.{IsWord, place}, Words.{Words, put}}
-use Rattle.cpu_words.proofs.Places.{place_small, written}
-use Rattle.gate_world.specs.{declared.config.Config.{Config}, Configs.{IsWithin, extents_kept}}
+use Rattle.gate_steps.proofs.Prelude.{Config, IsWithin, List, [], arith, get_elem?, some, some-injective, some-ne-none, suc, sym, zero, ℕ, ◌<◌, ◌∷◌}
+use Rattle.gate_steps.proofs.Prelude.{◌≡◌}
+use Rattle.std.{proofs.Common.length, specs.Prelude.{slice_index, slice_set}}
+use Rattle.cpu_words.{proofs.Places.{place_small, written}, specs.{Names.{IsWord, place}, Words.{Words, put}, declared.names.WordName.WordName}}
+use Rattle.gate_world.specs.Configs.{extents_kept}
 use Rattle.gate_schedules.proofs.frames.Places.{are_few}
-use Rattle.gate_steps.specs.Rules.{table_index, table_length, TableShows}
+use Rattle.gate_steps.specs.Rules.{TableShows, table_index, table_length}
 
 -- words lie apart
 pub apart : (i j : ℕ) → table_index i ≡ table_index j → i ≡ j

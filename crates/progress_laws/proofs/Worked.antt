@@ -4,7 +4,7 @@ use Rattle.progress_laws.proofs.Prelude.{◌==◌, ◌∷◌, ◌≡◌}
 use Rattle.std.{proofs.Common.◌++◌, specs.Prelude.replicate}
 use Rattle.access_model.specs.declared.actions.Holder.{Holder}
 use Rattle.gate_world.specs.Worlds.{opening}
-use Rattle.progress_laws.{proofs.Settling.waits_at, specs.{Alone.turns_alone, GivingUp.turns_to_give_up}}
+use Rattle.progress_laws.{proofs.rounds.Settling.waits_at, specs.{Alone.turns_alone, GivingUp.turns_to_give_up}}
 
 -- three tasks, two processors, one mount
 abbrev limits : Config

@@ -5,10 +5,10 @@ use Rattle.access_model.specs.declared.{errors.GateError.{GateError}, replies.Re
 use Rattle.gate_steps.specs.call_events.Spans.{HasItsCauseDuring}
 use Rattle.gate_steps.proofs.call_events.{Caused.{call_caused_during}, Effects.{call_effect}}
 use Rattle.gate_world.specs.declared.{config.Config.{Config}, operations.Op.{Op, TheVariants.{Snapshot as SnapshotOp}}}
-use Rattle.vfs_gates.specs.{Grown.{StaySeen}, Held.{own_actions}, Meetings.{ComesAfterList, Entry, SawList}, Runs.{told_as, unit_of, Called, Performs}}
-use Rattle.vfs_gates.specs.TaskStates.{SeatedTask, own_number, refusal_at}
-use Rattle.vfs_gates.proofs.{Grown.{both_stay_seen}, Returning.{was_done}, Taking.{has_taken}, Timing.{calls_in_order, taken_during}}
-use Rattle.vfs_gates.proofs.{call_laws.NothingAdded.{was_so}, several_tasks.{FrozenUntilThawed.{some_number}, Told.{comes_after_list, own_list, sent_list}}}
+use Rattle.vfs_gates.proofs.{Grown.both_stay_seen, Returning.was_done, Taking.has_taken, call_laws.{NothingAdded.was_so, Timing.calls_in_order}}
+use Rattle.vfs_gates.proofs.{call_laws.Timing.taken_during, several_tasks.{FrozenUntilThawed.some_number, Told.{comes_after_list, own_list}}}
+use Rattle.vfs_gates.{proofs.several_tasks.Told.sent_list, specs.{Grown.StaySeen, Held.own_actions, Meetings.{ComesAfterList, Entry, SawList}}}
+use Rattle.vfs_gates.specs.{Runs.{Called, Performs, told_as, unit_of}, TaskStates.{SeatedTask, own_number, refusal_at}}
 use Rattle.test_gates.specs.InTime.{CopiedDuring, DoneInOrder, FoundItSo, RefusedSince, TookEffect}
 
 -- what is so of a call that was done

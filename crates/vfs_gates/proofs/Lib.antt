@@ -1,9 +1,7 @@
 pub mod FlagSteps
 pub mod Parting
 pub mod Splitting
-pub mod Closing
-pub mod Ending
-pub mod Gating
+pub mod closed_gates
 pub mod Admitting
 pub mod Calling
 pub mod Waiting
@@ -12,7 +10,6 @@ pub mod Loading
 pub mod Rooming
 pub mod Seeing
 pub mod Taking
-pub mod Timing
 pub mod Holding
 pub mod Returning
 pub mod Resting
@@ -24,4 +21,3 @@ pub mod several_tasks
 pub mod call_laws
 pub use Rattle.gate_steps.proofs.call_events.Grown
 pub mod OwnHooks
-pub mod FoundNobody

@@ -12,18 +12,17 @@ pub use Rattle.gate_steps.proofs.call_events.Dealing.{times-append}
 use Rattle.gate_world.specs.{Views.held_of, declared.views.{Traced.Traced, View.View}}
 pub use Rattle.gate_world.specs.Configs.{IsWithin}
 pub use Rattle.gate_world.specs.declared.config.Config.{Config}
-use Rattle.vfs_gates.specs.{Held.{own_actions, IsAsBefore, IsGivenBack, takes_nothing}, Ended.{EndedWith}}
+use Rattle.vfs_gates.proofs.{Holding.{keeps, rests_on}, Reopening.{Opens, opens}, Resting.{change_begins, first_ends, second_ends}}
+use Rattle.vfs_gates.proofs.{Resting.split_done_nothing, Returning.{done_idle, dropped, may, was_done, written_back}, call_laws.Timing.comes_after}
+use Rattle.vfs_gates.{proofs.several_tasks.Told.own_list, specs.{Ended.EndedWith, Held.{IsAsBefore, IsGivenBack, own_actions, takes_nothing}}}
+use Rattle.vfs_gates.specs.{Meetings.SawList, Parts.SplitOf, Rounds.granted_in, TaskStates.{Empty, own_number, own_view, refusal_at, spare_of}}
+use Rattle.vfs_gates.specs.declared.gates.Gates.{Gates}
 use Rattle.gate_world.specs.declared.entries.Entry.{Entry}
 pub use Rattle.vfs_gates.specs.Rounds.{GateError, Mount, Op, ChangeMount, Performs, Rests, SeatedTask, IsFrom, ComesAfter, Did, Ended, Granted, refused, round}
 use Rattle.access_model.specs.declared.actions.Gate.{Gate}
-use Rattle.vfs_gates.specs.{Rounds.{granted_in}, Parts.{SplitOf}, TaskStates.{own_number, own_view, refusal_at, spare_of, Empty}}
 pub use Rattle.vfs_gates.specs.TaskStates.{task_state}
 use Rattle.gate_steps.specs.call_events.Grown.{StaySeen}
 use Rattle.gate_steps.proofs.call_events.Grown.{call_stays_seen, same_stays_seen}
-use Rattle.vfs_gates.specs.{Meetings.{SawList}, declared.gates.Gates.{Gates}}
-use Rattle.vfs_gates.proofs.{Holding.{keeps, rests_on}, Reopening.{Opens, opens}}
-use Rattle.vfs_gates.proofs.Resting.{first_ends, second_ends, change_begins, split_done_nothing}
-use Rattle.vfs_gates.proofs.{Returning.{done_idle, may, was_done, dropped, written_back}, Timing.{comes_after}, several_tasks.Told.{own_list}}
 
 -- a call that takes nothing leaves a task at rest
 pub rests_after : {op : Op} {old left : SeatedTask} {outcome : Result (Unit {0}) GateError} → takes_nothing op ≡ true → Rests old →

@@ -5,3 +5,5 @@ pub mod WaitFree
 pub mod Dropped
 pub mod TreeStays
 pub mod HookFailed
+pub mod Timing
+pub mod FoundNobody

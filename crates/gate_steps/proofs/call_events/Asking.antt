@@ -1,13 +1,9 @@
 -- The hooks that one step more asks, and those of a whole call.
-use Rattle.std.proofs.Common.{arith, ◌≡◌, ℕ, List, ap, sym, subst, ◌∙◌}
-use Rattle.std.specs.Prelude.{Option, Some, None, Result, Ok, Err}
-use Rattle.access_model.specs.declared.{errors.GateError.{GateError}, replies.Reply.{Reply}}
+use Rattle.gate_steps.proofs.Prelude.{Ask, DealtNumbers, Err, GateError, HookAnswer, List, None, Ok, Op, Option, Reply, Result, SeatedTask, Some, ap}
+use Rattle.gate_steps.proofs.Prelude.{arith, asks_with, subst, sym, ℕ, ◌∙◌, ◌≡◌}
 use Rattle.gate_transitions.specs.Answers.{unless_refused}
-use Rattle.gate_world.specs.declared.operations.Op.{Op}
-use Rattle.gate_steps.specs.{call_events.{Runs.{told_as, the_reply}, SeatedTasks.{SeatedTask, refusal_at}}, Seating.{DealtNumbers}}
-use Rattle.gate_steps.specs.call_events.Asking.{Ask, asks_with, WereAsked, CalledAsking, RepliesAsking}
-use Rattle.gate_steps.proofs.call_events.Running.{was_done, was_told}
-use Rattle.cpu_words.specs.Hooks.{HookAnswer}
+use Rattle.gate_steps.{proofs.call_events.Running.{was_done, was_told}, specs.call_events.Asking.{CalledAsking, RepliesAsking, WereAsked}}
+use Rattle.gate_steps.specs.call_events.{Runs.{the_reply, told_as}, SeatedTasks.refusal_at}
 use Rattle.freeze_levels.specs.declared.hooks.HookCall.{HookCall}
 
 module _ {H : Type 0} (answers : HookCall → DealtNumbers → H → HookAnswer → H → Type 0) where

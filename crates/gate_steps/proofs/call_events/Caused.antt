@@ -1,17 +1,13 @@
 -- A refused call has its cause at a moment of a schedule, between call and return.
-use Rattle.std.proofs.Common.{◌≡◌, ℕ, List, [], ◌∷◌, ◌++◌, sym, ap, ◌∙◌, subst, arith}
-use Rattle.std.specs.Prelude.{Some, Err}
-use Rattle.access_model.specs.declared.{errors.GateError.{GateError}, replies.Next.TheVariants.{Done}}
-use Rattle.cpu_words.specs.{Touches.{found_by}, declared.events.Touch.{Touch}}
-use Rattle.gate_schedules.proofs.{schedules.HeadlineProof.{whole_causes, whole_rule}, operations.AllOperations.{phase_keeps}}
-use Rattle.gate_world.specs.{refusals.Causes.HasCause, Headline.world_after, traces.TraceStates.{TraceState, state_of_trace}, Work.{next_of, after_of}}
-use Rattle.gate_world.specs.{Worlds.{World, found_at}, traces.Snapshots.{completes}, declared.entries.Entry.{Entry}}
-use Rattle.gate_world.specs.declared.{config.Config.Config, operations.Op.Op, views.Traced.Traced}
+use Rattle.gate_steps.proofs.Prelude.{Called, Config, DealtNumbers, Done, Entry, Err, GateError, List, Op, SeatedTask, Some, Traced, World, []}
+use Rattle.gate_steps.proofs.Prelude.{after_of, ap, arith, found_by, next_of, own_number, state_of_trace, subst, sym, ℕ, ◌++◌, ◌∙◌, ◌∷◌, ◌≡◌}
+use Rattle.cpu_words.specs.declared.events.Touch.{Touch}
+use Rattle.gate_schedules.proofs.{operations.AllOperations.phase_keeps, schedules.HeadlineProof.{whole_causes, whole_rule}}
+use Rattle.gate_world.specs.{Headline.world_after, Worlds.found_at, refusals.Causes.HasCause, traces.{Snapshots.completes, TraceStates.TraceState}}
 use Rattle.gated_tree.specs.declared.trees.TreeWords.{TreeWords}
-use Rattle.gate_steps.specs.{Seating.{DealtNumbers}, call_events.{Caused.{HasItsCause}, Runs.{completed_by, AreMoves, Called}}}
-use Rattle.gate_steps.specs.call_events.Spans.{HappensAfter, IsEventDuring, IsCausedDuring, HasItsCauseDuring, IsTreeDuring}
-use Rattle.gate_steps.specs.call_events.SeatedTasks.{SeatedTask, own_number}
-use Rattle.gate_steps.proofs.call_events.{Running.{course_is, completed_is}, Spanning.{last_event, each_event}}
+use Rattle.gate_steps.proofs.call_events.{Running.{completed_is, course_is}, Spanning.{each_event, last_event}}
+use Rattle.gate_steps.specs.call_events.{Caused.HasItsCause, Runs.{AreMoves, completed_by}, Spans.{HappensAfter, HasItsCauseDuring, IsCausedDuring}}
+use Rattle.gate_steps.specs.call_events.Spans.{IsEventDuring, IsTreeDuring}
 
 -- what a step says that it found, it finds again
 found_again : (touch : Touch) (n : ℕ) → found_by touch (found_by touch n) ≡ found_by touch n

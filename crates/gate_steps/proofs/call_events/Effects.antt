@@ -1,20 +1,14 @@
 -- A whole call takes effect between call and return, and calls whose schedules go on from each other do so in order.
-use Rattle.std.proofs.Common.{arith, ◌≡◌, ℕ, List, [], ◌∷◌, ◌++◌, refl, sym, ap, ◌∙◌, subst}
+use Rattle.gate_steps.proofs.Prelude.{Action, Called, Config, DealtNumbers, Entry, GateError, List, Next, Op, Phase, Reply, Result, SeatedTask}
+use Rattle.gate_steps.proofs.Prelude.{Traced, View, [], ap, arith, get_elem?, own_number, refl, some, state_of_trace, subst, sym, ℕ, ◌++◌, ◌∙◌, ◌∷◌}
+use Rattle.gate_steps.proofs.Prelude.{◌≡◌}
 use Rattle.std.proofs.lemmas.List.{append_assoc, append_cancel_right}
-use Rattle.std.specs.Prelude.{Result}
-use mathlib.Core.Option.{some}
-use lib.ListN.{get_elem?}
-use Rattle.access_model.specs.{Histories.{Done, own_part}, declared.{actions.Action.{Action}, errors.GateError.{GateError}}}
-use Rattle.access_model.specs.declared.replies.{Next.{Next, TheVariants.{Done as Ended}}, Reply.Reply}
+use Rattle.access_model.specs.{Histories.{Done, own_part}, declared.replies.Next.TheVariants.Done as Ended}
 use Rattle.gate_schedules.proofs.schedules.HeadlineProof.{whole_run}
-use Rattle.gate_world.specs.{traces.TraceStates.{state_of_trace}, Headline.{world_after, actions_so_far, actions_since}}
-use Rattle.gate_world.specs.declared.entries.Entry.{Entry, TheVariants.{Begins, Steps}}
-use Rattle.gate_world.specs.declared.{config.Config.Config, operations.Op.Op, views.{Traced.Traced, View.View}, work.Phase.Phase}
-use Rattle.gate_steps.specs.{Seating.{DealtNumbers, HaveViews, HaveHistory, IsPrefix}, call_events.Grown.{HasSeen}}
-use Rattle.gate_steps.specs.call_events.Runs.{ran_items, IsNextMove, AreMoves, Called}
-use Rattle.gate_steps.specs.call_events.Spans.{GoesOnFromSeen, IsEventDuring, TakesEffect, AreInOrder}
-use Rattle.gate_steps.specs.call_events.SeatedTasks.{SeatedTask, own_number, own_view}
-use Rattle.gate_steps.proofs.call_events.{Grown.{only}, Moments.{own_more, own_one, part_more, actions_append}, Spanning.{last_event}}
+use Rattle.gate_world.specs.{Headline.{actions_since, actions_so_far, world_after}, declared.entries.Entry.TheVariants.{Begins, Steps}}
+use Rattle.gate_steps.proofs.call_events.{Grown.only, Moments.{actions_append, own_more, own_one, part_more}, Spanning.last_event}
+use Rattle.gate_steps.specs.{Seating.{HaveHistory, HaveViews, IsPrefix}, call_events.{Grown.HasSeen, Runs.{AreMoves, IsNextMove, ran_items}}}
+use Rattle.gate_steps.specs.call_events.{SeatedTasks.own_view, Spans.{AreInOrder, GoesOnFromSeen, IsEventDuring, TakesEffect}}
 
 -- of no numbers there is no move
 none_moves : (c : Config) (op : Op) (earlier : List Traced) (e : Traced) (seen gone : List (List Entry)) (comes : Next Phase) →

@@ -1,20 +1,15 @@
 -- What a step leaves of a task's fields and view.
-use Rattle.std.proofs.lemmas.Grind.{common_steps}
-use Rattle.std.proofs.Common.{arith, ◌≡◌, ℕ, Bool, List, refl, sym, ap, ◌∙◌, subst}
-use Rattle.gate_world.specs.declared.entries.Entry.{Entry}
-use Rattle.gate_world.specs.{Accesses.accesses_after, Fits.{PhaseFits, Fits, ActionFits}, Holdings.{Agree, holdings_of, held_after}, Views.held_of}
-use Rattle.gate_world.specs.{Views.{phase_after, view_after_with_others}, Work.{next_of, after_of}}
-use Rattle.gate_world.specs.declared.{accesses.Accesses.Accesses, config.Config.Config, operations.Op.Op, views.View.View, work.Phase.Phase}
-use Rattle.gate_steps.specs.Seating.{knows}
-use Rattle.gate_steps.specs.{Seating.{DealtNumbers, numbered, entered, done_by, items_after, HasWitness}, declared.seating.Numbered.Numbered}
-use Rattle.gate_steps.specs.call_events.{Stepped.{state_after, Stepped}, SeatedTasks.{SeatedTask, task_state}, GhostAgrees.{PhaseOk, OwnNumberAgrees, GhostAgrees}}
-use Rattle.std.specs.Prelude.{Option, Some, None}
-use Rattle.access_model.specs.declared.{actions.Action.Action, replies.Next.Next}
-use Rattle.cpu_words.specs.{Hooks.HookAnswer, Touches.{found_by, event_of}, declared.events.Touch.{Touch}}
-use Rattle.cpu_words.specs.declared.{events.{Event.Event}, names.WordName.WordName}
-use Rattle.gate_transitions.specs.{Answers.{progress_of}, TaskStates.{task_holdings}, declared.task_states.TaskState.{TaskState}}
-use Rattle.gate_transitions.specs.declared.steps.Progress.{Progress}
-use Rattle.gate_schedules.proofs.frames.{Accesses.{holdings_of_after, long_after, wide_after, deep_after, agree_after}, Agreeing.agree_sym}
+use Rattle.gate_steps.proofs.Prelude.{Action, Config, DealtNumbers, Entry, HookAnswer, List, Next, None, Numbered, Op, Option, Phase, SeatedTask}
+use Rattle.gate_steps.proofs.Prelude.{Some, View, after_of, ap, arith, event_of, found_by, held_of, knows, next_of, numbered, phase_after, refl}
+use Rattle.gate_steps.proofs.Prelude.{subst, sym, ℕ, ◌∙◌, ◌≡◌}
+use Rattle.std.proofs.{Common.Bool, lemmas.Grind.common_steps}
+use Rattle.gate_world.specs.{Accesses.accesses_after, Fits.{ActionFits, Fits, PhaseFits}, Holdings.{Agree, held_after, holdings_of}}
+use Rattle.gate_world.specs.{Views.view_after_with_others, declared.accesses.Accesses.Accesses}
+use Rattle.gate_steps.specs.{Seating.{HasWitness, done_by, entered, items_after}, call_events.GhostAgrees.{GhostAgrees, OwnNumberAgrees, PhaseOk}}
+use Rattle.gate_steps.specs.call_events.{SeatedTasks.task_state, Stepped.{Stepped, state_after}}
+use Rattle.cpu_words.specs.declared.{events.{Event.Event, Touch.Touch}, names.WordName.WordName}
+use Rattle.gate_transitions.specs.{Answers.progress_of, TaskStates.task_holdings, declared.{steps.Progress.Progress, task_states.TaskState.TaskState}}
+use Rattle.gate_schedules.proofs.frames.{Accesses.{agree_after, deep_after, holdings_of_after, long_after, wide_after}, Agreeing.agree_sym}
 use Rattle.gate_schedules.proofs.schedules.Phases.{action_fits, fits_after, fits_agree}
 use Rattle.atomic_table.specs.Seated.{TableId}
 

@@ -1,15 +1,10 @@
 -- The schedule of a call goes on from all that its task had seen.
-use Rattle.std.proofs.{Common.{arith, ◌≡◌, ℕ, zero, suc, List, [], ◌∷◌, ◌++◌, sym, ap, ◌∙◌, subst}, lemmas.Grind.{common_steps}}
-use Rattle.std.proofs.lemmas.List.{append_assoc, append-nil}
-use Rattle.std.specs.Prelude.{Option, Result}
-use mathlib.Core.Option.{some, some-injective, some-ne-none}
-use lib.ListN.{get_elem?}
-use Rattle.access_model.specs.declared.{replies.{Next.{Next, TheVariants.{Done}}, Reply.{Reply}}, errors.GateError.{GateError}}
-use Rattle.cpu_words.specs.Hooks.{HookAnswer}
-use Rattle.gate_world.specs.declared.{config.Config.Config, entries.Entry.Entry, operations.Op.Op, views.Traced.Traced, work.Phase.Phase}
-use Rattle.gate_world.specs.traces.TraceStates.{state_of_trace}
-use Rattle.gate_steps.specs.{Seating.{DealtNumbers, IsPrefix, HasWitness}, call_events.Grown.{AllGoOn, StaySeen}}
-use Rattle.gate_steps.specs.call_events.{Runs.{items_at, begins_at, IsNextMove, SeesOn, AreMoves, Called}, SeatedTasks.{SeatedTask, own_number}}
+use Rattle.gate_steps.proofs.Prelude.{Called, Config, DealtNumbers, Done, Entry, GateError, HookAnswer, List, Next, Op, Option, Phase, Reply, Result}
+use Rattle.gate_steps.proofs.Prelude.{SeatedTask, Traced, [], ap, arith, get_elem?, own_number, some, some-injective, some-ne-none, state_of_trace}
+use Rattle.gate_steps.proofs.Prelude.{subst, suc, sym, zero, ℕ, ◌++◌, ◌∙◌, ◌∷◌, ◌≡◌}
+use Rattle.std.proofs.lemmas.{Grind.common_steps, List.{append-nil, append_assoc}}
+use Rattle.gate_steps.specs.{Seating.{HasWitness, IsPrefix}, call_events.{Grown.{AllGoOn, StaySeen}, Runs.{AreMoves, IsNextMove, SeesOn, begins_at}}}
+use Rattle.gate_steps.specs.call_events.Runs.{items_at}
 
 pub after_more : (a b c : List Entry) → IsPrefix a b → IsPrefix b c → IsPrefix a c
 after_more a b c g h = (g.0 ++ h.0, h.1 ∙ (ap (λ (l : List Entry). l ++ h.0) g.1 ∙ append_assoc a g.0 h.0))

@@ -1,17 +1,13 @@
 -- Where lines of steps lead.
-use Rattle.std.proofs.Common.{◌≡◌, ℕ, List, refl, sym, ap, ◌∙◌, subst}
-use Rattle.std.specs.Prelude.{Option, None}
-use Rattle.access_model.specs.declared.{actions.Action.Action, replies.Next.{Next, TheVariants.{Go}}}
-use Rattle.cpu_words.specs.{Hooks.HookAnswer, Touches.{event_of, found_by}, declared.events.{Event.Event, Touch.Touch}}
-use Rattle.cpu_words.specs.declared.names.WordName.{WordName}
+use Rattle.gate_steps.proofs.Prelude.{Action, Ask, DealtNumbers, Go, HookAnswer, List, Next, None, Op, Option, Phase, SeatedTask, after_of, ap}
+use Rattle.gate_steps.proofs.Prelude.{asks_with, call_at, event_of, found_by, next_of, phase_after, refl, subst, sym, ℕ, ◌∙◌, ◌≡◌}
+use Rattle.cpu_words.specs.declared.{events.{Event.Event, Touch.Touch}, names.WordName.WordName}
 use Rattle.freeze_levels.specs.declared.hooks.HookCall.{HookCall}
-use Rattle.gate_world.specs.{Accesses.accesses_after, Views.phase_after, Work.{next_of, after_of}}
-use Rattle.gate_world.specs.declared.{accesses.Accesses.Accesses, operations.Op.Op, work.Phase.Phase}
-use Rattle.gate_steps.specs.{Seating.{DealtNumbers, items_after, HasWitness}, declared.call_events.words.GateWords.{GateWords}}
-use Rattle.gate_steps.specs.call_events.{Asking.{Ask, asks_with, call_at, OpAfterStepWith, OpUnderWayWith, WereAsked}, SeatedTasks.{SeatedTask}}
-use Rattle.gate_steps.specs.call_events.Turns.{StateAgrees, AgreesAfter}
-use Rattle.gate_steps.specs.call_events.Led.{Led, LedAsking, Stands, StaysSeated, TaskSeat, seated_at}
-use Rattle.gate_steps.proofs.call_events.{Asking.{AskedFor, asks_more}, Turning.{stay_agrees, stepped_so, went_with_so}}
+use Rattle.gate_world.specs.{Accesses.accesses_after, declared.accesses.Accesses.Accesses}
+use Rattle.gate_steps.{proofs.call_events.{Asking.{AskedFor, asks_more}, Turning.{stay_agrees, stepped_so, went_with_so}}, specs.Seating.HasWitness}
+use Rattle.gate_steps.specs.{Seating.items_after, call_events.{Asking.{OpAfterStepWith, OpUnderWayWith, WereAsked}, Led.{Led, LedAsking, Stands}}}
+use Rattle.gate_steps.specs.call_events.{Led.{StaysSeated, TaskSeat, seated_at}, Turns.{AgreesAfter, StateAgrees}}
+use Rattle.gate_steps.specs.declared.call_events.words.GateWords.{GateWords}
 
 -- one step, whose word and touch are known
 module _ (gates : GateWords) (begins : Option Op) (phase : Phase) (accesses accesses_left : Accesses) (seat left : TaskSeat) (hook : HookAnswer)

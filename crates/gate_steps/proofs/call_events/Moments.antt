@@ -1,13 +1,12 @@
 -- The states of a schedule that goes on, and the transitions of one number in it.
-use Rattle.std.proofs.{Common.{arith, ◌≡◌, ℕ, List, [], ◌∷◌, ◌++◌, refl, sym, ap, ◌∙◌, subst, inl, inr}, lemmas.Bool.Decides.{eqb_tells}}
-use Rattle.std.proofs.lemmas.List.{append_assoc, append-nil}
-use Rattle.std.specs.Prelude.{Some, None}
-use Rattle.access_model.specs.{Histories.{Done, own_part}, declared.actions.Action.{Action}}
-use Rattle.gate_schedules.proofs.schedules.{Entries.begun_on, Runs.{run_more, history_on}}
-use Rattle.gate_world.specs.{refusals.Causes.{since_begun, trail, trail_of}, Headline.{world_after, actions_so_far, actions_since}}
-use Rattle.gate_world.specs.{Worlds.{World, happens, run, opening, history, task_of}, declared.entries.Entry.{Entry}}
-use Rattle.gate_world.specs.declared.{config.Config.Config, views.View.View, work.Phase.Phase}
-use Rattle.gate_steps.specs.{Seating.{NoneOf}, call_events.Spans.{own_entries}}
+use Rattle.gate_steps.proofs.Prelude.{Action, Config, Entry, List, None, Phase, Some, View, World, [], ap, arith, refl, subst, sym, ℕ, ◌++◌, ◌∙◌, ◌∷◌}
+use Rattle.gate_steps.proofs.Prelude.{◌≡◌}
+use Rattle.std.proofs.{Common.{inl, inr}, lemmas.{Bool.Decides.eqb_tells, List.{append-nil, append_assoc}}}
+use Rattle.access_model.specs.Histories.{Done, own_part}
+use Rattle.gate_schedules.proofs.schedules.{Entries.begun_on, Runs.{history_on, run_more}}
+use Rattle.gate_world.specs.{Headline.{actions_since, actions_so_far, world_after}, Worlds.{happens, history, opening, run, task_of}}
+use Rattle.gate_world.specs.refusals.Causes.{since_begun, trail, trail_of}
+use Rattle.gate_steps.specs.{Seating.NoneOf, call_events.Spans.own_entries}
 
 -- the transitions of a number in two lists, one after the other
 pub own_more : (n : ℕ) (a b : List Entry) → own_entries n (a ++ b) ≡ own_entries n a ++ own_entries n b

@@ -1,17 +1,13 @@
 -- An operation that goes on after a step, at the phase that comes next.
-use Rattle.std.proofs.Common.{arith, ◌≡◌, ◌⊎◌, ap, ℕ, ◌<◌, Bool, List, subst}
-use Rattle.gate_steps.specs.{declared.seating.Knowledge.{Knowledge}, Seating.{DealtNumbers}}
-use Rattle.gate_steps.specs.call_events.{Runs.{OpUnderWay, OpAfterStep, Called, IsTrying}, Stepped.{Stepped}}
-use Rattle.gate_steps.specs.call_events.{SeatedTasks.{SeatedTask, task_state}, GhostAgrees.{GhostAgrees}, Turns.{state_at, step_was}}
-use Rattle.std.specs.Prelude.{Option, Some, None, Result}
-use Rattle.access_model.specs.declared.{actions.Action.{Action}, errors.GateError.{GateError}, replies.Next.{Next}}
-use Rattle.access_model.specs.{declared.replies.{Next.TheVariants.{Go, Wait, Done}, Reply.{Reply}}, Replies.{map_next}}
+use Rattle.gate_steps.proofs.Prelude.{Action, Called, Config, DealtNumbers, Done, GateError, Go, HookAnswer, IsWithin, Knowledge, List, Next, None}
+use Rattle.gate_steps.proofs.Prelude.{Op, Option, Phase, Reply, Result, SeatedTask, Some, Wait, ap, arith, map_next, phase_after, subst, ℕ, ◌<◌, ◌≡◌}
+use Rattle.std.proofs.Common.{Bool, ◌⊎◌}
+use Rattle.gate_steps.{proofs.call_events.{Running.{events_left, falls}, Turning.went_so}, specs.call_events.{GhostAgrees.GhostAgrees, Runs.IsTrying}}
+use Rattle.gate_steps.specs.call_events.{Runs.{OpAfterStep, OpUnderWay}, SeatedTasks.task_state, Stepped.Stepped, Turns.{state_at, step_was}}
 use Rattle.atomic_table.specs.Seated.{TableId}
-use Rattle.cpu_words.specs.{Hooks.{HookAnswer}, declared.events.Event.{Event}}
-use Rattle.gate_transitions.specs.{Answers.{progress_of}, declared.steps.Progress.TheVariants.{Done as Ended}}
-use Rattle.gate_world.specs.{Configs.{IsWithin}, Views.{phase_after}, declared.{accesses.Accesses.{Accesses}, config.Config.{Config}}}
-use Rattle.gate_world.specs.declared.{operations.Op.{Op}, work.Phase.{Phase}}
-use Rattle.gate_steps.proofs.call_events.{Running.{events_left, falls}, Turning.{went_so}}
+use Rattle.cpu_words.specs.declared.events.Event.{Event}
+use Rattle.gate_transitions.specs.{Answers.progress_of, declared.steps.Progress.TheVariants.Done as Ended}
+use Rattle.gate_world.specs.declared.accesses.Accesses.{Accesses}
 
 -- the phase that the operation stands at, where it goes on
 pub stands_at : {A : Type 0} (as_phase : A → Phase) (next : Next A) (x : A) → (next ≡ Go x) ⊎ (next ≡ Wait x) →

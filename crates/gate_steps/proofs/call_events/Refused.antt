@@ -1,17 +1,14 @@
 -- What a refusal leaves, and when a call says that it waits.
-use Rattle.std.proofs.{Common.{◌≡◌, ℕ, true, List, [], ◌∷◌, ◌++◌, refl, sym, ap, ◌∙◌, inl, subst, arith}}
-use Rattle.std.proofs.lemmas.List.Elements.{All-from_recursion}
-use Rattle.std.specs.{List.{All, AllByRecursion}, Prelude.{if◌then◌else◌, Err}}
-use Rattle.access_model.specs.{declared.actions.Action.{Action, TheVariants.{Stage as StageAction, Reopen}}}
-use Rattle.access_model.specs.declared.{errors.GateError.{GateError}, replies.Next.{Next}}
-use Rattle.cpu_words.specs.declared.{events.Touch.{Touch}, names.WordName.{WordName}}
-use Rattle.gate_world.specs.{Beginnings.is_in_order, Operations.{two_levels_closed, all_levels_closed}, Configs.IsWithin, traces.TraceStates.{state_of_trace, IsTrace}}
-use Rattle.gate_world.specs.{traces.Found.{clean_found, cleans, stored_stage}, Holdings.holdings_of, traces.Traces.{actions_of, Tells}, Views.held_of}
-use Rattle.gate_world.specs.declared.{config.Config.{Config}, operations.Op.{Op}, views.Traced.{Traced}, work.Phase.{Phase}}
+use Rattle.gate_steps.proofs.Prelude.{Action, Config, DealtNumbers, Err, GateError, IsWithin, List, Next, Op, Phase, Traced, [], ap, arith, held_of}
+use Rattle.gate_steps.proofs.Prelude.{own_number, refl, state_of_trace, subst, sym, ℕ, ◌++◌, ◌∙◌, ◌∷◌, ◌≡◌}
+use Rattle.std.{proofs.{Common.{inl, true}, lemmas.List.Elements.All-from_recursion}, specs.{List.{All, AllByRecursion}, Prelude.if◌then◌else◌}}
+use Rattle.access_model.specs.declared.actions.Action.TheVariants.{Reopen, Stage as StageAction}
+use Rattle.cpu_words.specs.declared.{events.Touch.Touch, names.WordName.WordName}
+use Rattle.gate_world.specs.{Beginnings.is_in_order, Holdings.holdings_of, Operations.{all_levels_closed, two_levels_closed}}
+use Rattle.gate_world.specs.traces.{Found.{clean_found, cleans, stored_stage}, TraceStates.IsTrace, Traces.{Tells, actions_of}}
 use Rattle.gate_schedules.proofs.operations.AllOperations.{op_keeps}
-use Rattle.gate_steps.specs.Seating.{DealtNumbers}
-use Rattle.gate_steps.specs.call_events.{Refused.{LeavesTree, IsUnchanged, IsHonestWait, WaitsHonestly}, Runs.ran_items, SeatedTasks.{own_number, own_view}}
-use Rattle.gate_steps.proofs.call_events.Asked.{either_way}
+use Rattle.gate_steps.{proofs.call_events.Asked.either_way, specs.call_events.Refused.{IsHonestWait, IsUnchanged, LeavesTree, WaitsHonestly}}
+use Rattle.gate_steps.specs.call_events.{Runs.ran_items, SeatedTasks.own_view}
 
 -- each of these actions leaves the tree
 abbrev EachLeaves : List Action → Type 0

@@ -1,10 +1,8 @@
 -- While an operation is under way, a number of whose steps none is new has had no transition.
-use Rattle.std.proofs.Common.{arith, ◌≡◌, ℕ, ◌+◌, ◌<◌, ◌≤◌, List, [], ◌∷◌, ◌++◌, length, ap, ◌∙◌}
-use Rattle.std.specs.Prelude.{Some}
-use Rattle.gate_world.specs.{Worlds.{World, happens, run, task_of}, declared.entries.Entry.{Entry}}
-use Rattle.gate_world.specs.declared.{config.Config.Config, views.View.View, work.Phase.Phase}
-use Rattle.gate_steps.specs.{Histories.{BeginsIdle, IsWellFormed}, Seating.{NoneOf}}
-use Rattle.gate_steps.proofs.call_events.Moments.{entry_quiet}
+use Rattle.gate_steps.proofs.Prelude.{Config, Entry, List, Phase, Some, View, World, [], ap, arith, ℕ, ◌++◌, ◌<◌, ◌∙◌, ◌∷◌, ◌≡◌, ◌≤◌}
+use Rattle.std.proofs.Common.{length, ◌+◌}
+use Rattle.gate_world.specs.Worlds.{happens, run, task_of}
+use Rattle.gate_steps.{proofs.call_events.Moments.entry_quiet, specs.{Histories.{BeginsIdle, IsWellFormed}, Seating.NoneOf}}
 
 -- the rest of a well-formed schedule
 pub formed_rest : (c : Config) (a b : List Entry) (w : World) → IsWellFormed c w (a ++ b) → IsWellFormed c (run c w a) b

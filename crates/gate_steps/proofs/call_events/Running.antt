@@ -1,26 +1,23 @@
 -- An operation, step after step, from its beginning to its reply.
-use Rattle.gate_world.specs.declared.{entries.Entry.{Entry}, operations.Op.{TheVariants.{Callback}, Op}, config.Config.{Config}}
-use Rattle.gate_world.specs.{declared.{work.Phase.{Phase}, views.{Traced.{Traced}, View.{View}}}, Configs.{IsWithin}}
-use Rattle.gate_world.specs.traces.Snapshots.{completes, last_snapshot}
-use Rattle.gate_world.specs.{Views.{phase_after, actions_after, view_after_with_others, with_hook, held_of}, Work.{next_of, after_of}}
-use Rattle.gate_world.specs.Beginnings.{first_phase}
-use Rattle.gate_world.specs.traces.TraceStates.{TraceState, trace_state_with, trace_state_after, state_of_trace, IsEventOf, IsNext, IsTrace, ReadIsValid}
-use Rattle.gate_world.specs.traces.Traces.{actions_of, Tells, ReplyMatchesTrace, most_events, IsShort, MayWait}
-use Rattle.std.proofs.Common.{◌≡◌, ℕ, ◌+◌, ◌-◌, ◌<◌, ◌≤◌, List, [], ◌∷◌, ◌++◌, length, refl, sym, ap, ◌∙◌, subst, arith, add-zero}
-use Rattle.std.specs.Prelude.{Option, Some, None, Result, Ok, Err, is_some}
-use Rattle.access_model.specs.declared.{actions.Action.{Action}, errors.GateError.{GateError}, replies.Next.{Next}}
-use Rattle.access_model.specs.declared.replies.{Next.TheVariants.{Go, Wait, Done}, Reply.{Reply}}
-use Rattle.cpu_words.specs.{Hooks.{HookAnswer}, Touches.{found_by, event_of}}
-use Rattle.gate_schedules.proofs.{frames.OperationLaws.{most_events_of_all, IsSmall}, schedules.Beginnings.may_begin}
-use Rattle.gate_schedules.proofs.operations.AllOperations.{op_keeps}
-use Rattle.gate_transitions.specs.declared.steps.{Progress.{Progress, TheVariants.{Done as Ended, Waiting}}, Step.{Step}}
-use Rattle.gate_transitions.specs.Answers.{progress_of, unless_refused}
-use Rattle.gate_steps.specs.Seating.{DealtNumbers, numbered, HaveHistory, entered, done_by, items_after, world_left, HasWitness}
-use Rattle.gate_steps.specs.call_events.{SeatedTasks.{SeatedTask, own_number, own_view, refusal_at}, Stepped.{Stepped}}
-use Rattle.gate_steps.specs.call_events.Asking.{Ask, asks_of, asks_with, call_at, next_call, OpUnderWayWith, OpAfterStepWith}
-use Rattle.gate_steps.specs.call_events.{Waited.{is_wait, waits_in}, Refused.{IsUnchanged, IsUnchangedBy, IsHonestWait}}
-use Rattle.gate_steps.specs.call_events.Runs.{events_onto, completed_by, ran_snapshot, ran_view, ran_items, begins_at, items_at, IsMoveOf, IsNextMove, AreMoves, IsBounded, IsRanReply, told_as, the_reply, OpUnderWay, OpAfterStep, ProgressMatches, Called, Replies}
-use Rattle.gate_steps.proofs.call_events.{Grown.{same_stays_seen}, Refused.{is_unchanged, waits_honestly}}
+use Rattle.gate_steps.proofs.Prelude.{Action, Ask, Called, Config, DealtNumbers, Done, Entry, Err, GateError, Go, HookAnswer, IsWithin, List, Next}
+use Rattle.gate_steps.proofs.Prelude.{None, Ok, Op, Option, Phase, Reply, Result, SeatedTask, Some, Traced, View, Wait, [], actions_after, after_of}
+use Rattle.gate_steps.proofs.Prelude.{ap, arith, asks_with, call_at, event_of, found_by, held_of, next_of, numbered, own_number, phase_after, refl}
+use Rattle.gate_steps.proofs.Prelude.{state_of_trace, subst, sym, ℕ, ◌++◌, ◌<◌, ◌∙◌, ◌∷◌, ◌≡◌, ◌≤◌}
+use Rattle.gate_world.specs.{Beginnings.first_phase, Views.{view_after_with_others, with_hook}, declared.operations.Op.TheVariants.Callback}
+use Rattle.gate_world.specs.traces.{Snapshots.{completes, last_snapshot}, TraceStates.{IsEventOf, IsNext, IsTrace, ReadIsValid, TraceState}}
+use Rattle.gate_world.specs.traces.{TraceStates.{trace_state_after, trace_state_with}, Traces.{IsShort, MayWait, ReplyMatchesTrace, Tells}}
+use Rattle.gate_world.specs.traces.Traces.{actions_of, most_events}
+use Rattle.std.{proofs.Common.{add-zero, length, ◌+◌, ◌-◌}, specs.Prelude.is_some}
+use Rattle.gate_schedules.proofs.{frames.OperationLaws.{IsSmall, most_events_of_all}, operations.AllOperations.op_keeps}
+use Rattle.gate_schedules.proofs.schedules.Beginnings.{may_begin}
+use Rattle.gate_transitions.specs.{Answers.{progress_of, unless_refused}, declared.steps.Progress.{Progress, TheVariants.{Done as Ended, Waiting}}}
+use Rattle.gate_transitions.specs.declared.steps.Step.{Step}
+use Rattle.gate_steps.{proofs.call_events.{Grown.same_stays_seen, Refused.{is_unchanged, waits_honestly}}, specs.Seating.{HasWitness, HaveHistory}}
+use Rattle.gate_steps.specs.{Seating.{done_by, entered, items_after, world_left}, call_events.Asking.{OpAfterStepWith, OpUnderWayWith, asks_of}}
+use Rattle.gate_steps.specs.call_events.{Asking.next_call, Refused.{IsHonestWait, IsUnchanged, IsUnchangedBy}, Runs.{AreMoves, IsBounded, IsMoveOf}}
+use Rattle.gate_steps.specs.call_events.Runs.{IsNextMove, IsRanReply, OpAfterStep, OpUnderWay, ProgressMatches, Replies, begins_at, completed_by}
+use Rattle.gate_steps.specs.call_events.{Runs.{events_onto, items_at, ran_items, ran_snapshot, ran_view, the_reply, told_as}, SeatedTasks.own_view}
+use Rattle.gate_steps.specs.call_events.{SeatedTasks.refusal_at, Stepped.Stepped, Waited.{is_wait, waits_in}}
 
 -- the numbers of a task whose own number has begun the operation
 abbrev pub entered_items : Option Op → Option Phase → DealtNumbers → DealtNumbers

@@ -1,22 +1,18 @@
 -- Each step of a call has its moment between call and return.
-use Rattle.std.proofs.{Common.{◌≡◌, ℕ, List, [], ◌∷◌, ◌++◌, length, refl, sym, ap, ◌∙◌, subst, arith}, lemmas.List.{append_assoc, append-nil}}
-use Rattle.std.specs.Prelude.{Option, Some, None}
-use lib.ListN.{get_elem?}
-use Rattle.access_model.specs.declared.replies.Next.{Next, TheVariants.{Go, Wait, Done}}
-use Rattle.cpu_words.specs.{Hooks.HookAnswer, Touches.{event_of, found_by}}
+use Rattle.gate_steps.proofs.Prelude.{Config, DealtNumbers, Done, Entry, Go, HookAnswer, List, Next, None, Numbered, Op, Option, Phase, Some, Traced}
+use Rattle.gate_steps.proofs.Prelude.{View, Wait, World, [], after_of, ap, arith, event_of, found_by, get_elem?, next_of, numbered, own_number}
+use Rattle.gate_steps.proofs.Prelude.{phase_after, refl, state_of_trace, subst, sym, ℕ, ◌++◌, ◌∙◌, ◌∷◌, ◌≡◌}
+use Rattle.std.proofs.{Common.length, lemmas.List.{append-nil, append_assoc}}
 use Rattle.gate_schedules.proofs.schedules.{Entries.begun_on, Runs.run_more}
-use Rattle.gate_world.specs.{refusals.Causes.{since_begun, trail, trail_of}, traces.TraceStates.{TraceState, state_of_trace}, Headline.{world_after}}
-use Rattle.gate_world.specs.{Views.{phase_after, view_after_with_others, with_hook}, Work.{next_of, after_of}, Worlds.{World, happens, run, opening}}
-use Rattle.gate_world.specs.declared.entries.Entry.{Entry, TheVariants.{Begins, Steps}}
-use Rattle.gate_world.specs.declared.{config.Config.Config, operations.Op.Op, views.{Traced.Traced, View.View}, work.Phase.Phase}
-use Rattle.gate_steps.specs.Histories.{IsLike, IsWellFormed}
-use Rattle.gate_steps.specs.Seating.{DealtNumbers, numbered, IsPrefix, NoneOf, done_by, entered, StepWitness}
-use Rattle.gate_steps.specs.{declared.seating.Numbered.{Numbered}, call_events.Grown.{AllGoOn, HasSeen, StaySeen}}
-use Rattle.gate_steps.specs.call_events.Runs.{events_onto, ran_view, IsMoveOf, IsNextMove, AreMoves}
-use Rattle.gate_steps.specs.call_events.{Spans.{own_entries, worlds_since, HappensAfter, IsEventDuring}, SeatedTasks.{own_number, own_view}}
-use Rattle.gate_steps.proofs.{Dealing.{times-at}, Reaching.{begins_idle}, call_events.Grown.{after_more, goes_on_after, next_on, sees_on_stays}}
-use Rattle.gate_steps.proofs.call_events.Moments.{own_more, own_none, own_one, run_append, run_quiet, idle_since, trail_more, one_since, one_run, more_since}
-use Rattle.gate_steps.proofs.call_events.{Resting.{formed_rest, no_entry}, Running.{course_is}}
+use Rattle.gate_world.specs.{Headline.world_after, Views.{view_after_with_others, with_hook}, Worlds.{happens, opening, run}}
+use Rattle.gate_world.specs.{declared.entries.Entry.TheVariants.{Begins, Steps}, refusals.Causes.{since_begun, trail, trail_of}}
+use Rattle.gate_world.specs.traces.TraceStates.{TraceState}
+use Rattle.gate_steps.proofs.{Dealing.times-at, Reaching.begins_idle, call_events.Grown.{after_more, goes_on_after, next_on, sees_on_stays}}
+use Rattle.gate_steps.proofs.call_events.Moments.{idle_since, more_since, one_run, one_since, own_more, own_none, own_one, run_append, run_quiet}
+use Rattle.gate_steps.{proofs.call_events.{Moments.trail_more, Resting.{formed_rest, no_entry}, Running.course_is}, specs.Histories.IsLike}
+use Rattle.gate_steps.specs.{Histories.IsWellFormed, Seating.{IsPrefix, NoneOf, StepWitness, done_by, entered}, call_events.Grown.{AllGoOn, HasSeen}}
+use Rattle.gate_steps.specs.call_events.{Grown.StaySeen, Runs.{AreMoves, IsMoveOf, IsNextMove, events_onto, ran_view}, SeatedTasks.own_view}
+use Rattle.gate_steps.specs.call_events.Spans.{HappensAfter, IsEventDuring, own_entries, worlds_since}
 
 -- the moment of a step that was a move of a phase, of an operation that was under way with these earlier steps
 happens_after : (c : Config) (op : Op) (earlier : List Traced) (e : Traced) (begins : Option Op) (phase : Phase) (x : Numbered)

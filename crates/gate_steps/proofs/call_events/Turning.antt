@@ -1,19 +1,17 @@
 -- One step apart from the task: what it leaves of the fields, and which step of its operation it was.
-use Rattle.gate_world.specs.declared.entries.Entry.{Entry}
-use Rattle.gate_world.specs.{Accesses.{accesses_after, held_in}, Configs.IsWithin, Fits.ActionFits, Views.{phase_after, held_of}, Work.{next_of, after_of}}
-use Rattle.gate_world.specs.declared.{accesses.Accesses.Accesses, config.Config.Config, operations.Op.Op, work.Phase.Phase}
-use Rattle.gate_steps.specs.{Seating.{knows}, declared.seating.Knowledge.{Knowledge}}
-use Rattle.gate_steps.specs.Seating.{DealtNumbers, OwnNumberMayStep, items_after, HasWitness}
-use Rattle.gate_steps.specs.call_events.{Asking.{Ask, asks_with, call_at, OpUnderWayWith, OpAfterStepWith}, Runs.{OpUnderWay, OpAfterStep}, Stepped.Stepped, Waited.{OpUnderWayWaiting, OpAfterStepWaiting}, SeatedTasks.{SeatedTask, task_state}}
-use Rattle.gate_steps.specs.call_events.{GhostAgrees.GhostAgrees, Turns.{state_at, StateAgrees, step_was}}
-use Rattle.std.proofs.Common.{List, List, ◌≡◌, ℕ, ◌<◌, Bool, refl, sym, ap, ◌∙◌, subst, arith}
-use Rattle.std.specs.Prelude.{Option, Some, None}
-use Rattle.access_model.specs.declared.{actions.Action.Action, replies.Next.{Next, TheVariants.{Go, Wait, Done}}}
-use Rattle.cpu_words.specs.{Hooks.HookAnswer, Names.{place, words_in_all}, Touches.event_of, declared.events.{Event.Event}}
-use Rattle.gate_transitions.specs.{Answers.{progress_of}, declared.{task_states.TaskState.{TaskState}, steps.Step.{Step}}}
+use Rattle.gate_steps.proofs.Prelude.{Action, Ask, Config, DealtNumbers, Done, Entry, Go, HookAnswer, IsWithin, Knowledge, List, Next, None, Op}
+use Rattle.gate_steps.proofs.Prelude.{Option, Phase, SeatedTask, Some, Wait, after_of, ap, arith, asks_with, call_at, event_of, held_of, knows}
+use Rattle.gate_steps.proofs.Prelude.{next_of, phase_after, refl, subst, sym, ℕ, ◌<◌, ◌∙◌, ◌≡◌}
+use Rattle.gate_world.specs.{Accesses.{accesses_after, held_in}, Fits.ActionFits, declared.accesses.Accesses.Accesses}
+use Rattle.gate_steps.proofs.call_events.{Going.{ghost_agrees_left, may_add, stepped_here}, Running.{went_asking, went_on}}
+use Rattle.gate_steps.specs.{Seating.{HasWitness, OwnNumberMayStep, items_after}, call_events.Asking.{OpAfterStepWith, OpUnderWayWith}}
+use Rattle.gate_steps.specs.call_events.{GhostAgrees.GhostAgrees, Runs.{OpAfterStep, OpUnderWay}, SeatedTasks.task_state, Stepped.Stepped}
+use Rattle.gate_steps.specs.call_events.{Turns.{StateAgrees, state_at, step_was}, Waited.{OpAfterStepWaiting, OpUnderWayWaiting}}
+use Rattle.std.proofs.Common.{Bool}
+use Rattle.cpu_words.specs.{Names.{place, words_in_all}, declared.events.Event.Event}
+use Rattle.gate_transitions.specs.{Answers.progress_of, declared.{steps.Step.Step, task_states.TaskState.TaskState}}
 use Rattle.gate_schedules.proofs.schedules.Phases.{word_placed}
 use Rattle.atomic_table.specs.Seated.{TableId}
-use Rattle.gate_steps.proofs.call_events.{Going.{may_add, ghost_agrees_left, stepped_here}, Running.{went_on, went_asking}}
 
 -- before the step: the word is one of the table's, and the number may do the step
 module _ (number : ℕ) (c : Config) (begins : Option Op) (phase : Phase) (accesses : Accesses) (flags : List Bool) (hook : HookAnswer) where

@@ -1,5 +1,5 @@
 use Rattle.progress_laws.proofs.Prelude.{whole_rule, world_after}
-use Rattle.progress_laws.proofs.FairlyBlocked.{blocked_after}
+use Rattle.progress_laws.proofs.rounds.FairlyBlocked.{blocked_after}
 use Rattle.progress_laws.proofs.fair_rounds_leave_the_blocked.Goals as goal
 
 pub returns : goal.returns

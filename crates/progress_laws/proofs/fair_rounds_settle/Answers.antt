@@ -1,5 +1,5 @@
 use Rattle.progress_laws.proofs.Prelude.{whole_rule, world_after}
-use Rattle.progress_laws.proofs.Rounds.{settles_fairly, settles_once}
+use Rattle.progress_laws.proofs.rounds.Rounds.{settles_fairly, settles_once}
 use Rattle.progress_laws.proofs.fair_rounds_settle.Goals as goal
 
 pub returns-clause-patient : goal.returns-clause-patient

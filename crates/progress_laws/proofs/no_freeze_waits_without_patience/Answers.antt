@@ -1,5 +1,5 @@
 use Rattle.progress_laws.proofs.Prelude.{whole_rule, world_after}
-use Rattle.progress_laws.proofs.GivingUp.{replies_or_thaw, settles_impatiently}
+use Rattle.progress_laws.proofs.rounds.GivingUp.{replies_or_thaw, settles_impatiently}
 use Rattle.progress_laws.proofs.no_freeze_waits_without_patience.Goals as goal
 
 pub returns-clause-replies : goal.returns-clause-replies

@@ -1,5 +1,5 @@
 use Rattle.progress_laws.proofs.Prelude.{whole_rule, world_after}
-use Rattle.progress_laws.proofs.NobodyReplies.{nobody_replies}
+use Rattle.progress_laws.proofs.blocked.NobodyReplies.{nobody_replies}
 use Rattle.progress_laws.proofs.nobody_replies_where_all_wait.Goals as goal
 
 pub returns : goal.returns

@@ -1,5 +1,5 @@
 use Rattle.progress_laws.proofs.Prelude.{world_after}
-use Rattle.progress_laws.proofs.Rounds.{rounds_exist}
+use Rattle.progress_laws.proofs.rounds.Rounds.{rounds_exist}
 use Rattle.progress_laws.proofs.rounds_go_on_for_ever.Goals as goal
 
 pub returns : goal.returns

@@ -1,5 +1,5 @@
 use Rattle.progress_laws.proofs.Prelude.{whole_rule, world_after}
-use Rattle.progress_laws.proofs.FirstReply.{first_reply}
+use Rattle.progress_laws.proofs.alone.FirstReply.{first_reply}
 use Rattle.progress_laws.proofs.the_first_reply_is_near_beside_lost_tasks.Goals as goal
 
 pub returns : goal.returns

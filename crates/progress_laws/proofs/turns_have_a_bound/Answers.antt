@@ -1,5 +1,5 @@
 use Rattle.progress_laws.proofs.Prelude.{whole_rule, world_after}
-use Rattle.progress_laws.proofs.{GivingUp.turns_small, Settling.turns_few}
+use Rattle.progress_laws.proofs.rounds.{GivingUp.turns_small, Settling.turns_few}
 use Rattle.progress_laws.proofs.turns_have_a_bound.Goals as goal
 
 pub returns-clause-waiting : goal.returns-clause-waiting

@@ -1,5 +1,5 @@
 use Rattle.progress_laws.proofs.Prelude.{whole_rule, world_after}
-use Rattle.progress_laws.proofs.Rounds.{stays_settled}
+use Rattle.progress_laws.proofs.rounds.Rounds.{stays_settled}
 use Rattle.progress_laws.proofs.what_waits_stays_so.Goals as goal
 
 pub returns : goal.returns

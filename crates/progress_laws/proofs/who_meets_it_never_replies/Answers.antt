@@ -1,5 +1,5 @@
 use Rattle.progress_laws.proofs.Prelude.{whole_rule, world_after}
-use Rattle.progress_laws.proofs.NeverReplies.{never_replies}
+use Rattle.progress_laws.proofs.blocked.NeverReplies.{never_replies}
 use Rattle.progress_laws.proofs.who_meets_it_never_replies.Goals as goal
 
 pub returns : goal.returns

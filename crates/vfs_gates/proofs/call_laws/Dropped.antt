@@ -9,7 +9,7 @@ use Rattle.gate_transitions.specs.declared.steps.Step.{Step}
 use Rattle.gate_schedules.proofs.schedules.HeadlineProof.{whole_rule}
 use Rattle.gate_steps.specs.{Seating.{DealtNumbers, HasWitness}, call_events.{SeatedTasks.SeatedTask, Stepped.Stepped}}
 use Rattle.gate_steps.proofs.call_events.Moments.{run_append}
-use Rattle.progress_laws.proofs.NeverReplies.{never_replies}
+use Rattle.progress_laws.proofs.blocked.NeverReplies.{never_replies}
 use Rattle.vfs_gates.proofs.call_laws.Blocked.{at_it, on_begins}
 use Rattle.vfs_gates.specs.Dropped.{MeetsDropped}
 

@@ -1,11 +1,10 @@
 -- All that is proved of the beginnings and the traces of the operations at the tree.
-use Rattle.gate_schedules.proofs.Prelude.{Bool, Config, Op, arith, refl, ℕ}
+use Rattle.gate_schedules.proofs.Prelude.{Bool, Config, Op, arith, ℕ}
 use Rattle.access_model.specs.declared.actions.Kind.{Kind}
-use Rattle.gate_schedules.proofs.frames.{Agreeing.{faulter_agrees, none_agree, writer_agrees}, OperationLaws.{IsSmall, OpLaws, by_bool}}
+use Rattle.gate_schedules.proofs.frames.{Agreeing.{faulter_agrees, none_agree, writer_agrees}, OperationLaws.OpLaws}
 use Rattle.gate_schedules.proofs.operations.calls.{CreateTrace.create_traces, GrowTrace.grow_traces, MarkTrace.{fault_traces, flush_traces}}
 use Rattle.gate_schedules.proofs.operations.calls.{MoveTrace.move_traces, OpenTrace.open_traces, RemoveTrace.remove_traces}
 use Rattle.gate_schedules.proofs.{operations.snapshot.Trace.snapshot_traces, trees.worlds.Holders.both_true}
-use Rattle.gate_world.specs.traces.Traces.{most_events}
 use Rattle.std.proofs.lemmas.Bool.{ltb-true}
 
 pub create_keeps : (c : Config) (d : ℕ) (kind : Kind) → OpLaws c (Op.Create d kind)
@@ -30,14 +29,4 @@ pub open_keeps : (c : Config) (file : ℕ) → OpLaws c (Op.Open file)
 open_keeps c file = grind (arith, open_traces, ltb-true)
 
 pub snapshot_keeps : (c : Config) (wait : Bool) → OpLaws c (Op.Snapshot wait)
-snapshot_keeps c wait = record {
-  fits = λ t held there order room. ((refl, refl, tt), order);
-  starts_aside = λ t. refl;
-  cause = λ t w earlier. tt;
-  order_agrees = λ held seen same there. none_agree held.levels seen.levels same.levels;
-  room_agrees = λ held seen same there. refl;
-  restores = λ refusal trace before order. refl;
-  file = λ t held order room. tt;
-  traces = snapshot_traces c wait;
-  most_small = λ within. by_bool wait (λ b. IsSmall (most_events c (Op.Snapshot b))) tt (omega (arith, within.nodes));
-}
+snapshot_keeps c wait = grind (arith, none_agree, snapshot_traces)

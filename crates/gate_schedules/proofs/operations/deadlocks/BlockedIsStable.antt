@@ -13,26 +13,20 @@ use Rattle.composite_ops.specs.declared.file_closes.phases.ClosePhase.TheVariant
 use Rattle.composite_ops.specs.declared.{file_closes.phases.Closing.Closing, write_access.phases.WritePhase.TheVariants.Takes}
 use Rattle.composite_ops.specs.{file_closes.Phases.{after as close_after, enters, then_frees}, write_access.Phases.then_wants}
 use Rattle.finite_sums.proofs.Totals.{update_off}
-use Rattle.freeze_levels.specs.{Freezes.{after_closing, at_freeze, closing_waits, freeze_closes, level_closed}, Thaws.at_thaw}
-use Rattle.freeze_levels.specs.declared.freezes.{Freeze.Freeze, FreezeStep.TheVariants.{Cleans, Closes, LoadsStage, LoadsSuperblock}}
-use Rattle.freeze_levels.specs.declared.freezes.FreezeStep.TheVariants.{Locks as FreezeLocks, Waits, LocksAgain, SetsFs, SetsPageFault, SetsWrite}
-use Rattle.freeze_levels.specs.declared.{freezes.FreezeStep.TheVariants.Unlocks, thaws.{Thaw.Thaw, ThawStep.ThawStep}}
-use Rattle.freeze_levels.specs.declared.thaws.ThawStep.TheVariants.{Locks as ThawLocks}
+use Rattle.freeze_levels.specs.{Freezes.{after_closing, at_freeze, closing_waits, freeze_closes, level_closed}, declared.freezes.Freeze.Freeze}
+use Rattle.freeze_levels.specs.declared.freezes.FreezeStep.TheVariants.{Cleans, Closes, LoadsStage, LoadsSuperblock, Locks as FreezeLocks, LocksAgain}
+use Rattle.freeze_levels.specs.declared.freezes.FreezeStep.TheVariants.{SetsFs, SetsPageFault, SetsWrite, Unlocks, Waits}
 use Rattle.gate_schedules.proofs.{frames.{Owners.owns_le, Words.load_same}, levels.Facts.blocked_slow}
 use Rattle.gate_schedules.proofs.operations.deadlocks.{BlockedCloses.{StaysAtLevel, down_stays}, BlockedOrProgress.{first_finds, first_is, or_phase}}
 use Rattle.gate_schedules.proofs.operations.deadlocks.{BlockedStarts.{StaysKept, start_stays}, FreezeProgress.{next_same, not_none}}
 use Rattle.gate_schedules.proofs.operations.deadlocks.{RankDecreases.{after_event, happens_is, stands_after}, WhoCanStep.fits_at}
-use Rattle.gate_schedules.specs.operations.Progress.{AllAreBlocked, ChangeIsBlocked, EventsMoveModel, FreezeIsBlocked, HasReply, IsAgreed, IsHeldIdle}
-use Rattle.gate_schedules.specs.operations.Progress.{HeldLevelAhead, IsBlockedAt, BlockedIfFreeze, BlockedIsStable, LockIsBlocked, RemountIsBlocked}
-use Rattle.gate_schedules.specs.operations.Progress.{SnapshotIsBlocked, StartIsBlocked, ThawIsBlocked, begins_freeze, is_admitted, is_first_lock}
-use Rattle.gate_schedules.specs.operations.Progress.{is_last_close, next_level}
+use Rattle.gate_schedules.specs.operations.Progress.{AllAreBlocked, BlockedIfFreeze, BlockedIsStable, EventsMoveModel, FreezeIsBlocked, HasReply}
+use Rattle.gate_schedules.specs.operations.Progress.{HeldLevelAhead, IsAgreed, IsBlockedAt, IsHeldIdle, LockIsBlocked, StartIsBlocked, begins_freeze}
+use Rattle.gate_schedules.specs.operations.Progress.{is_admitted, is_first_lock, is_last_close, next_level}
 use Rattle.node_words.{proofs.ClearedMarks.{IsCleared, clears_mark, without_mark}, specs.Nodes.{IsPacked, node_of, opens_in, removed_in}}
 use Rattle.node_words.specs.declared.marks.ClearMarks.{ClearMarks}
-use Rattle.gated_tree.specs.declared.{phases.TreePhase.TheVariants.Snapshot as Snapshots, snapshots.{Snapshot.Snapshot, SnapshotStep.SnapshotStep}}
-use Rattle.gated_tree.specs.declared.snapshots.SnapshotStep.TheVariants.{Locks as SnapshotLocks}
-use Rattle.mount_counts.specs.{Remounts.at_remount, declared.phases.{Change.Change, ChangeStep.{TheVariants.Locks as ChangeLocks, ChangeStep}}}
-use Rattle.mount_counts.specs.declared.{phases.MountPhase.TheVariants.Change as Changes, remounts.{Remount.Remount, RemountStep.RemountStep}}
-use Rattle.mount_counts.specs.declared.remounts.RemountStep.TheVariants.{Locks as RemountLocks}
+use Rattle.gated_tree.specs.declared.phases.TreePhase.TheVariants.{Snapshot as Snapshots}
+use Rattle.mount_counts.specs.declared.phases.MountPhase.TheVariants.{Change as Changes}
 use Rattle.percpu_rwsem.specs.{Readers.{down_read_after, down_read_next, step_found}, Writers.{down_write_after, down_write_next}}
 use Rattle.percpu_rwsem.specs.declared.writers.{DownWrite.DownWrite, DownWriteStep.DownWriteStep}
 use Rattle.freeze_laws.specs.stages.Roles.{KnowsStage, bit}
@@ -65,6 +59,25 @@ later_kept c v s later h = grind arith
 
 kept_later : (c : Config) (v : World) (s : FreezeStep) → is_first_lock s ≡ false → HeldLevelAhead c v s → FreezeIsBlocked c v s
 kept_later c v s later h = grind arith
+
+-- a phase of an operation that is blocked only at its lock of `umount`
+abbrev asks_lock : Phase → Bool
+asks_lock (Mounts (Changes x)) = true
+asks_lock (Remounts x) = true
+asks_lock (Thaws x) = true
+asks_lock (Trees (Snapshots x)) = true
+asks_lock phase = false
+
+-- what is blocked at its lock of `umount` waits for a freeze that is, owns nothing itself, and tries again what leaves all words
+record WaitsForLock (c : Config) (w : World) (phase : Phase) : Type 0 where
+  blocked : LockIsBlocked c w
+  none : owns (Some phase) ≡ 0
+  stays : (v : World) → LockIsBlocked c v → IsBlockedAt c v phase
+  again : (hook : HookAnswer) → (w.words.umount == 0) ≡ false →
+      (phase_after (after_of phase (found_at w.words phase hook) hook).0 ≡ Some phase) × (words_after w.words phase hook ≡ w.words)
+
+lock_waits : (c : Config) (w : World) (phase : Phase) → asks_lock phase ≡ true → IsBlockedAt c w phase → WaitsForLock c w phase
+lock_waits c w phase asks h = grind (arith, load_same)
 
 -- what a step of a task that is blocked, from this phase to that one, leaves to others that are blocked
 pub record LeavesKept (c : Config) (w next : World) (t : ℕ) (p q : Phase) : Type 0 where
@@ -122,21 +135,9 @@ module _ (c : Config) (w : World) (good : IsGood c w) (t : ℕ) (lt : t < c.task
             (omega (arith, e, h.0), kept_by x.step x.step (omega (arith, e)) h.1)
         far_stays p h = absurd h
 
-    change_stays : (s : ChangeStep) (wait : Bool) → ChangeIsBlocked c w s wait → ChangeIsBlocked c next s wait
-    change_stays ChangeLocks wait h = (h.0, locks_stay h.1)
-    change_stays s wait h = absurd h
-
-    remount_stays : (s : RemountStep) → RemountIsBlocked c w s → RemountIsBlocked c next s
-    remount_stays RemountLocks h = locks_stay h
-    remount_stays s h = absurd h
-
-    thaw_stays : (s : ThawStep) → ThawIsBlocked c w s → ThawIsBlocked c next s
-    thaw_stays ThawLocks h = locks_stay h
-    thaw_stays s h = absurd h
-
-    snapshot_stays : (s : SnapshotStep) (wait : Bool) → SnapshotIsBlocked c w s wait → SnapshotIsBlocked c next s wait
-    snapshot_stays SnapshotLocks wait h = (h.0, locks_stay h.1)
-    snapshot_stays s wait h = absurd h
+    -- so does whoever waits for it
+    waits_stay : (phase : Phase) → asks_lock phase ≡ true → IsBlockedAt c w phase → IsBlockedAt c next phase
+    waits_stay phase asks h = let l = lock_waits c w phase asks h in l.stays next (locks_stay l.blocked)
 
     -- a freeze of another task at its first lock
     first_stays : (y : ℕ) → y < c.tasks → (y ≡ t → ⊥) → begins_freeze (w.views y).phase ≡ true → FreezeIsBlocked c w FreezeLocks →
@@ -195,13 +196,13 @@ module _ (c : Config) (w : World) (good : IsGood c w) (t : ℕ) (lt : t < c.task
     -- so each other operation stays blocked
     phase_stays : (y : ℕ) → y < c.tasks → (y ≡ t → ⊥) → (phase : Phase) → (w.views y).phase ≡ Some phase → IsBlockedAt c w phase →
         IsBlockedAt c next phase
-    phase_stays y ly ne (Mounts (Changes x)) is h = change_stays x.step x.wait h
-    phase_stays y ly ne (Remounts x) is h = remount_stays x.step h
+    phase_stays y ly ne (Mounts (Changes x)) is h = waits_stay (Mounts (Changes x)) refl h
+    phase_stays y ly ne (Remounts x) is h = waits_stay (Remounts x) refl h
     phase_stays y ly ne (DownReads r) is h = reads_stay r h
     phase_stays y ly ne (Writes (Takes m r)) is h = reads_stay r h
     phase_stays y ly ne (Freezes x) is h = freeze_stays y ly ne x is h
-    phase_stays y ly ne (Thaws x) is h = thaw_stays x.step h
-    phase_stays y ly ne (Trees (Snapshots x)) is h = snapshot_stays x.step x.wait h
+    phase_stays y ly ne (Thaws x) is h = waits_stay (Thaws x) refl h
+    phase_stays y ly ne (Trees (Snapshots x)) is h = waits_stay (Trees (Snapshots x)) refl h
     phase_stays y ly ne (FileCloses (CloseLoadsFile x)) is h = (h.0, k.last x.file h.1, k.blocks 3 h.2)
     phase_stays y ly ne (FileCloses (EntersLevel f node r)) is h = reads_stay r h
     phase_stays y ly ne phase is h = absurd h
@@ -264,49 +265,21 @@ module _ (c : Config) (w : World) (good : IsGood c w) (t : ℕ) (lt : t < c.task
     tried_locks l = locks_stay c w good t lt p at hook q tried_leaves l
 
   -- so one that waits for a freeze that is blocked leaves its operation so
-  try_goes : (p : Phase) (n : ℕ) → (w.views t).phase ≡ Some p → ((w.words.umount == 0) ≡ false → ((after p).views t).phase ≡ Some p) →
-      (after p).words ≡ put w.words Umount (left (Cas 0 n) w.words.umount) → owns (Some p) ≡ 0 →
+  try_goes : (p : Phase) → (w.views t).phase ≡ Some p → owns (Some p) ≡ 0 →
+      ((w.words.umount == 0) ≡ false → (phase_after (after_of p (found_at w.words p hook) hook).0 ≡ Some p) × ((after p).words ≡ w.words)) →
       (LockIsBlocked c (after p) → IsBlockedAt c (after p) p) → LockIsBlocked c w → Goes p
-  try_goes p n at again words none blocked l =
-      let taken : w.words.umount ≡ 0 → ⊥ = lock_taken c w good l in
-      let here : ((after p).views t).phase ≡ Some p = again (ne_eqb w.words.umount 0 taken) in
-      let same : (after p).words ≡ w.words = words ∙ tried w.words n taken in
+  try_goes p at none again blocked l =
+      let tries = again (ne_eqb w.words.umount 0 (lock_taken c w good l)) in
+      let here : ((after p).views t).phase ≡ Some p = stands_after c w t lt hook p at ∙ tries.0 in
       record {
         then_at = p;
-        leaves = tried_leaves p p at here same none (λ b. b);
-        kept = blocked (tried_locks p p at here same none (λ b. b) l);
+        leaves = tried_leaves p p at here tries.1 none (λ b. b);
+        kept = blocked (tried_locks p p at here tries.1 none (λ b. b) l);
       }
 
-  change_goes : (x : Change) (s : ChangeStep) (wait : Bool) →
-      (w.views t).phase ≡ Some (Mounts (Changes (record x { step = s; wait = wait }))) → ChangeIsBlocked c w s wait →
-      Goes (Mounts (Changes (record x { step = s; wait = wait })))
-  change_goes x ChangeLocks true at h =
-      let p : Phase = Mounts (Changes (record x { step = ChangeLocks; wait = true })) in
-      try_goes p (x.task + 1) at (λ e. stands_after c w t lt hook p at ∙ rw e refl) refl refl (λ l. (refl, l)) h.1
-  change_goes x ChangeLocks false at h = absurd (true≢false (sym h.0))
-  change_goes x s wait at h = absurd h
-
-  remount_goes : (x : Remount) (s : RemountStep) → (w.views t).phase ≡ Some (Remounts (at_remount x s)) → RemountIsBlocked c w s →
-      Goes (Remounts (at_remount x s))
-  remount_goes x RemountLocks at h =
-      let p : Phase = Remounts (at_remount x RemountLocks) in
-      try_goes p (x.task + 1) at (λ e. stands_after c w t lt hook p at ∙ rw e refl) refl refl (λ l. l) h
-  remount_goes x s at h = absurd h
-
-  thaw_goes : (x : Thaw) (s : ThawStep) → (w.views t).phase ≡ Some (Thaws (at_thaw x s)) → ThawIsBlocked c w s → Goes (Thaws (at_thaw x s))
-  thaw_goes x ThawLocks at h =
-      let p : Phase = Thaws (at_thaw x ThawLocks) in
-      try_goes p (x.task + 1) at (λ e. stands_after c w t lt hook p at ∙ rw e refl) refl refl (λ l. l) h
-  thaw_goes x s at h = absurd h
-
-  snapshot_goes : (x : Snapshot) (s : SnapshotStep) (wait : Bool) →
-      (w.views t).phase ≡ Some (Trees (Snapshots (record x { step = s; wait = wait }))) → SnapshotIsBlocked c w s wait →
-      Goes (Trees (Snapshots (record x { step = s; wait = wait })))
-  snapshot_goes x SnapshotLocks true at h =
-      let p : Phase = Trees (Snapshots (record x { step = SnapshotLocks; wait = true })) in
-      try_goes p (x.task + 1) at (λ e. stands_after c w t lt hook p at ∙ rw e refl) refl refl (λ l. (refl, l)) h.1
-  snapshot_goes x SnapshotLocks false at h = absurd (true≢false (sym h.0))
-  snapshot_goes x s wait at h = absurd h
+  lock_goes : (phase : Phase) → (w.views t).phase ≡ Some phase → asks_lock phase ≡ true → IsBlockedAt c w phase → Goes phase
+  lock_goes phase at asks h =
+      let l = lock_waits c w phase asks h in try_goes phase at l.none (l.again hook) (l.stays (after phase)) l.blocked
 
   module _ (x : Freeze) (s : FreezeStep) (at : (w.views t).phase ≡ Some (Freezes (at_freeze x s))) where
     abbrev here_at : FreezeStep → Phase
@@ -423,7 +396,7 @@ module _ (c : Config) (w : World) (good : IsGood c w) (t : ℕ) (lt : t < c.task
         FreezeIsBlocked c w s → Goes (Freezes (at_freeze x s))
     freeze_goes FreezeLocks at fits nodes agreed m (inl l) =
         let p : Phase = Freezes (at_freeze x FreezeLocks) in
-        try_goes p (x.task + 1) at (λ e. stands_after c w t lt hook p at ∙ rw e refl) refl refl (λ k. inl k) l
+        try_goes p at refl (λ e. (rw e refl, rw e (load_same w.words Umount))) (λ k. inl k) l
     freeze_goes FreezeLocks at fits nodes agreed m (inr (u, only, k)) =
         freeze_makes x FreezeLocks at LoadsStage (stands_after c w t lt hook (Freezes (at_freeze x FreezeLocks)) at ∙ rw u refl)
         (λ i h. h) (λ f h. h) (λ two own. absurd (omega (arith, own))) (λ none. (refl, refl)) (λ u z b. absurd (true≢false b))
@@ -540,8 +513,8 @@ module _ (c : Config) (w : World) (good : IsGood c w) (t : ℕ) (lt : t < c.task
   phase_goes : (phase : Phase) (at : (w.views t).phase ≡ Some phase) → PhaseFits c t (held_of (w.views t)) phase →
       IsAgreed phase hook → MovesModel c (shown c w) t (phase_action w hook (Some phase)) (shown c (after phase)) → IsBlockedAt c w phase →
       Goes phase
-  phase_goes (Mounts (Changes x)) at f agreed m k = change_goes x x.step x.wait at k
-  phase_goes (Remounts x) at f agreed m k = remount_goes x x.step at k
+  phase_goes (Mounts (Changes x)) at f agreed m k = lock_goes (Mounts (Changes x)) at refl k
+  phase_goes (Remounts x) at f agreed m k = lock_goes (Remounts x) at refl k
   phase_goes (DownReads r) at f agreed m k =
       through r k f.0 f.1 (DownReads r) at DownReads refl refl (λ x. refl) (λ x h. h) (map_next DownReads) (λ x. refl) (λ x. refl)
       (down_read_after r r.step (found_at w.words (DownReads r) hook)).0 (stands_after c w t lt hook (DownReads r) at) (start_facts r k f.0 f.1)
@@ -551,8 +524,8 @@ module _ (c : Config) (w : World) (good : IsGood c w) (t : ℕ) (lt : t < c.task
       (down_read_after r r.step (found_at w.words (Writes (Takes i r)) hook)).0 (stands_after c w t lt hook (Writes (Takes i r)) at)
       (start_facts r k f.0.0 f.0.1)
   phase_goes (Freezes x) at f agreed m k = freeze_goes x x.step at f.5 f.3 agreed m k
-  phase_goes (Thaws x) at f agreed m k = thaw_goes x x.step at k
-  phase_goes (Trees (Snapshots x)) at f agreed m k = snapshot_goes x x.step x.wait at k
+  phase_goes (Thaws x) at f agreed m k = lock_goes (Thaws x) at refl k
+  phase_goes (Trees (Snapshots x)) at f agreed m k = lock_goes (Trees (Snapshots x)) at refl k
   phase_goes (FileCloses (CloseLoadsFile x)) at f agreed m k = load_goes x at f.0 k.0 k.1 k.2
   phase_goes (FileCloses (EntersLevel n node r)) at f agreed m k =
       through r k f.2.0 f.2.1 (FileCloses (EntersLevel n node r)) at (λ x. FileCloses (EntersLevel n node x)) refl refl (λ x. refl)

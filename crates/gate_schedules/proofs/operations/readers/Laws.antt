@@ -6,7 +6,7 @@ use Rattle.gate_schedules.proofs.{frames.Snapshots.completes_none, operations.re
 use Rattle.gate_schedules.proofs.operations.readers.{Causes.read_stays, EndEvents.end_keeps, Events.read_keeps, Fits.{none_from_agree, read_acts}}
 use Rattle.gate_schedules.proofs.operations.readers.{Fits.{read_fits, read_goes, read_step_agrees, read_there}, Runs.{end_runs, read_runs}}
 use Rattle.gate_schedules.proofs.operations.readers.{Trace.{EndAt, StartAt, end_inductive, start_inductive}, Waits.{read_waits, start_waits}}
-use Rattle.gate_schedules.proofs.traces.TraceInvariant.{traces_tell, traces_given_reads}
+use Rattle.gate_schedules.proofs.traces.TraceInvariant.{TraceLaws, traces_given_reads, traces_tell}
 use Rattle.gate_world.specs.{Operations.is_level_number, SameRoles.no_roles, declared.operations.Op.TheVariants.{End, Start}}
 use Rattle.gate_world.specs.{declared.work.Phase.TheVariants.{DownReads, UpReads}, refusals.Causes.asks_level, traces.Traces.most_events}
 use Rattle.freeze_laws.specs.levels.Roles.{closed}
@@ -75,18 +75,9 @@ start_op c i p wait = record {
   most_small = λ within. by_bool wait (λ b. IsSmall (most_events c (Start i p b))) tt (omega arith);
 }
 
+end_traces : (c : Config) (i p : ℕ) → TraceLaws c (End i p)
+end_traces c i p = traces_tell (λ t. EndAt i p) c (End i p) (λ t. end_inductive c t i p)
+
 -- of those of an end
 pub end_op : (c : Config) (i p : ℕ) → OpLaws c (End i p)
-end_op c i p = record {
-  fits = λ t held there order room.
-      let l : (1 ≤ i) × (i ≤ 3) × (p < c.processors) = in_level c i p there in
-      (l.0, l.1, l.2, order);
-  starts_aside = λ t. refl;
-  cause = λ t w earlier. tt;
-  order_agrees = λ held seen same there. same.levels i (in_level c i p there).0 (in_level c i p there).1;
-  room_agrees = λ held seen same there. refl;
-  restores = λ refusal trace before order. refl;
-  file = λ t held order room. tt;
-  traces = λ within. traces_tell (λ t. EndAt i p) c (End i p) (λ t. end_inductive c t i p);
-  most_small = λ within. omega arith;
-}
+end_op c i p = grind (arith, in_level, end_traces)

@@ -1,9 +1,9 @@
 -- All that is proved of a remount.
-use Rattle.gate_schedules.proofs.Prelude.{Bool, Config, Fits, Fitting, Op, Phase, Some, after_step, held_of, refl, subst}
+use Rattle.gate_schedules.proofs.Prelude.{Bool, Config, Fits, Fitting, IsWithin, Op, Phase, Some, after_step, arith, held_of, refl, subst}
 use Rattle.gate_schedules.proofs.frames.{Agreeing.none_agree, OperationLaws.{OpLaws, PhaseLaws, word_among}, Snapshots.completes_none}
 use Rattle.gate_schedules.proofs.operations.remount.{Causes.{remount_own, remount_stays}, Events.remount_keeps, Fits.{remount_acts, remount_goes}}
 use Rattle.gate_schedules.proofs.operations.remount.{Fits.remount_there, Runs.remount_runs, Trace.{RemountAt, remount_inductive, remount_restores}}
-use Rattle.gate_schedules.proofs.{operations.remount.Waits.remount_waits, traces.TraceInvariant.traces_tell}
+use Rattle.gate_schedules.proofs.{operations.remount.Waits.remount_waits, traces.TraceInvariant.{TraceLaws, traces_tell}}
 use Rattle.mount_counts.specs.declared.remounts.Remount.{Remount}
 
 pub remount_phase : (c : Config) (x : Remount) → PhaseLaws c (Phase.Remounts x)
@@ -24,15 +24,8 @@ remount_phase c x = record {
   reasons = λ lim w earlier good t lt hook e cause. remount_waits c w earlier good t lt x hook x.step e cause;
 }
 
+remount_traces : (c : Config) (ro : Bool) → IsWithin c → TraceLaws c (Op.RemountSb ro)
+remount_traces c ro lim = traces_tell (λ t. RemountAt c t ro) c (Op.RemountSb ro) (λ t. remount_inductive c lim t ro)
+
 pub remount_op : (c : Config) (ro : Bool) → OpLaws c (Op.RemountSb ro)
-remount_op c ro = record {
-  fits = λ t held there order room. (refl, refl, refl, refl, order, tt);
-  starts_aside = λ t. refl;
-  cause = λ t w earlier. tt;
-  order_agrees = λ held seen same there. none_agree held.levels seen.levels same.levels;
-  room_agrees = λ held seen same there. refl;
-  restores = λ refusal trace before order. remount_restores ro refusal trace before;
-  file = λ t held order room. tt;
-  traces = λ lim. traces_tell (λ t. RemountAt c t ro) c (Op.RemountSb ro) (λ t. remount_inductive c lim t ro);
-  most_small = λ lim. tt;
-}
+remount_op c ro = grind (arith, none_agree, remount_restores, remount_traces)

@@ -1,10 +1,10 @@
 -- All that is proved of a thaw.
-use Rattle.gate_schedules.proofs.Prelude.{Config, Op, Phase, after_step, refl}
+use Rattle.gate_schedules.proofs.Prelude.{Config, Op, Phase, after_step, arith, refl}
 use Rattle.access_model.specs.declared.actions.Holder.{Holder}
 use Rattle.freeze_levels.specs.declared.thaws.Thaw.{Thaw}
 use Rattle.gate_schedules.proofs.frames.{Agreeing.none_agree, OperationLaws.{OpLaws, PhaseLaws, word_among}, Snapshots.completes_none}
 use Rattle.gate_schedules.proofs.operations.thaw.{Causes.{thaw_own, thaw_stays}, Events.thaw_keeps, Fits.{thaw_acts, thaw_goes, thaw_there}}
-use Rattle.gate_schedules.proofs.operations.thaw.{Runs.thaw_runs, Trace.{ThawAt, thaw_inductive}, Waits.thaw_waits}
+use Rattle.gate_schedules.proofs.{operations.thaw.{Runs.thaw_runs, Trace.{ThawAt, thaw_inductive}, Waits.thaw_waits}, traces.TraceInvariant.TraceLaws}
 use Rattle.gate_schedules.proofs.traces.TraceInvariant.{traces_tell}
 
 pub thaw_phase : (c : Config) (x : Thaw) → PhaseLaws c (Phase.Thaws x)
@@ -21,15 +21,8 @@ thaw_phase c x = record {
   reasons = λ lim w earlier good t lt hook e cause. thaw_waits c w earlier t good lt x hook x.step e cause;
 }
 
+thaw_traces : (c : Config) (holder : Holder) → TraceLaws c (Op.Thaw holder)
+thaw_traces c holder = traces_tell (λ t. ThawAt c t holder) c (Op.Thaw holder) (λ t. thaw_inductive c t holder)
+
 pub thaw_op : (c : Config) (holder : Holder) → OpLaws c (Op.Thaw holder)
-thaw_op c holder = record {
-  fits = λ t held there order room. (refl, order, tt);
-  starts_aside = λ t. refl;
-  cause = λ t w earlier. tt;
-  order_agrees = λ held seen same there. none_agree held.levels seen.levels same.levels;
-  room_agrees = λ held seen same there. refl;
-  restores = λ refusal trace before order. refl;
-  file = λ t held order room. tt;
-  traces = λ lim. traces_tell (λ t. ThawAt c t holder) c (Op.Thaw holder) (λ t. thaw_inductive c t holder);
-  most_small = λ lim. tt;
-}
+thaw_op c holder = grind (arith, none_agree, thaw_traces)

@@ -5,7 +5,7 @@ use Rattle.gate_schedules.proofs.frames.{Frames.role_none, OperationLaws.{IsSmal
 use Rattle.gate_schedules.proofs.{mounts.Runs.mounts_run, operations.want.Causes.{next_asked, next_cause, want_cause_stays, want_own}}
 use Rattle.gate_schedules.proofs.operations.want.{Events.{drop_keeps, want_keeps}, Fits.{want_acts, want_goes, want_there}, Loads.want_here}
 use Rattle.gate_schedules.proofs.operations.want.{Trace.{DropAt, WantAt, drop_inductive, want_inductive as want_traced}, Waits.next_waits}
-use Rattle.gate_schedules.proofs.{operations.want.Waits.want_waits, traces.TraceInvariant.traces_tell, trees.worlds.Holders.both_true}
+use Rattle.gate_schedules.proofs.{operations.want.Waits.want_waits, traces.TraceInvariant.{TraceLaws, traces_tell}, trees.worlds.Holders.both_true}
 use Rattle.gate_world.specs.{SameRoles.no_roles, refusals.Causes.asks, traces.Traces.most_events}
 use Rattle.mount_counts.specs.{Phases.want_after, declared.phases.Want.Want}
 use Rattle.std.proofs.lemmas.Bool.{ltb-true}
@@ -64,18 +64,8 @@ want_op c m p wait = record {
   most_small = λ lim. by_bool wait (λ w. IsSmall (most_events c (Op.Want m p w))) tt (omega arith);
 }
 
+drop_traces : (c : Config) (m p : ℕ) → TraceLaws c (Op.DropMount m p)
+drop_traces c m p = traces_tell (λ t. DropAt m p) c (Op.DropMount m p) (λ t. drop_inductive c t m p)
+
 pub drop_op : (c : Config) (m p : ℕ) → OpLaws c (Op.DropMount m p)
-drop_op c m p = record {
-  fits = λ t held there order room.
-      let at : (nat_lt m c.mounts ≡ true) × (nat_lt p c.processors ≡ true) = both_true (nat_lt m c.mounts) (nat_lt p c.processors) there in
-      (ltb-true m c.mounts at.0, ltb-true p c.processors at.1, ltb-true 0 (held.mounts m) order);
-  starts_aside = λ t. refl;
-  cause = λ t w earlier. tt;
-  order_agrees = λ held seen same there. ap (nat_lt 0) (same.mounts m
-      (ltb-true m c.mounts (both_true (nat_lt m c.mounts) (nat_lt p c.processors) there).0));
-  room_agrees = λ held seen same there. refl;
-  restores = λ refusal trace before order. refl;
-  file = λ t held order room. tt;
-  traces = λ lim. traces_tell (λ t. DropAt m p) c (Op.DropMount m p) (λ t. drop_inductive c t m p);
-  most_small = λ lim. omega arith;
-}
+drop_op c m p = grind (arith, both_true, ltb-true, drop_traces)

@@ -11,7 +11,7 @@ use Rattle.gate_schedules.proofs.operations.want.{Causes.{want_cause_stays, want
 use Rattle.gate_schedules.proofs.operations.write_access.{Alike.{alike_takes, alike_wants}, Causes.{takes_asks, takes_cause, takes_waits}}
 use Rattle.gate_schedules.proofs.operations.write_access.{Causes.{wants_asked, wants_cause, wants_waits}, Events.{first_world, write_fits_now}}
 use Rattle.gate_schedules.proofs.operations.write_access.{Events.{write_runs, write_step}, Trace.{DropAt, WriteAt, drop_inductive, write_inductive}}
-use Rattle.gate_schedules.proofs.{traces.TraceInvariant.{traces_tell, traces_given_reads}, trees.worlds.Holders.both_true}
+use Rattle.gate_schedules.proofs.{traces.TraceInvariant.{TraceLaws, traces_given_reads, traces_tell}, trees.worlds.Holders.both_true}
 use Rattle.gate_world.specs.{Fits.WriteFits, Holdings.holdings_of, Rules.role_of, SameRoles.no_roles, refusals.Causes.{asks, asks_level}}
 use Rattle.freeze_laws.specs.levels.Roles.{closed}
 use Rattle.mount_counts.specs.{Phases.want_after, declared.phases.{Want.Want, WantStep.WantStep}}
@@ -215,18 +215,8 @@ want_write_op c m p = record {
   most_small = λ lim. tt;
 }
 
+drop_write_traces : (c : Config) (m p : ℕ) → TraceLaws c (Op.DropWrite m p)
+drop_write_traces c m p = traces_tell (λ t. DropAt m p) c (Op.DropWrite m p) (λ t. drop_inductive c t m p)
+
 pub drop_write_op : (c : Config) (m p : ℕ) → OpLaws c (Op.DropWrite m p)
-drop_write_op c m p = record {
-  fits = λ t held there order room.
-      let at : (m < c.mounts) × (p < c.processors) = in_mount c m p there in
-      let o : (held.levels 1 ≡ true) × (nat_lt 0 (held.mounts m) ≡ true) = both_true (held.levels 1) (nat_lt 0 (held.mounts m)) order in
-      ((at.0, at.1, ltb-true 0 (held.mounts m) o.1), o.0);
-  starts_aside = λ t. refl;
-  cause = λ t w earlier. tt;
-  order_agrees = λ held seen same there. rw (same.levels 1 (omega arith) (omega arith), same.mounts m (in_mount c m p there).0) refl;
-  room_agrees = λ held seen same there. refl;
-  restores = λ refusal trace before order. refl;
-  file = λ t held order room. tt;
-  traces = λ lim. traces_tell (λ t. DropAt m p) c (Op.DropWrite m p) (λ t. drop_inductive c t m p);
-  most_small = λ lim. omega arith;
-}
+drop_write_op c m p = grind (arith, in_mount, both_true, ltb-true, drop_write_traces)

@@ -1,4 +1,4 @@
-use Rattle.std.proofs.Common.{arith}
+use Rattle.gate_steps.proofs.Prelude.{arith}
 use Rattle.gate_steps.proofs.Looking.{divides}
 use Rattle.gate_steps.proofs.meeting.divide_as.Goals as goal
 

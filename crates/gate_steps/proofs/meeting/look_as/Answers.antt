@@ -1,8 +1,6 @@
-use Rattle.std.proofs.Common.{arith, subst}
+use Rattle.gate_steps.proofs.Prelude.{Config, arith, subst}
 use Rattle.atomic_table.specs.Table.{Allows}
-use Rattle.gate_world.specs.declared.config.Config.{Config}
-use Rattle.gate_steps.specs.Meetings.{looked}
-use Rattle.gate_steps.proofs.{Looking.{looks}, TableSimulation.{holds}}
+use Rattle.gate_steps.{proofs.{Looking.looks, TableSimulation.holds}, specs.Meetings.looked}
 use Rattle.gate_steps.proofs.meeting.look_as.Goals as goal
 
 pub load-requires : goal.load-requires

@@ -1,4 +1,4 @@
-use Rattle.std.specs.Prelude.{None, Ok}
+use Rattle.gate_steps.proofs.Prelude.{None, Ok}
 use Rattle.gate_world.specs.declared.work.Phase.TheVariants.{Mounts}
 use Rattle.mount_counts.specs.declared.phases.MountPhase.TheVariants.{Drop as Drops}
 use Rattle.gate_steps.proofs.meeting.meet_as.Given as goal

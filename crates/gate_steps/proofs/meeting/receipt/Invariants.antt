@@ -1,4 +1,4 @@
-use Rattle.std.proofs.Common.{[]}
+use Rattle.gate_steps.proofs.Prelude.{[]}
 use Rattle.gate_steps.proofs.meeting.receipt.Given as goal
 
 abbrev pub ghosts-divide_as : goal.ghosts-divide_as

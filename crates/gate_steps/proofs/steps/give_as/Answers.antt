@@ -1,6 +1,5 @@
-use Rattle.std.proofs.Common.{arith, ℕ, subst}
-use Rattle.gate_steps.specs.Seating.{Spares}
-use Rattle.gate_steps.proofs.Giving.{splits}
+use Rattle.gate_steps.proofs.Prelude.{arith, subst, ℕ}
+use Rattle.gate_steps.{proofs.Giving.splits, specs.Seating.Spares}
 use Rattle.gate_steps.proofs.steps.give_as.Goals as goal
 
 pub split_seat-requires : goal.split_seat-requires

@@ -1,4 +1,4 @@
-use Rattle.std.proofs.Common.{arith}
+use Rattle.gate_steps.proofs.Prelude.{arith}
 use Rattle.gate_steps.proofs.Giving.{joins}
 use Rattle.gate_steps.proofs.steps.take_back.Goals as goal
 

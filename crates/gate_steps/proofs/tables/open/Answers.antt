@@ -1,6 +1,5 @@
-use Rattle.std.proofs.Common.{ℕ, List, [], ◌∷◌, sym, subst}
-use Rattle.gate_steps.specs.Rules.{TableInvariantHolds, first_known}
-use Rattle.gate_steps.proofs.Opening.{opening_held}
+use Rattle.gate_steps.proofs.Prelude.{List, [], subst, sym, ℕ, ◌∷◌}
+use Rattle.gate_steps.{proofs.Opening.opening_held, specs.Rules.{TableInvariantHolds, first_known}}
 use Rattle.gate_steps.proofs.tables.open.Goals as goal
 
 pub of_words-requires : goal.of_words-requires

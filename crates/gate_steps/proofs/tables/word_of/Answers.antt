@@ -1,10 +1,7 @@
-use Rattle.std.proofs.Common.{◌≡◌, ℕ, sym, subst}
+use Rattle.gate_steps.proofs.Prelude.{get_elem?, some, subst, sym, ℕ, ◌≡◌}
 use Rattle.std.specs.Slots.{slots_items}
-use mathlib.Core.Option.{some}
-use lib.ListN.{get_elem?}
 use Rattle.cpu_words.specs.Names.{place}
-use Rattle.gate_steps.specs.Rules.{table_index}
-use Rattle.gate_steps.proofs.TableWords.{read_at}
+use Rattle.gate_steps.{proofs.TableWords.read_at, specs.Rules.table_index}
 use Rattle.gate_steps.proofs.tables.word_of.Goals as goal
 
 pub returns : goal.returns

@@ -1,5 +1,5 @@
 -- the law is a lemma of each
-use Rattle.gate_steps.proofs.call_events.{FreezeAsks.{refused_freeze}, RemountAsks.{refused_remount}, ThawAsks.{refused_thaw}}
+use Rattle.gate_steps.proofs.call_events.{FreezeAsks.refused_freeze, RemountAsks.refused_remount, ThawAsks.refused_thaw}
 use Rattle.gate_steps.proofs.call_events.laws.a_refused_call_asked_the_hook_that_failed.Goals as goal
 
 pub returns-clause-freeze : goal.returns-clause-freeze

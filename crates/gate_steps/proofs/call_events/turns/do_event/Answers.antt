@@ -1,5 +1,5 @@
-use Rattle.access_model.specs.Replies.{map_next}
-use Rattle.gate_steps.proofs.call_events.Turning.{inside_so, acts_so, adds_so, stay_agrees, stepped_so}
+use Rattle.gate_steps.proofs.Prelude.{map_next}
+use Rattle.gate_steps.proofs.call_events.Turning.{acts_so, adds_so, inside_so, stay_agrees, stepped_so}
 use Rattle.gate_steps.proofs.call_events.turns.do_event.Goals as goal
 
 pub event-event-requires-clause-table : goal.event-event-requires-clause-table

@@ -1,8 +1,6 @@
 -- the step is the one that the answer decides, and the hook was asked right before it
-use Rattle.std.proofs.Common.{refl}
-use Rattle.std.specs.Prelude.{None}
-use Rattle.gate_steps.specs.call_events.Asking.{call_at}
-use Rattle.gate_steps.proofs.call_events.{Turning.{inside_so, acts_so}, Asking.{was_asked}, Leading.{led_asking_by}}
+use Rattle.gate_steps.proofs.Prelude.{None, call_at, refl}
+use Rattle.gate_steps.proofs.call_events.{Asking.was_asked, Leading.led_asking_by, Turning.{acts_so, inside_so}}
 use Rattle.gate_steps.proofs.call_events.turns.find_asking.Goals as goal
 
 pub touch-found-requires-clause-table : goal.touch-found-requires-clause-table

@@ -1,6 +1,6 @@
 -- the step is known, so what it left of the task's fields and what comes after it are
-use Rattle.std.specs.Prelude.{Some, Ok}
-use Rattle.gate_steps.proofs.call_events.{Turning.{inside_so, acts_so}, Leading.{led_by}}
+use Rattle.gate_steps.proofs.Prelude.{Ok, Some}
+use Rattle.gate_steps.proofs.call_events.{Leading.led_by, Turning.{acts_so, inside_so}}
 use Rattle.gate_steps.proofs.call_events.turns.find_first.Goals as goal
 
 pub touch-requires-clause-table : goal.touch-requires-clause-table

@@ -1,4 +1,4 @@
-use Rattle.access_model.specs.Replies.{map_next}
+use Rattle.gate_steps.proofs.Prelude.{map_next}
 use Rattle.gate_steps.proofs.call_events.Turning.{went_with_so}
 use Rattle.gate_steps.proofs.call_events.turns.step_once.Goals as goal
 

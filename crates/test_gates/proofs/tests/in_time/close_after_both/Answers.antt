@@ -1,8 +1,7 @@
 -- the last task has seen what both had
 use Rattle.std.proofs.Common.{subst}
 use Rattle.gate_world.specs.Worlds.{World}
-use Rattle.vfs_gates.specs.{Ended.{IsLeftAfter}, TaskStates.{SeatedTask}}
-use Rattle.vfs_gates.proofs.Closing.{left_after}
+use Rattle.vfs_gates.{proofs.closed_gates.Closing.left_after, specs.{Ended.IsLeftAfter, TaskStates.SeatedTask}}
 use Rattle.test_gates.proofs.tests.in_time.close_after_both.Goals as goal
 
 pub returns-in-Ok : goal.returns-in-Ok

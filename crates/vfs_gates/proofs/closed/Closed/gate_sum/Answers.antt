@@ -6,8 +6,8 @@ use Rattle.cpu_words.specs.{Names.{IsWord, place, stride}, declared.names.WordNa
 use Rattle.gate_world.specs.Configs.{extents_of, extents_kept}
 use Rattle.gate_steps.specs.Rules.{table_index}
 use Rattle.gate_steps.proofs.TableWords.{lies_inside}
-use Rattle.vfs_gates.specs.{Sums.{IsGate, count_word}, Ended.{ClosedState}}
-use Rattle.vfs_gates.proofs.{Ending.{sums_to_none, level_sums_to_none}, Gating.{has_count, is_gate, counts_on, counts_one_more}}
+use Rattle.vfs_gates.proofs.closed_gates.{Ending.{level_sums_to_none, sums_to_none}, Gating.{counts_on, counts_one_more, has_count, is_gate}}
+use Rattle.vfs_gates.specs.{Ended.ClosedState, Sums.{IsGate, count_word}}
 use Rattle.vfs_gates.proofs.closed.Closed.gate_sum.Goals as goal
 
 pub returns-clause-mounts : goal.returns-clause-mounts

@@ -2,7 +2,7 @@ use Rattle.std.proofs.Common.{◌≡◌, ◌%◌, ◌*◌, ◌<◌, ℕ, Some, r
 use Rattle.std.specs.{Prelude.{slice_index}, Slots.{slots_items}}
 use Rattle.cpu_words.specs.{declared.names.WordName.{WordName}, Names.{IsWord, place, stride}}
 use Rattle.gate_world.specs.Configs.{extents_of}
-use Rattle.vfs_gates.proofs.Ending.{umount_free, no_remount, none_removed, no_hold, no_section}
+use Rattle.vfs_gates.proofs.closed_gates.Ending.{no_hold, no_remount, no_section, none_removed, umount_free}
 use Rattle.vfs_gates.proofs.closed.Closed.word.Goals as goal
 
 pub returns-then-has_word-clause-umount : goal.returns-then-has_word-clause-umount

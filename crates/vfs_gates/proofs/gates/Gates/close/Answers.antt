@@ -3,8 +3,7 @@ use Rattle.std.proofs.Common.{ℕ, ◌<◌, ◌≤◌, List, refl, sym, ◌∙�
 use Rattle.std.specs.Slots.{slots_items}
 use Rattle.gate_world.specs.declared.{config.Config.Config, entries.Entry.Entry}
 use Rattle.gate_steps.specs.{Seating.{DealtNumbers, times}, Tables.{IsClosing}, call_events.GhostAgrees.{AllRest}}
-use Rattle.vfs_gates.specs.Ended.{EndedWith}
-use Rattle.vfs_gates.proofs.{Closing.{ended}, gates.Gates.close.Goals.{After-close}}
+use Rattle.vfs_gates.{proofs.{closed_gates.Closing.ended, gates.Gates.close.Goals.After-close}, specs.Ended.EndedWith}
 use Rattle.vfs_gates.proofs.gates.Gates.close.Goals as goal
 
 -- what the words and the task's numbers say of each other

@@ -1,7 +1,6 @@
 -- the words are as they begin until the first step, and the first task rests
 use Rattle.std.proofs.Common.{refl, sym, subst, true≢false}
-use Rattle.vfs_gates.specs.{Ended.{HasOpeningWords}, TaskStates.{SeatedTask}, Held.{Rests}}
-use Rattle.vfs_gates.proofs.{Closing.{opens_so}, Resting.{first_empty}}
+use Rattle.vfs_gates.{proofs.{Resting.first_empty, closed_gates.Closing.opens_so}, specs.{Ended.HasOpeningWords, Held.Rests, TaskStates.SeatedTask}}
 use Rattle.vfs_gates.proofs.gates.Gates.new.Goals as goal
 
 pub returns-clause-words : goal.returns-clause-words

@@ -1,5 +1,5 @@
 -- the law is a lemma
-use Rattle.vfs_gates.proofs.Timing.{calls_in_order}
+use Rattle.vfs_gates.proofs.call_laws.Timing.{calls_in_order}
 use Rattle.vfs_gates.proofs.laws.in_time.calls_take_effect_in_order.Goals as goal
 
 pub returns : goal.returns

@@ -1,5 +1,5 @@
 -- the law is a lemma
-use Rattle.vfs_gates.proofs.FoundNobody.{froze_at_once}
+use Rattle.vfs_gates.proofs.call_laws.FoundNobody.{froze_at_once}
 use Rattle.vfs_gates.proofs.laws.patience.a_granted_try_freeze_waited_for_nobody.Goals as goal
 
 pub returns : goal.returns

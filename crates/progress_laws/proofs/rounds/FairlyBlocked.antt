@@ -12,10 +12,10 @@ use Rattle.gate_schedules.proofs.{levels.Counts.held_bit, operations.deadlocks.W
 use Rattle.gate_schedules.specs.operations.Progress.{AllAreBlocked, BlockedIfFreeze, ChangeIsBlocked, FreezeIsBlocked, HeldLevelAhead, IsBlockedAt}
 use Rattle.gate_schedules.specs.operations.Progress.{IsHeldIdle, LockIsBlocked, RemountIsBlocked, SnapshotIsBlocked, StartIsBlocked, ThawIsBlocked}
 use Rattle.gate_schedules.specs.operations.Progress.{is_admitted, is_first_lock, next_level}
-use Rattle.progress_laws.proofs.{Blame.{each_is_blocked, lock_stuck, lock_waits, nonzero, owner_goes}, Measured.rounds_good, OneFreeze.freezing_at}
-use Rattle.progress_laws.{proofs.{OneFreeze.{one_freezes, owner_later}, Rounds.settles_fairly}, specs.FairRounds.{BlockedAfterRounds, nobody}}
-use Rattle.progress_laws.specs.{FairRounds.run_all, LostTasks.{CountIsStuck, HoldIsLost, LockIsStuck}, Waiting.{change_waits, lock_taken}}
-use Rattle.progress_laws.specs.Waiting.{remount_waits, snapshot_waits}
+use Rattle.progress_laws.proofs.blocked.{Blame.{each_is_blocked, lock_stuck, lock_waits, nonzero, owner_goes}, OneFreeze.{freezing_at, one_freezes}}
+use Rattle.progress_laws.proofs.{blocked.OneFreeze.owner_later, rounds.{Measured.rounds_good, Rounds.settles_fairly}}
+use Rattle.progress_laws.specs.{FairRounds.{BlockedAfterRounds, nobody, run_all}, LostTasks.{CountIsStuck, HoldIsLost, LockIsStuck}}
+use Rattle.progress_laws.specs.Waiting.{change_waits, lock_taken, remount_waits, snapshot_waits}
 
 abbrev as_number : Bool → ℕ
 as_number b = if b then 1 else 0

@@ -3,11 +3,11 @@ use Rattle.progress_laws.proofs.Prelude.{Config, Holdings, HookAnswer, IsGood, I
 use Rattle.progress_laws.proofs.Prelude.{after_of, after_step, ap, arith, eqb_tells, false, fits_at, found_at, happens_is, held_of, inl, inr}
 use Rattle.progress_laws.proofs.Prelude.{must_wait, phase_after, refl, stands_after, start_steps, steps_left, subst, suc, sym, tries_left, true≢false}
 use Rattle.progress_laws.proofs.Prelude.{zero, ℕ, ◌*◌, ◌+◌, ◌<◌, ◌∙◌, ◌≡◌, ◌≤◌}
-use Rattle.progress_laws.proofs.{AllNearer.{RoomFalls, phase_comes, room_falls, starts_small, steps_small, tries_small}, Changes.CountsChanges}
-use Rattle.progress_laws.proofs.{Changes.{changes_count, changes_small}, Nearer.{ComesNearer, goes_on}, Potentials.{as_one_small, moves_fall}}
-use Rattle.progress_laws.{proofs.{Potentials.{steps_fall, tries_fall}, Settling.{step_good, wait_or_go}}, specs.Alone.{SettlesAlone, all_but}}
-use Rattle.progress_laws.specs.{Alone.{alone_left, most_turns_alone, turns_alone}, LostTasks.SettlesAmong, StepsLeft.{changes_left, most_steps}}
-use Rattle.progress_laws.specs.StepsLeft.{start_room_of, start_steps_of, tries_of, try_room_of}
+use Rattle.progress_laws.proofs.nearer.{AllNearer.{RoomFalls, phase_comes, room_falls, starts_small, steps_small, tries_small}, Changes.CountsChanges}
+use Rattle.progress_laws.proofs.{nearer.{Changes.{changes_count, changes_small}, Nearer.{ComesNearer, goes_on}}, rounds.Potentials.as_one_small}
+use Rattle.progress_laws.{proofs.rounds.{Potentials.{moves_fall, steps_fall, tries_fall}, Settling.{step_good, wait_or_go}}, specs.Alone.SettlesAlone}
+use Rattle.progress_laws.specs.{Alone.{all_but, alone_left, most_turns_alone, turns_alone}, LostTasks.SettlesAmong, StepsLeft.changes_left}
+use Rattle.progress_laws.specs.StepsLeft.{most_steps, start_room_of, start_steps_of, tries_of, try_room_of}
 
 -- one step, by what it leaves
 module _ (starts tries : ℕ) (w after : Words) (phase : Phase) where

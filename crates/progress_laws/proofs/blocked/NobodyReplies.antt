@@ -25,12 +25,12 @@ use Rattle.percpu_rwsem.specs.{Callbacks.callback_looked, Readers.{at_down_read,
 use Rattle.gate_world.specs.{Fits.ReadFits, Levels.level_role_of, Roles.{count_beside, count_role_if, down_count_role, freeze_position}}
 use Rattle.gate_world.specs.{Roles.{position_count, read_count_role, read_level_role}, Rules.LevelHoldsIn, Views.{actions_after, holds_level}}
 use Rattle.gate_schedules.{proofs.levels.{Counts.held_bit, Facts.blocked_slow}, specs.operations.Progress.{IsUnderWay, is_admitted}}
-use Rattle.progress_laws.proofs.{AllNearer.phase_comes, BarredStarts.{ComesTo, barred_next, sought_by, start_elsewhere, start_lead, start_next}}
-use Rattle.progress_laws.proofs.{BarredStarts.{start_out, start_section, start_words}, Blame.{both, each_is_blocked, nonzero, not_zero}}
-use Rattle.progress_laws.proofs.{Calls.lock_found, FairlyBlocked.{start_wait, waits_out}, Levels.{LookStays, begun_lead, lead_last, lead_on}}
-use Rattle.progress_laws.proofs.{Levels.look_stays, Measured.{absent_is, after_good, idle_is}, Nearer.{StaysBy, StaysWaiting, by_wait, patient_waits}}
-use Rattle.progress_laws.specs.{Answers.{AllAnswerSo, AnswersSo, IsPatient}, LostTasks.{AreLiveSteps, IsBlockedBy, NobodyReplies}, Waiting.lock_taken}
-use Rattle.progress_laws.specs.Waiting.{was_found}
+use Rattle.progress_laws.proofs.blocked.BarredStarts.{ComesTo, barred_next, sought_by, start_elsewhere, start_lead, start_next, start_out}
+use Rattle.progress_laws.proofs.blocked.{BarredStarts.{start_section, start_words}, Blame.{both, each_is_blocked, nonzero, not_zero}}
+use Rattle.progress_laws.proofs.nearer.{AllNearer.phase_comes, Calls.lock_found, Levels.{LookStays, begun_lead, lead_last, lead_on, look_stays}}
+use Rattle.progress_laws.proofs.{nearer.Nearer.{StaysBy, StaysWaiting, by_wait, patient_waits}, rounds.FairlyBlocked.{start_wait, waits_out}}
+use Rattle.progress_laws.{proofs.rounds.Measured.{absent_is, after_good, idle_is}, specs.Answers.{AllAnswerSo, AnswersSo, IsPatient}}
+use Rattle.progress_laws.specs.{LostTasks.{AreLiveSteps, IsBlockedBy, NobodyReplies}, Waiting.{lock_taken, was_found}}
 
 -- a sum with one term changed
 total_shift : (n t : ℕ) (f g : ℕ → ℕ) → t < n → ((x : ℕ) → (x ≡ t → ⊥) → g x ≡ f x) → total n g + f t ≡ total n f + g t

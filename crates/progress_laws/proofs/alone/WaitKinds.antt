@@ -17,7 +17,7 @@ use Rattle.mount_counts.specs.declared.remounts.Remount.{Remount}
 use Rattle.percpu_rwsem.specs.Transitions.{transition_next}
 use Rattle.gate_schedules.specs.operations.Progress.{is_first_lock}
 use Rattle.node_words.specs.declared.marks.ClearMarks.{ClearMarks}
-use Rattle.progress_laws.{proofs.{Calls.lock_free, Nearer.by_wait}, specs.Waiting.{change_waits, remount_waits, snapshot_waits, tree_waits}}
+use Rattle.progress_laws.{proofs.nearer.{Calls.lock_free, Nearer.by_wait}, specs.Waiting.{change_waits, remount_waits, snapshot_waits, tree_waits}}
 use Rattle.progress_laws.specs.Waiting.{want_waits}
 
 abbrev pub callback_kind : CallbackStep → ℕ

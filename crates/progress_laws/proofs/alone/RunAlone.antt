@@ -3,7 +3,7 @@ use Rattle.progress_laws.proofs.Prelude.{Bool, Config, HookAnswer, IsGood, IsWit
 use Rattle.progress_laws.proofs.Prelude.{arith, cases_Bool, false, happens, happens_is, inl, inr, refl, subst, suc, sym, true, true≢false, zero, ℕ}
 use Rattle.progress_laws.proofs.Prelude.{◌+◌, ◌<◌, ◌∙◌, ◌≡◌, ◌≤◌, ◌⊎◌}
 use Rattle.gate_schedules.{proofs.operations.deadlocks.FreezeProgress.{not_none, search_below}, specs.operations.Progress.HasReply}
-use Rattle.progress_laws.{proofs.Settling.step_good, specs.FirstReply.ReplyOr}
+use Rattle.progress_laws.{proofs.rounds.Settling.step_good, specs.FirstReply.ReplyOr}
 
 module _ (c : Config) (lim : IsWithin c) (lost : ℕ → Bool) where
   pub no_nearer : (P : World → Type 0) (n m : ℕ) (w : World) → n ≤ m → ReplyOr c lost P n w → ReplyOr c lost P m w

@@ -7,7 +7,7 @@ use Rattle.progress_laws.proofs.Prelude.{start_waits, sym, sync_role_of, true, t
 use Rattle.cpu_words.specs.gate_counts.{Gates.{below, counted, unread}, Levels.processor_of}
 use Rattle.gate_world.specs.{Fits.ReadStepFits, Levels.level_role_of, Shown.{freeze_closing, is_summing}, Views.holds_level}
 use Rattle.gate_schedules.proofs.{levels.Counts.held_bit, operations.deadlocks.WhoCanStep.{holds_below, holds_not_none, open_above}}
-use Rattle.progress_laws.proofs.{Blame.{each_is_blocked, owner_goes}, FairlyBlocked.{enters_fits, start_wait, waits_out}}
+use Rattle.progress_laws.proofs.{blocked.Blame.{each_is_blocked, owner_goes}, rounds.FairlyBlocked.{enters_fits, start_wait, waits_out}}
 use Rattle.progress_laws.specs.LostTasks.{CountIsStuck, FreezeSums, HoldIsLost, IsBlockedBy, LevelIsStuck, LockIsStuck, Remains, SectionIsLost}
 use Rattle.progress_laws.specs.LostTasks.{WaitsForRemains}
 

@@ -8,12 +8,13 @@ use Rattle.progress_laws.proofs.Prelude.{view_after, zero, ℕ, ◌*◌, ◌+◌
 use Rattle.finite_sums.proofs.Totals.{total_add, total_bound, total_same}
 use Rattle.gate_schedules.proofs.operations.{AllOperations.phase_keeps, deadlocks.FreezeProgress.{not_none, search_below}}
 use Rattle.gate_schedules.specs.operations.Progress.{IsUnderWay}
-use Rattle.progress_laws.proofs.{AllNearer.{RoomFalls, phase_comes, room_falls, starts_small, steps_small, tries_small}, Changes.CountsChanges}
-use Rattle.progress_laws.proofs.{Changes.{EndsBy, KeepsBy, SameLevels, changes_count, changes_small, waits_keep}, Nearer.{ComesNearer, StaysWaiting}}
-use Rattle.progress_laws.proofs.{Nearer.{goes_on, on_waits, waits_on}, Potentials.{as_one_small, moves_fall, steps_fall, total_lower_by, tries_fall}}
-use Rattle.progress_laws.specs.{LostTasks.SettlesAmong, StepsLeft.{as_one, all_changes, all_start_steps, all_steps, all_tries, changes_left}}
-use Rattle.progress_laws.specs.StepsLeft.{changes_of, most_changes, most_steps, thaw_tries, most_turns, potential, start_room, start_room_of}
-use Rattle.progress_laws.specs.StepsLeft.{try_room, try_room_of, start_steps_of, steps_of, tries_of}
+use Rattle.progress_laws.proofs.nearer.{AllNearer.{RoomFalls, phase_comes, room_falls, starts_small, steps_small, tries_small}, Changes.CountsChanges}
+use Rattle.progress_laws.proofs.nearer.{Changes.{EndsBy, KeepsBy, SameLevels, changes_count, changes_small, waits_keep}, Nearer.ComesNearer}
+use Rattle.progress_laws.proofs.{nearer.Nearer.{StaysWaiting, goes_on, on_waits, waits_on}, rounds.Potentials.{as_one_small, moves_fall, steps_fall}}
+use Rattle.progress_laws.{proofs.rounds.Potentials.{total_lower_by, tries_fall}, specs.{LostTasks.SettlesAmong, StepsLeft.all_changes}}
+use Rattle.progress_laws.specs.StepsLeft.{all_start_steps, all_steps, all_tries, as_one, changes_left, changes_of, most_changes, most_steps}
+use Rattle.progress_laws.specs.StepsLeft.{most_turns, potential, start_room, start_room_of, start_steps_of, steps_of, thaw_tries, tries_of, try_room}
+use Rattle.progress_laws.specs.StepsLeft.{try_room_of}
 
 -- a start reads nothing but `block`
 starts_same : (w after : Words) → after.block ≡ w.block → (p : Option Phase) → start_steps_of after p ≡ start_steps_of w p

@@ -15,14 +15,15 @@ use Rattle.freeze_levels.specs.Freezes.{freeze_hook}
 use Rattle.percpu_rwsem.specs.Writers.{down_write_summed}
 use Rattle.gate_world.specs.Shown.{freeze_closing, is_summing}
 use Rattle.gate_schedules.specs.operations.Progress.{HasReply, IsUnderWay}
-use Rattle.progress_laws.proofs.{AllNearer.outside_waits, Blame.{both, each_is_blocked, owner_goes}, Measured.{AllSo, IsStep, Keeps, Leaves}}
-use Rattle.progress_laws.proofs.{Measured.{Measures, rounds_good, rounds_settle}, Nearer.{freeze_waits_on, on_waits, waits_on}}
-use Rattle.progress_laws.proofs.{NobodyReplies.is_error, Potentials.{mul_comm, mul_le, total_lower, unit_falls}, Remaining.waits_for_remains}
-use Rattle.progress_laws.proofs.Settling.{IsRoomy, next_roomy, others_same, step_falls, step_good, step_stays, turns_few, waits_at, waits_of}
-use Rattle.progress_laws.specs.{Answers.{IsImpatient, RoundsAnswerSo}, FairRounds.{AreRounds, nobody, rests_at, run_all}, GivingUp.NoFreezeSums}
-use Rattle.progress_laws.specs.GivingUp.{RemainsUnpassed, RepliesOrWaitsForThaw, SettlesImpatiently, WaitsForThaw, load_room, load_room_of}
-use Rattle.progress_laws.specs.{GivingUp.{most_turns_to_give_up, turns_to_give_up}, LostTasks.{FreezeSums, IsBlockedBy, LockIsStuck, Remains}}
-use Rattle.progress_laws.specs.{LostTasks.SectionIsLost, StepsLeft.{most_turns, potential, start_room, try_room}}
+use Rattle.progress_laws.proofs.blocked.{Blame.{both, each_is_blocked, owner_goes}, NobodyReplies.is_error, Remaining.waits_for_remains}
+use Rattle.progress_laws.proofs.{nearer.{AllNearer.outside_waits, Nearer.{freeze_waits_on, on_waits, waits_on}}, rounds.Measured.{AllSo, IsStep}}
+use Rattle.progress_laws.proofs.rounds.{Measured.{Keeps, Leaves, Measures, rounds_good, rounds_settle}, Potentials.{mul_comm, mul_le, total_lower}}
+use Rattle.progress_laws.proofs.rounds.{Potentials.unit_falls, Settling.{IsRoomy, next_roomy, others_same, step_falls, step_good, step_stays}}
+use Rattle.progress_laws.{proofs.rounds.Settling.{turns_few, waits_at, waits_of}, specs.{Answers.{IsImpatient, RoundsAnswerSo}, FairRounds.AreRounds}}
+use Rattle.progress_laws.specs.{FairRounds.{nobody, rests_at, run_all}, GivingUp.{NoFreezeSums, RemainsUnpassed, RepliesOrWaitsForThaw}}
+use Rattle.progress_laws.specs.GivingUp.{SettlesImpatiently, WaitsForThaw, load_room, load_room_of, most_turns_to_give_up, turns_to_give_up}
+use Rattle.progress_laws.specs.{LostTasks.{FreezeSums, IsBlockedBy, LockIsStuck, Remains, SectionIsLost}, StepsLeft.{most_turns, potential}}
+use Rattle.progress_laws.specs.StepsLeft.{start_room, try_room}
 
 -- a freeze sums the counts of a level, or is asked there whether to wait on
 abbrev closing_sums : DownWriteStep → Bool

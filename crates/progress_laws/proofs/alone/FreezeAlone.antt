@@ -12,7 +12,7 @@ use Rattle.node_words.specs.{Phases.clear_after, declared.marks.ClearMarks.Clear
 use Rattle.percpu_rwsem.specs.{SyncWords.on_exit, Writers.{at_down_write, callback_step, down_write_summed, enter_step, exit_made, passed_awaited}}
 use Rattle.percpu_rwsem.specs.{Writers.up_write_after, declared.sync_word.{GpState.GpState, SyncWord.SyncWord}}
 use Rattle.gate_schedules.proofs.operations.deadlocks.BlockedCloses.{StaysAtLevel, down_stays}
-use Rattle.progress_laws.{proofs.{AllNearer.exchange_few, Nearer.by_wait, WaitKinds.NextIs}, specs.StepsLeft.closed_left}
+use Rattle.progress_laws.{proofs.{alone.WaitKinds.NextIs, nearer.{AllNearer.exchange_few, Nearer.by_wait}}, specs.StepsLeft.closed_left}
 
 -- the loads of a sum, which may begin again once
 abbrev sum_tries : ℕ → ℕ

@@ -9,12 +9,12 @@ use Rattle.finite_sums.proofs.Totals.{total_add, total_bound}
 use Rattle.freeze_laws.specs.{levels.{Operations.callback_role, Roles.claimed as has_claimed}, stages.Roles.bit}
 use Rattle.percpu_rwsem.specs.{Callbacks.{at_callback, claimed}, SyncWords.{bit as taken_bit, on_claim}}
 use Rattle.gate_world.specs.Fits.{GraceFits}
-use Rattle.progress_laws.proofs.{AllNearer.{close_steps, exchange_few, grace_few, phase_comes, starts_small, want_few, write_steps}, Alone.HasRoom}
-use Rattle.progress_laws.proofs.{Alone.step_alone, Nearer.ComesNearer, Potentials.total_lower, RunAlone.{Makes, NoneGoes, Stopped, and_then}}
-use Rattle.progress_laws.proofs.{RunAlone.{no_nearer, runs, some_or_none}, Settling.{others_same, start_room_few}, WaitKinds.{NextIs, callback_kind}}
-use Rattle.progress_laws.proofs.WaitKinds.{claimed_keeps, goes_is, goes_not, goes_of, graces_kept, is_callback, kind, next_all, next_map, quick_keeps}
-use Rattle.progress_laws.{proofs.WaitKinds.waits_kept, specs.{Alone.alone_left, FirstReply.{ReplyOr, most_of_kinds}, StepsLeft.callback_changes}}
-use Rattle.progress_laws.specs.StepsLeft.{callback_left, callback_tries}
+use Rattle.progress_laws.proofs.alone.{Alone.{HasRoom, step_alone}, RunAlone.{Makes, NoneGoes, Stopped, and_then, no_nearer, runs, some_or_none}}
+use Rattle.progress_laws.proofs.alone.WaitKinds.{NextIs, callback_kind, claimed_keeps, goes_is, goes_not, goes_of, graces_kept, is_callback, kind}
+use Rattle.progress_laws.proofs.{alone.WaitKinds.{next_all, next_map, quick_keeps, waits_kept}, nearer.AllNearer.{close_steps, exchange_few}}
+use Rattle.progress_laws.proofs.nearer.{AllNearer.{grace_few, phase_comes, starts_small, want_few, write_steps}, Nearer.ComesNearer}
+use Rattle.progress_laws.{proofs.rounds.{Potentials.total_lower, Settling.{others_same, start_room_few}}, specs.Alone.alone_left}
+use Rattle.progress_laws.specs.{FirstReply.{ReplyOr, most_of_kinds}, StepsLeft.{callback_changes, callback_left, callback_tries}}
 
 -- what a task is at waits, if its kind is below this one
 abbrev pub WaitsBelow : ℕ → Words → Option Phase → Type 0

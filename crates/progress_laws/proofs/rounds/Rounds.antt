@@ -4,11 +4,11 @@ use Rattle.progress_laws.proofs.Prelude.{World, after_step, ap, arith, cases_Boo
 use Rattle.progress_laws.proofs.Prelude.{suc, sym, true, true≢false, turns_left, zero, ℕ, ◌<◌, ◌∙◌, ◌≡◌, ◌⊎◌}
 use Rattle.std.specs.Prelude.{◌++◌, List, [], ◌∷◌}
 use Rattle.gate_schedules.specs.operations.Progress.{IsUnderWay}
-use Rattle.progress_laws.proofs.{AllNearer.outside_waits, Measured.{IsStep, Keeps, Measures, after_good, by_entry, rounds_once, rounds_settle}}
-use Rattle.progress_laws.proofs.{Measured.run_keeps, Nearer.{on_waits, patient_waits, waits_on}, Settling.{IsRoomy, next_roomy, others_same}}
-use Rattle.progress_laws.{proofs.Settling.{step_falls, step_same, step_stays, waits_at, waits_of}, specs.Answers.{AllAnswerSo, AnswersSo, IsPatient}}
-use Rattle.progress_laws.specs.{Answers.RoundsAnswerSo, FairRounds.{MayAllStep, MayStep, IsServed, RoundsExist, SettlesFairly, SettlesOnce}}
-use Rattle.progress_laws.specs.{FairRounds.{StaysSettled, rests_at, run_all}, StepsLeft.{potential, start_room, try_room}}
+use Rattle.progress_laws.proofs.{nearer.{AllNearer.outside_waits, Nearer.{on_waits, patient_waits, waits_on}}, rounds.Measured.{IsStep, Keeps}}
+use Rattle.progress_laws.proofs.rounds.{Measured.{Measures, after_good, by_entry, rounds_once, rounds_settle, run_keeps}, Settling.IsRoomy}
+use Rattle.progress_laws.proofs.rounds.Settling.{next_roomy, others_same, step_falls, step_same, step_stays, waits_at, waits_of}
+use Rattle.progress_laws.specs.{Answers.{AllAnswerSo, AnswersSo, IsPatient, RoundsAnswerSo}, FairRounds.{IsServed, MayAllStep, MayStep, RoundsExist}}
+use Rattle.progress_laws.specs.{FairRounds.{SettlesFairly, SettlesOnce, StaysSettled, rests_at, run_all}, StepsLeft.{potential, start_room, try_room}}
 
 -- who rests has to wait
 rest_waits : (w : Words) (p : Option Phase) → rests_at w p ≡ true → waits_of w p ≡ true

@@ -10,9 +10,9 @@ use Rattle.gate_world.specs.Fits.{GraceFits, ThawFits}
 use Rattle.gate_schedules.{proofs.operations.deadlocks.Bounds.rank_small, specs.operations.Ranks.most_alone}
 use Rattle.mount_counts.specs.Ranks.{want_rank}
 use Rattle.composite_ops.specs.{file_closes.Phases.after as close_after, write_access.Phases.after as write_after}
-use Rattle.progress_laws.proofs.Calls.{callback_phase, close_phase, end_phase, mount_phase, remount_phase, start_phase, tree_phase, write_phase}
-use Rattle.progress_laws.{proofs.{Freezes.{freeze_phase, thaw_phase}, Nearer.NearsPhase}, specs.StepsLeft.{start_room_of, try_room_of, callback_left}}
-use Rattle.progress_laws.specs.StepsLeft.{close_left, closed_left, grace_left, most_steps, thaw_left, write_left}
+use Rattle.progress_laws.proofs.nearer.Calls.{callback_phase, close_phase, end_phase, mount_phase, remount_phase, start_phase, tree_phase}
+use Rattle.progress_laws.{proofs.nearer.{Calls.write_phase, Freezes.{freeze_phase, thaw_phase}, Nearer.NearsPhase}, specs.StepsLeft.callback_left}
+use Rattle.progress_laws.specs.StepsLeft.{close_left, closed_left, grace_left, most_steps, start_room_of, thaw_left, try_room_of, write_left}
 
 pub phase_comes : (c : Config) (phase : Phase) → NearsPhase c phase
 phase_comes c (Phase.Mounts x) = mount_phase c x

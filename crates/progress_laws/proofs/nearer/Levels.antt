@@ -16,7 +16,7 @@ use Rattle.freeze_laws.specs.levels.{Operations.{down_write_role, up_write_role}
 use Rattle.gate_world.specs.traces.TraceStates.{WordIsValid}
 use Rattle.gate_schedules.proofs.levels.Facts.{ExchangeFalls, exchange_falls, defined_falls, enter_defined, writer_passed, writer_called}
 use Rattle.gate_schedules.proofs.levels.Facts.{exit_defined, block_clear}
-use Rattle.progress_laws.{proofs.Nearer.{FewerLeft, NearsBy, StaysBy}, specs.{StepsLeft.grace_left, Waiting.{sum_waits, was_found}}}
+use Rattle.progress_laws.{proofs.nearer.Nearer.{FewerLeft, NearsBy, StaysBy}, specs.{StepsLeft.grace_left, Waiting.{sum_waits, was_found}}}
 
 -- each step of a start that doesn't stand outside a closed level
 pub start_nears : (w : Words) (r : DownRead) (s : DownReadStep) → WordIsValid (down_read_next r s).0 (read w (down_read_next r s).0) →

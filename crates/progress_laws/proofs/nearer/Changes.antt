@@ -30,9 +30,9 @@ use Rattle.gate_world.specs.{Fits.{Fits, ThawFits}, Roles.{freeze_position, posi
 use Rattle.gate_world.specs.traces.TraceStates.{CloseReadIsValid, WordIsValid}
 use Rattle.gate_schedules.proofs.{frames.ValidWords.events_may_be, levels.Facts.block_clear, operations.deadlocks.BlockedCloses.StaysAtLevel}
 use Rattle.gate_schedules.proofs.operations.deadlocks.BlockedCloses.{down_stays}
-use Rattle.progress_laws.proofs.{Calls.read_blocks, Levels.start_nears, Nearer.{FewerLeft, by_wait, freeze_waits_on, waits_on}, Potentials.mul_le}
-use Rattle.progress_laws.specs.StepsLeft.{callback_changes, callback_left, callback_tries, changes_left, closed_changes, closing_changes}
-use Rattle.progress_laws.specs.StepsLeft.{freeze_changes, opening_changes, thaw_changes, thaw_left, thaw_tries}
+use Rattle.progress_laws.proofs.nearer.{Calls.read_blocks, Levels.start_nears, Nearer.{FewerLeft, by_wait, freeze_waits_on, waits_on}}
+use Rattle.progress_laws.{proofs.rounds.Potentials.mul_le, specs.StepsLeft.{callback_changes, callback_left, callback_tries, changes_left}}
+use Rattle.progress_laws.specs.StepsLeft.{closed_changes, closing_changes, freeze_changes, opening_changes, thaw_changes, thaw_left, thaw_tries}
 
 -- what the numbers of others read of a level is as it was
 abbrev pub SameLevels : Words → Words → Type 0

@@ -23,10 +23,10 @@ use Rattle.gate_schedules.proofs.{frames.ValidWords.events_may_be, levels.Facts.
 use Rattle.gate_schedules.proofs.{mounts.Progress.change_ends, operations.{calls.Progress.tree_ends, remount.Progress.remount_ends}}
 use Rattle.gate_schedules.specs.operations.{Ranks.{rank, remount_rank}, Unblocked.{ChangeIsUnblocked, IsUnblocked, RemountIsUnblocked}}
 use Rattle.gate_schedules.specs.operations.Unblocked.{TreeIsUnblocked}
-use Rattle.progress_laws.proofs.{Levels.{IfMore, LookNears, LookStays, look_nears, look_stays, more_same, start_nears}, Nearer.{FewerLeft, NearsBy}}
-use Rattle.progress_laws.{proofs.Nearer.{NearsPhase, StaysBy, phase_falls, phase_fewer, phase_nears, phase_stays}, specs.StepsLeft.callback_left}
-use Rattle.progress_laws.specs.{StepsLeft.{callback_tries, close_left, grace_left, write_left}, Waiting.{change_waits, lock_taken, remount_waits}}
-use Rattle.progress_laws.specs.Waiting.{snapshot_waits, tree_waits, want_waits}
+use Rattle.progress_laws.proofs.nearer.{Levels.{IfMore, LookNears, LookStays, look_nears, look_stays, more_same, start_nears}, Nearer.FewerLeft}
+use Rattle.progress_laws.proofs.nearer.Nearer.{NearsBy, NearsPhase, StaysBy, phase_falls, phase_fewer, phase_nears, phase_stays}
+use Rattle.progress_laws.specs.{StepsLeft.{callback_left, callback_tries, close_left, grace_left, write_left}, Waiting.{change_waits, lock_taken}}
+use Rattle.progress_laws.specs.Waiting.{remount_waits, snapshot_waits, tree_waits, want_waits}
 
 -- a lock that is taken is found so, and left so
 pub lock_found : (w : Words) → lock_taken w ≡ true → (w.umount == 0) ≡ false

@@ -22,10 +22,11 @@ use Rattle.freeze_levels.specs.{Freezes.freeze_hook, Thaws.thaw_next, declared.t
 use Rattle.gated_tree.specs.{Phases.{snapshot_after, snapshot_locked_out, snapshot_next}, declared.snapshots.Snapshot.Snapshot}
 use Rattle.mount_counts.specs.{Phases.{change_after, change_next, hold_found, lock_failed, want_after, want_next}, Remounts.remount_after}
 use Rattle.mount_counts.specs.{Remounts.remount_next, Roles.has_hold, declared.{phases.Change.Change, remounts.Remount.Remount}}
-use Rattle.progress_laws.proofs.{BarredStarts.start_section, Levels.lead_last, LostStays.{same_entry, words_tell}, Measured.{absent_is, idle_is}}
-use Rattle.progress_laws.{proofs.{Nearer.by_wait, NobodyReplies.{GoesOnKept, goes_as, not_patient}}, specs.Answers.{AllAnswerSo, AnswersSo}}
-use Rattle.progress_laws.specs.{Answers.IsPatientWith, LostForEver.{AreOfOthers, LevelIsLost, LockIsLost, MeetsAtCallback, MeetsAtClosing}}
-use Rattle.progress_laws.specs.{LostForEver.{MeetsAtFreeze, MeetsHold, MeetsLevel, MeetsLost, MeetsSection, NeverReplies}, LostTasks.HoldIsLost}
+use Rattle.progress_laws.proofs.blocked.{BarredStarts.start_section, LostStays.{same_entry, words_tell}, NobodyReplies.{GoesOnKept, goes_as}}
+use Rattle.progress_laws.proofs.{blocked.NobodyReplies.not_patient, nearer.{Levels.lead_last, Nearer.by_wait}, rounds.Measured.{absent_is, idle_is}}
+use Rattle.progress_laws.specs.{Answers.{AllAnswerSo, AnswersSo, IsPatientWith}, LostForEver.{AreOfOthers, LevelIsLost, LockIsLost, MeetsAtCallback}}
+use Rattle.progress_laws.specs.LostForEver.{MeetsAtClosing, MeetsAtFreeze, MeetsHold, MeetsLevel, MeetsLost, MeetsSection, NeverReplies}
+use Rattle.progress_laws.specs.LostTasks.{HoldIsLost}
 
 abbrev is_start : Phase → Bool
 is_start (Phase.DownReads r) = true

@@ -10,13 +10,14 @@ use Rattle.access_model.specs.declared.replies.Reply.{Reply}
 use Rattle.freeze_laws.{proofs.stages.Facts.other_zero, specs.stages.Roles.{KnowsStage, freezes, under_way}}
 use Rattle.gate_world.specs.{Roles.{freeze_stage_role, reopening_role}, Rules.{Stages, stage_role_of, stage_roles}}
 use Rattle.gate_schedules.specs.operations.{Progress.is_first_lock, Ranks.most_alone}
-use Rattle.progress_laws.proofs.{AllNearer.{freeze_steps, phase_comes, steps_small, thaw_steps, tries_small}, Alone.HasRoom, Calls.lock_free}
-use Rattle.progress_laws.proofs.{Changes.thaw_few, FreezeAlone.{ahead_falls, ahead_small, freeze_ahead, freeze_room, tries_in_room}}
-use Rattle.progress_laws.proofs.{LostStays.same_entry, Nearer.{ComesNearer, goes_on}, OneFreeze.{few_freeze, freezing_at, under_le}, RunAlone.Makes}
-use Rattle.progress_laws.proofs.{RunAlone.{NoneGoes, Stopped, and_then, no_nearer, runs, some_or_none, step_to}, Settling.{others_same, step_good}}
-use Rattle.progress_laws.proofs.{Sweeps.{AllBelow, Falls, WaitsBelow, below_kept, falls_alone, first_kinds}, WaitKinds.{FreezeGoes, NeverWaits}}
-use Rattle.progress_laws.proofs.WaitKinds.{NextIs, callback_kind, fails_now, freeze_goes, freeze_keeps, graces_kept, is_failing, kind, never_next}
-use Rattle.progress_laws.specs.{Alone.alone_left, FirstReply.{ReplyOr, RepliesOrWaits, most_of_kinds, most_to_reply}, StepsLeft.most_steps}
+use Rattle.progress_laws.proofs.alone.{Alone.HasRoom, FreezeAlone.{ahead_falls, ahead_small, freeze_ahead, freeze_room, tries_in_room}}
+use Rattle.progress_laws.proofs.alone.{RunAlone.{Makes, NoneGoes, Stopped, and_then, no_nearer, runs, some_or_none, step_to}, Sweeps.AllBelow}
+use Rattle.progress_laws.proofs.alone.{Sweeps.{Falls, WaitsBelow, below_kept, falls_alone, first_kinds}, WaitKinds.{FreezeGoes, NeverWaits, NextIs}}
+use Rattle.progress_laws.proofs.alone.WaitKinds.{callback_kind, fails_now, freeze_goes, freeze_keeps, graces_kept, is_failing, kind, never_next}
+use Rattle.progress_laws.proofs.{blocked.{LostStays.same_entry, OneFreeze.{few_freeze, freezing_at, under_le}}, nearer.AllNearer.freeze_steps}
+use Rattle.progress_laws.proofs.nearer.{AllNearer.{phase_comes, steps_small, thaw_steps, tries_small}, Calls.lock_free, Changes.thaw_few}
+use Rattle.progress_laws.{proofs.{nearer.Nearer.{ComesNearer, goes_on}, rounds.Settling.{others_same, step_good}}, specs.Alone.alone_left}
+use Rattle.progress_laws.specs.{FirstReply.{RepliesOrWaits, ReplyOr, most_of_kinds, most_to_reply}, StepsLeft.most_steps}
 
 -- need not wait
 abbrev is_free : Words → Phase → Bool

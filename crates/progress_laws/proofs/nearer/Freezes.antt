@@ -14,9 +14,9 @@ use Rattle.node_words.specs.{Phases.{clear_after, clear_next}, declared.marks.Cl
 use Rattle.freeze_laws.{proofs.stages.Facts.at_level, specs.levels.Operations.{down_write_role, up_write_role}}
 use Rattle.percpu_rwsem.specs.{SyncWords.on_exit, Writers.{exit_made, up_write_after, up_write_next}}
 use Rattle.gate_schedules.proofs.operations.deadlocks.BlockedCloses.{StaysAtLevel, down_stays}
-use Rattle.progress_laws.proofs.{Calls.{lock_found, lock_free}, Levels.{ClosingNears, ClosingStays, OpeningNears, closing_nears, closing_stays}}
-use Rattle.progress_laws.proofs.{Levels.opening_nears, Nearer.{NearsBy, NearsPhase, StaysBy, by_wait, freeze_waits_on, phase_nears, phase_stays}}
-use Rattle.progress_laws.specs.StepsLeft.{closed_left, thaw_left, thaw_tries}
+use Rattle.progress_laws.proofs.nearer.{Calls.{lock_found, lock_free}, Levels.{ClosingNears, ClosingStays, OpeningNears, closing_nears}}
+use Rattle.progress_laws.proofs.nearer.{Levels.{closing_stays, opening_nears}, Nearer.{NearsBy, NearsPhase, StaysBy, by_wait, freeze_waits_on}}
+use Rattle.progress_laws.{proofs.nearer.Nearer.{phase_nears, phase_stays}, specs.StepsLeft.{closed_left, thaw_left, thaw_tries}}
 
 -- what comes after a step of a freeze, and of a thaw
 abbrev FreezeNears : Words → Words → ℕ → ℕ → Next Freeze → Type 0
