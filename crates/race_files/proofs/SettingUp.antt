@@ -5,7 +5,7 @@ use Rattle.std.specs.{Prelude.{bytes_eq, codes, not, ok_or, if◌then◌else◌,
 use Rattle.schedule_lines.specs.{Numbers.{is_digits}, Words.{after_word, first_word, is_space, word_count}, declared.faults.Fault.{Fault}}
 use Rattle.schedule_lines.specs.declared.faults.Fault.TheVariants.{NoSuchTask, UnknownCommand, WrongNumberOfWords}
 use Rattle.transcripts.specs.{Limits.{is_config}, Transcript.{ReplayState, config_effect, line_effect, opening_play, request_outcome}}
-use Rattle.race_files.specs.{Calls.{is_race}, Left.{Left, behind}, SettingUp.{AreDone, IsDone, SetsUp}}
+use Rattle.race_files.specs.{Calls.{is_race}, Left.{Left, behind}, SettingUp.{AreDone, IsDone, Opens, SetsUp}}
 use Rattle.schedule_text.specs.Parsing.{◌>>=◌, alone, arguments_of, command_line, config_line, config_of, expect, is_skipped, parsed, task_line, task_of}
 use Rattle.schedule_text.specs.declared.commands.Line.{Line, TheVariants.{Skipped, Config as ConfigLine, Request as RequestLine}}
 use Rattle.schedule_text.specs.{declared.commands.Request.{Request, TheVariants.{Task}}, Verbs.{takes, verb_of}}
@@ -41,6 +41,10 @@ and_more from mid to all left now first second = record {
   end = second.end ∙ first.end;
   done = done_more from mid to first.before second.before first.done second.done;
 }
+
+-- so it is where a play is opened
+pub opening : (p : ReplayState) (all left : Left) → Opens p all left → SetsUp None (Some p) all left
+opening p all left opens = one_more None None (Some p) all opens.before left opens.text opens.unopened opens.first opens.rest opens.opens
 
 -- a line whose first word isn't `race`
 not_race : (line : List ℕ) → bytes_eq (first_word line) (codes "race") ≡ false → is_race line ≡ Ok false

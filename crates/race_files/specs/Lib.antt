@@ -5,3 +5,4 @@ pub mod Calls
 pub mod SettingUp
 pub mod Races
 pub mod FirstFaults
+pub mod Observed

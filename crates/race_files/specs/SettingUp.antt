@@ -1,6 +1,6 @@
 -- What the lines before a race set up.
-use Rattle.std.specs.Prelude.{◌≡◌, ℕ, false, Option, None, Ok, List, [], ◌∷◌, ◌++◌}
-use Rattle.race_files.specs.{Calls.{is_race}, Left.{Left}}
+use Rattle.std.specs.Prelude.{◌≡◌, ℕ, false, Option, Some, None, Ok, List, [], ◌∷◌, ◌++◌}
+use Rattle.race_files.specs.{Calls.{is_race}, Left.{Left, behind}}
 use Rattle.schedule_text.specs.{Parsing.{parsed}, declared.commands.Line.{Line}}
 use Rattle.transcripts.specs.Transcript.{ReplayState, line_effect, tasks_of}
 
@@ -23,3 +23,12 @@ pub record SetsUp (from to : Option ReplayState) (all left : Left) : Type 0 wher
   pub lines : all.lines ≡ before ++ left.lines
   pub end : left.fault ≡ all.fault
   pub done : AreDone from before to
+
+-- The last of the lines that are done opens this play, and none before it does.
+pub record Opens (p : ReplayState) (all left : Left) : Type 0 where
+  pub before : Left
+  pub unopened : SetsUp None None all before
+  pub text : List ℕ
+  pub first : before.lines ≡ text ∷ (behind before).lines
+  pub rest : left ≡ behind before
+  pub opens : IsDone None text (Some p)

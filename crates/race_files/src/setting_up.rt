@@ -1,10 +1,14 @@
 //! What comes before a race.
 
-ghost use Rattle.std.specs.Prelude.{◌≡◌, ◌⊎◌, IfErr, IfOk, None, OnOk, Some};
+ghost use Rattle.std.specs.Prelude.{◌≡◌, ◌⊎◌, Err, IfErr, IfOk, None, OnErr, OnOk, Option, Some};
+ghost use Rattle.access_model.specs.declared.errors.GateError.TheVariants.{NoMemory};
 ghost use Rattle.gate_core.specs.Drivers.{CoreShows};
 ghost use Rattle.race_files.specs.FirstFaults.{FailsBeforeRace, IsMemory};
 ghost use Rattle.race_files.specs.Left.{AreLeftOf, BeginRace, left_in, line_count};
-ghost use Rattle.race_files.specs.SettingUp.{SetsUp};
+ghost use Rattle.race_files.specs.Observed.{ShowsLines};
+ghost use Rattle.race_files.specs.SettingUp.{Opens, SetsUp};
+ghost use Rattle.race_files.specs.declared.faults.RaceFault.TheVariants.{Schedule};
+ghost use Rattle.schedule_lines.specs.declared.faults.Fault.TheVariants.{Refused};
 ghost use Rattle.transcripts.specs.Sessions.{ShowsPlay};
 ghost use Rattle.transcripts.specs.Transcript.{ReplayState};
 
@@ -17,8 +21,16 @@ use transcripts::Session;
 
 /// Who looks at what the lines of a schedule print.
 pub trait SetUpObserver {
+    ghost use Rattle.race_files.specs.declared.lines.Lines.{Lines as LinesType};
+    ghost use Rattle.schedule_lines.specs.declared.output.Output.{Output as OutputType};
+
+    /// What it may be when it has taken what was printed before the next of these lines, and what it may leave of that. One that says nothing
+    /// of it may be and leave anything.
+    ghost takes: { Self → LinesType → OutputType → Self → OutputType → Type 0 } = { λ _ _ _ _ _. Unit {0} };
+
     /// Takes what was printed, before the next of these lines is done.
-    fn take(&mut self, lines: &Lines<'_>, printed: &mut Output);
+    fn take(&mut self, lines: &Lines<'_>, printed: &mut Output)
+        ensures { takes self.old lines.now printed.old self.new printed.new };
 }
 
 /// What is printed is dropped.
@@ -42,7 +54,8 @@ pub fn set_up(alloc: Global, lines: &mut Lines<'_>) -> Result<Session<Core>, Rac
     do_setting(alloc, lines, &mut Output::new(alloc), &mut Unobserved)
 }
 
-/// Does the lines before the first line `race`, for one who looks at what they print.
+/// Does the lines before the first line `race`, for one who looks at what they print: who takes, before each line that asks for something, what stands
+/// there by then. What the line prints stands behind what was left of that.
 pub fn do_setting<W: SetUpObserver>(
     alloc: Global,
     lines: &mut Lines<'_>,
@@ -53,6 +66,8 @@ pub fn do_setting<W: SetUpObserver>(
     ensures begin { IfOk result (λ _. BeginRace (left_in lines.old) (left_in lines.new)) }
     ensures made { IfOk result (λ session. (p : ReplayState) × SetsUp None (Some p) (left_in lines.old) (left_in lines.new) × ShowsPlay CoreShows session p) }
     ensures fault { IfErr result (λ fault. FailsBeforeRace None (left_in lines.old) (left_in lines.new) fault ⊎ IsMemory fault) }
+    ensures shown { (result ≡ Err (Schedule (Refused NoMemory)) → ⊥) → (q : Option ReplayState) × ShowsLines W.takes (line_count lines.old) None q
+        (left_in lines.old) (left_in lines.new) (watch.old, printed.old) (watch.new, printed.new) }
 {
     let mut session = open(alloc, lines)?;
     let done = do_lines(&mut session, lines, printed, watch);
@@ -63,7 +78,8 @@ pub fn do_setting<W: SetUpObserver>(
 fn open(alloc: Global, lines: &mut Lines<'_>) -> Result<Session<Core>, RaceFault>
     ensures count { line_count lines.new ≡ line_count lines.old }
     ensures left { IfOk result (λ _. AreLeftOf (left_in lines.old) (left_in lines.new)) }
-    ensures made { IfOk result (λ session. (p : ReplayState) × SetsUp None (Some p) (left_in lines.old) (left_in lines.new) × ShowsPlay CoreShows session p) }
+    ensures made { IfOk result (λ session. (p : ReplayState) × Opens p (left_in lines.old) (left_in lines.new) × ShowsPlay CoreShows session p) }
+    ensures unopened { OnErr result (SetsUp None None (left_in lines.old) (left_in lines.new)) }
     ensures fault { IfErr result (λ fault. FailsBeforeRace None (left_in lines.old) (left_in lines.new) fault ⊎ IsMemory fault) }
 {
     while let Some(line) = lines.line()? {
@@ -90,6 +106,9 @@ fn do_lines<W: SetUpObserver>(
         (q : ReplayState) × SetsUp (Some p) (Some q) (left_in lines.old) (left_in lines.new) × ShowsPlay CoreShows session.new q) }
     ensures fault { (p : ReplayState) → ShowsPlay CoreShows session.old p →
         IfErr result (λ fault. FailsBeforeRace (Some p) (left_in lines.old) (left_in lines.new) fault ⊎ IsMemory fault) }
+    ensures shown { (p : ReplayState) → ShowsPlay CoreShows session.old p → (result ≡ Err (Schedule (Refused NoMemory)) → ⊥) →
+        (q : Option ReplayState) × ShowsLines W.takes (line_count lines.old) (Some p) q (left_in lines.old) (left_in lines.new)
+        (watch.old, printed.old) (watch.new, printed.new) }
 {
     while let Some(line) = lines.line()? {
         if is_race(line)? {

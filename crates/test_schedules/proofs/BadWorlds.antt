@@ -1,5 +1,5 @@
 -- States and refusals that no execution has, of which a clause says so: a wrong order of steps, or a weaker rule, would have them.
-use Rattle.std.{proofs.Common.{◌≡◌, ℕ, zero, suc, ◌+◌, ◌%◌, ◌≤◌, true, refl, arith, sym, true≢false}, specs.Prelude.{Some, Ok, Err, [], ◌∷◌}}
+use Rattle.std.{proofs.Common.{◌≡◌, ℕ, zero, suc, ◌+◌, ◌%◌, ◌≤◌, true, refl, arith, sym, inl, inr, true≢false}, specs.Prelude.{Some, Ok, Err, [], ◌∷◌}}
 use Rattle.finite_sums.specs.Sums.{total}
 use Rattle.access_model.specs.declared.{actions.Holder.Holder, errors.GateError.GateError, replies.Reply.Reply}
 use Rattle.cpu_words.specs.{Sums.{lead}, Words.Words, gate_counts.{Gates.{admitted, unread}, Levels.{level_as_gate}}}
@@ -10,7 +10,7 @@ use Rattle.percpu_rwsem.specs.declared.{readers.DownReadStep.DownReadStep, write
 use Rattle.freeze_levels.specs.declared.freezes.FreezeStep.{FreezeStep}
 use Rattle.gate_world.specs.{refusals.Causes.HasCause, Headline.{LevelsLead, NothingIsLeft, SnapshotsStand}, Levels.at_level, Rules.{Holds, Stages, at_mount}, Views.opening_view, Worlds.{World, opening}}
 use Rattle.gate_world.specs.declared.{views.View.View, work.Phase.Phase}
-use Rattle.gate_schedules.specs.Leads.{MountsLead}
+use Rattle.gate_schedules.specs.{Frozen.{FrozenIsClosed}, Leads.{MountsLead}}
 use Rattle.test_schedules.specs.Schedules.{small}
 
 -- a task of which nothing is known but what it is at
@@ -140,3 +140,11 @@ early_zero_never h = omega (arith, h.knows 0 (omega arith))
 -- a change that is refused as busy where nothing is counted, by whatever step, be it its first
 early_never : (x : Change) → HasCause small 0 (opening ∷ []) (Phase.Mounts (MountPhase.Change x)) GateError.Busy → ⊥
 early_never x h = true≢false (sym h)
+
+-- stage 4 with all three levels open, and a writable superblock
+abbrev open_frozen : World
+open_frozen = record { words = record opening.words { stage = 4 }; views = λ t. opening_view }
+
+-- what reports itself frozen is closed
+open_frozen_never : FrozenIsClosed small open_frozen → ⊥
+open_frozen_never h = elim (h.shut refl) [ inl passed ↦ omega (arith, passed) | inr read_only ↦ true≢false (sym read_only) ]

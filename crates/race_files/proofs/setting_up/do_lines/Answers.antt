@@ -1,15 +1,15 @@
-use Rattle.std.proofs.Common.{◌≡◌, ◌∙◌, sym, ap, subst, refl, ◌∷◌, None, Some, Ok, IfSome, false, inr}
+use Rattle.std.proofs.Common.{◌≡◌, ◌∙◌, sym, ap, subst, refl, ◌∷◌, None, Some, Ok, Err, IfSome, false, inr}
 use Rattle.exploration.proofs.Lists.{err_from}
-use Rattle.race_files.specs.{Left.{behind, left_in}, Calls.{is_race}}
+use Rattle.race_files.specs.{Left.{behind, left_in, line_count}, Calls.{is_race}}
 use Rattle.race_files.specs.declared.faults.RaceFault.TheVariants.{Schedule}
-use Rattle.race_files.proofs.{FirstFaults.{at_end, no_request_line, no_word}, Reading.{all_left, one_less}, SettingUp.{no_request, none_yet, one_more, request_done}}
+use Rattle.race_files.proofs.{FirstFaults.{at_end, no_request_line, no_word}, Reading.{all_left, one_less}, Observed.{before_others, err_is, none_shown, one_shown, unshown}, SettingUp.{no_request, none_yet, one_more, request_done}}
 use Rattle.race_files.proofs.setting_up.do_lines.Goals.{in-Request+in_ok-do_request, in_default-2}
-use Rattle.schedule_text.specs.Parsing.{parsed}
+use Rattle.schedule_text.specs.{Parsing.{parsed}, declared.commands.Line.TheVariants.{Request as RequestLine}}
 use Rattle.transcripts.specs.Transcript.{ReplayState, request_outcome}
 use Rattle.race_files.proofs.setting_up.do_lines.Goals as goal
 
 pub loop-line-init : goal.loop-line-init
-loop-line-init g c = record { left = all_left _; count = refl; made = λ p shows. (p, none_yet _ _, shows) }
+loop-line-init g c = record { left = all_left _; count = refl; made = λ p shows. (p, none_yet _ _, shows, none_shown _ _ _ _ _) }
 
 pub loop-line-preserved : goal.loop-line-preserved
 loop-line-preserved g c =
@@ -17,6 +17,7 @@ loop-line-preserved g c =
     let line = c.in-Some.line.now in
     let first : left.lines ≡ line ∷ (behind left).lines =
     subst (λ found. IfSome found (λ x. left.lines ≡ x.now ∷ (behind left).lines)) c.in-Some.is c.in_ok-line.ensures.some in
+    let next = before_others left (left_in c.take-in-Some.new.self) line first c.take-in-Some.ensures.left in
     let no_race : is_race line ≡ Ok false = sym c.in_ok-is_race.ensures ∙ ap Ok c.if-branch.false in
     record {
       left = one_less _ _ _ c.loop-line.invariant.left c.take-in-Some.ensures.left;
@@ -33,12 +34,37 @@ loop-line-preserved g c =
                   (left_in c.take-in-Some.new.self) line so_far.1 first c.take-in-Some.ensures.left
                   (request_done q line w.in-Request.request no_race (understood ∙ ap Ok w.in-Request.is)),
               rw w.session-is (w.in_ok-do_request.ensures.shows q so_far.2),
+              rw w.watch-is (rw w.printed-is (one_shown g.W.SetUpObserver.takes (line_count c.args.lines.now) (Some p) (Some q)
+                  (Some (request_outcome q w.in-Request.request).play) (left_in c.args.lines.now) left (left_in c.take-in-Some.new.self) line
+                  (c.args.watch.now, c.args.printed.now) (c.loop-line.watch, c.loop-line.printed) (w.take.new.self, w.do_request.new.out) so_far.3 next
+                  (record {
+                    done = request_done q line w.in-Request.request no_race (understood ∙ ap Ok w.in-Request.is);
+                    line = RequestLine w.in-Request.request;
+                    read = understood ∙ ap Ok w.in-Request.is;
+                    shown = record {
+                      at = c.loop-line.lines;
+                      next = next;
+                      number = c.loop-line.invariant.count;
+                      left = w.take.new.printed;
+                      taken = w.take.ensures;
+                      prints = w.in_ok-do_request.ensures.prints q so_far.2;
+                    };
+                  }))),
             )
             | in_default-2 w ↦ (
               q,
               one_more (Some p) (Some q) (Some q) (left_in c.args.lines.now) left (left_in c.take-in-Some.new.self) line so_far.1 first
                   c.take-in-Some.ensures.left (no_request q line c.in_ok-request.field-0 no_race understood w.in_default-2.not-Request),
               rw w.session-is so_far.2,
+              rw w.watch-is (rw w.printed-is (one_shown g.W.SetUpObserver.takes (line_count c.args.lines.now) (Some p) (Some q) (Some q)
+                  (left_in c.args.lines.now) left (left_in c.take-in-Some.new.self) line (c.args.watch.now, c.args.printed.now)
+                  (c.loop-line.watch, c.loop-line.printed) (c.loop-line.watch, c.loop-line.printed) so_far.3 next
+                  (record {
+                    done = no_request q line c.in_ok-request.field-0 no_race understood w.in_default-2.not-Request;
+                    line = c.in_ok-request.field-0;
+                    read = understood;
+                    shown = unshown g.W.SetUpObserver.takes (line_count c.args.lines.now) q line (left_in c.take-in-Some.new.self).lines c.in_ok-request.field-0 _ w.in_default-2.not-Request;
+                  }))),
             )
           ];
     }
@@ -54,7 +80,7 @@ returns-then-branch-clause-begin g c =
     }
 
 pub returns-then-branch-clause-made : goal.returns-then-branch-clause-made
-returns-then-branch-clause-made g c = λ p shows. c.loop-line.invariant.made p shows
+returns-then-branch-clause-made g c = λ p shows. let so_far = c.loop-line.invariant.made p shows in (so_far.0, so_far.1, so_far.2)
 
 pub returns-in_err-line-clause-fault : goal.returns-in_err-line-clause-fault
 returns-in_err-line-clause-fault g c = λ p shows.
@@ -94,3 +120,23 @@ pub returns-clause-fault : goal.returns-clause-fault
 returns-clause-fault g c = λ p shows.
     let so_far = c.loop-line.invariant.made p shows in
     at_end (Some p) (Some so_far.0) _ _ None _ so_far.1 (c.in_ok-line.ensures.none (ap Ok c.in_default.is)) refl
+
+pub returns-then-branch-clause-shown : goal.returns-then-branch-clause-shown
+returns-then-branch-clause-shown g c = λ p shows other. let so_far = c.loop-line.invariant.made p shows in (Some so_far.0, so_far.3)
+
+pub returns-in_err-line-clause-shown : goal.returns-in_err-line-clause-shown
+returns-in_err-line-clause-shown g c = λ p shows other. let so_far = c.loop-line.invariant.made p shows in (Some so_far.0, so_far.3)
+
+pub returns-in_err-is_race-clause-shown : goal.returns-in_err-is_race-clause-shown
+returns-in_err-is_race-clause-shown g c = λ p shows other. let so_far = c.loop-line.invariant.made p shows in (Some so_far.0, so_far.3)
+
+pub returns-in_err-request-clause-shown : goal.returns-in_err-request-clause-shown
+returns-in_err-request-clause-shown g c = λ p shows other. let so_far = c.loop-line.invariant.made p shows in (Some so_far.0, so_far.3)
+
+pub returns-clause-shown : goal.returns-clause-shown
+returns-clause-shown g c = λ p shows other. let so_far = c.loop-line.invariant.made p shows in (Some so_far.0, so_far.3)
+
+pub returns-in_err-do_request-clause-shown : goal.returns-in_err-do_request-clause-shown
+returns-in_err-do_request-clause-shown g c = λ p shows other.
+    let so_far = c.loop-line.invariant.made p shows in
+    absurd (other (err_is _ _ c.from_residual-in_err-do_request.ensures.1 ∙ ap (λ f. Err (Schedule f)) (c.in_err-do_request.ensures.memory so_far.0 so_far.2)))

@@ -1,6 +1,6 @@
 use Rattle.std.proofs.Common.{◌≡◌, length, Some}
 use Rattle.gate_core.specs.Drivers.{CoreShows}
-use Rattle.race_files.specs.{Left.{AreLeftOf, left_in, line_count}, SettingUp.{SetsUp}}
+use Rattle.race_files.specs.{Left.{AreLeftOf, left_in, line_count}, Observed.{ShowsLines}, SettingUp.{SetsUp}}
 use Rattle.transcripts.specs.{Sessions.{ShowsPlay}, Transcript.{ReplayState}}
 use Rattle.race_files.proofs.setting_up.do_lines.Given as goal
 
@@ -10,7 +10,9 @@ invariant-loop-line g l = record {
   left : AreLeftOf (left_in l.initial.lines) (left_in l.lines);
   count : line_count l.lines ≡ line_count l.initial.lines;
   made : (p : ReplayState) → ShowsPlay CoreShows l.initial.session p →
-      (q : ReplayState) × SetsUp (Some p) (Some q) (left_in l.initial.lines) (left_in l.lines) × ShowsPlay CoreShows l.session q;
+      (q : ReplayState) × SetsUp (Some p) (Some q) (left_in l.initial.lines) (left_in l.lines) × ShowsPlay CoreShows l.session q ×
+      ShowsLines g.W.SetUpObserver.takes (line_count l.initial.lines) (Some p) (Some q) (left_in l.initial.lines) (left_in l.lines)
+      (l.initial.watch, l.initial.printed) (l.watch, l.printed);
 }
 
 abbrev pub decreases-loop-line : goal.decreases-loop-line

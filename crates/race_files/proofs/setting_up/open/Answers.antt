@@ -37,8 +37,14 @@ returns-in-Config-clause-made c =
     subst (λ found. IfSome found (λ x. left.lines ≡ x.now ∷ (behind left).lines)) c.in-Some.is c.in_ok-line.ensures.some in
     let understood : parsed line None ≡ Ok c.in_ok-config.field-0 = sym c.parse.ensures ∙ c.in_ok-config.was in (
       opening_play config,
-      one_more None None (Some (opening_play config)) (left_in c.args.lines.now) left (left_in c.take.new.self) line c.loop-line.invariant.made
-          first c.take.ensures.left (config_opens line config (understood ∙ ap Ok c.in-Config.is) c.in_ok-session.ensures.within),
+      record {
+        before = left;
+        unopened = c.loop-line.invariant.made;
+        text = line;
+        first = first;
+        rest = c.take.ensures.left;
+        opens = config_opens line config (understood ∙ ap Ok c.in-Config.is) c.in_ok-session.ensures.within;
+      },
       c.in_ok-session.ensures.opens refl,
     )
 
