@@ -255,7 +255,7 @@ const SUBCOMMANDS: [Subcommand; 6] = [
             Argument {
                 name: LIMIT,
                 kind: ArgumentKind::Number("STATES", 1, 4_294_967_295, false),
-                help: "How many states to search at most: 10000000, if not given",
+                help: "How many states may stand between two lines of the record, with those to which the next line leads: 10000000, if not given",
             },
         ],
     },
