@@ -1,26 +1,24 @@
 -- What the room for snapshots tells of a task, as its operation begins and goes on.
-use Rattle.gate_world.specs.declared.{entries.Entry.{Entry}, config.Config.{Config}, operations.Op.{Op}, work.Phase.{Phase}}
-use Rattle.gate_world.specs.declared.work.Phase.TheVariants.{Mounts, Remounts, DownReads, UpReads, Callbacks, Writes, Freezes, Thaws, Trees, Closes}
-use Rattle.gate_world.specs.{declared.views.Traced.{Traced}, Beginnings.{first_phase}, traces.Snapshots.{completes, last_snapshot}}
-use Rattle.gate_world.specs.{Views.{phase_after}, Work.{after_of, next_of}, declared.views.{View.{View}, Snapshot.{Snapshot as Noted}}}
-use Rattle.gate_world.specs.traces.TraceStates.{trace_state_after, state_of_trace}
-use Rattle.gate_steps.specs.{Seating.{knows, DealtNumbers, deal, done_by, given_of, items_after, kept_of}, Rules.{first_items}}
-use Rattle.gate_steps.specs.{declared.seating.Numbered.{Numbered}, call_events.{TaskState.{TaskState}, Step.{Step}}}
-use Rattle.gate_steps.specs.call_events.{Runs.{Called, OpUnderWay, completed_by, items_at, ran_items, ran_snapshot}, Stepped.{Stepped}}
-use Rattle.gate_steps.specs.call_events.{GhostAgrees.{GhostAgrees}, Turns.{step_was}}
-use Rattle.std.proofs.Common.{◌≡◌, ℕ, zero, suc, ◌≤◌, refl, sym, ap, ◌∙◌, subst, arith, Bool, true≢false}
-use Rattle.std.specs.Prelude.{Option, Some, None, Result, List, [], ◌∷◌, ◌++◌, false, option_map, length}
-use Rattle.access_model.specs.{declared.{replies.Next.{Next, TheVariants.{Go, Wait, Done}}, actions.Action.{Action}}, Replies.{map_next}}
-use Rattle.access_model.specs.declared.{errors.GateError.{GateError}, replies.Reply.{Reply}}
-use Rattle.cpu_words.specs.{Hooks.{HookAnswer}, Touches.{event_of, found_by}, declared.events.Event.{Event}}
-use Rattle.gated_tree.specs.declared.phases.TreePhase.{TreePhase}
-use Rattle.gated_tree.specs.declared.phases.TreePhase.TheVariants.{Create as Creates, Remove as Removes, Grow as Grows, MoveTo as Moves, Mark as TreeMarks, OpenFile as OpensOne, Snapshot as Snapshots, ClearMarks as TreeClears}
-use Rattle.gated_tree.specs.declared.{snapshots.Snapshot.{Snapshot as Taking}, trees.TreeWords.{TreeWords}}
+use Rattle.vfs_gates.proofs.Prelude.{Action, Bool, BufferWords, Called, Config, DealtNumbers, Done, Entry, Event, GateError, Go, HookAnswer, Next}
+use Rattle.vfs_gates.proofs.Prelude.{None, Numbered, Op, Option, Phase, Reply, Result, SeatedTask, Some, Traced, View, Wait, after_of, ap, arith}
+use Rattle.vfs_gates.proofs.Prelude.{next_of, own_number, own_view, phase_after, ran_items, refl, state_of_trace, subst, suc, sym, zero, ℕ, ◌∙◌, ◌≡◌}
+use Rattle.vfs_gates.proofs.Prelude.{◌≤◌}
+use Rattle.gate_world.specs.{Beginnings.first_phase, declared.{views.Snapshot.Snapshot as Noted, work.Phase.TheVariants.{Callbacks, Closes}}}
+use Rattle.gate_world.specs.declared.work.Phase.TheVariants.{DownReads, Freezes, Mounts, Remounts, Thaws, Trees, UpReads, Writes}
+use Rattle.gate_world.specs.traces.{Snapshots.{completes, last_snapshot}, TraceStates.trace_state_after}
+use Rattle.gate_steps.specs.{Rules.first_items, Seating.{deal, done_by, given_of, items_after, kept_of, knows}, call_events.GhostAgrees.GhostAgrees}
+use Rattle.gate_steps.specs.call_events.{Runs.{OpUnderWay, completed_by, items_at, ran_snapshot}, Step.Step, Stepped.Stepped, TaskState.TaskState}
+use Rattle.gate_steps.specs.call_events.Turns.{step_was}
+use Rattle.std.{proofs.Common.true≢false, specs.Prelude.{List, [], false, length, option_map, ◌++◌, ◌∷◌}}
+use Rattle.access_model.specs.Replies.{map_next}
+use Rattle.cpu_words.specs.Touches.{event_of, found_by}
+use Rattle.gated_tree.specs.declared.phases.TreePhase.TheVariants.{ClearMarks as TreeClears, Create as Creates, Grow as Grows, Mark as TreeMarks}
+use Rattle.gated_tree.specs.declared.phases.TreePhase.TheVariants.{MoveTo as Moves, OpenFile as OpensOne, Remove as Removes, Snapshot as Snapshots}
+use Rattle.gated_tree.specs.declared.{phases.TreePhase.TreePhase, snapshots.Snapshot.Snapshot as Taking, trees.TreeWords.TreeWords}
 use Rattle.percpu_rwsem.specs.Readers.{up_read_after}
 use Rattle.atomic_table.specs.Seated.{TableId}
-use Rattle.vfs_gates.specs.Buffers.{BufferWords, HasSnapshotRoom, LastTells, NextTells, BuffersMatch, is_of_snapshot, last_in, trace_so_far}
-use Rattle.vfs_gates.specs.TaskStates.{SeatedTask, own_number, own_view, task_state}
-use Rattle.vfs_gates.proofs.Calling.{Call, Left, ended_at, goes_at, idle, own_is}
+use Rattle.vfs_gates.{proofs.Calling.{Call, Left, ended_at, goes_at, idle, own_is}, specs.Buffers.{BuffersMatch, HasSnapshotRoom, LastTells}}
+use Rattle.vfs_gates.specs.{Buffers.{NextTells, is_of_snapshot, last_in, trace_so_far}, TaskStates.task_state}
 
 -- what comes next is none
 abbrev pub NextIsOther : Next Phase → Type 0

@@ -1,22 +1,19 @@
 -- A snapshot that replied has taken one: its last load but its release is the last load of the tree.
-use Rattle.std.proofs.{Common.{◌≡◌, ℕ, ◌≤◌, refl, ap, ◌∙◌, subst, inl, inr, arith, Bool}, lemmas.Bool.{cases_Bool}}
-use Rattle.std.specs.Prelude.{Option, Some, None, Result, Ok, Err, List, [], ◌∷◌, ◌++◌, ◌==◌, true, false, is_some, length}
-use Rattle.access_model.specs.declared.{actions.Action.{Action}, errors.GateError.{GateError}, replies.Next.{Next}}
-use Rattle.access_model.specs.{declared.replies.{Next.TheVariants.{Go, Wait, Done}, Reply.{Reply}}, Replies.{map_next}}
-use Rattle.gated_tree.specs.declared.{phases.TreePhase.TheVariants.{Snapshot as Snapshots}, snapshots.Snapshot.{Snapshot}}
-use Rattle.gated_tree.specs.declared.snapshots.SnapshotStep.{SnapshotStep}
-use Rattle.gated_tree.specs.declared.snapshots.SnapshotStep.TheVariants.{Locks, LoadsStage, LoadsUsed, LoadsNode, LoadsKids, Releases}
-use Rattle.gated_tree.specs.{declared.trees.TreeWords.{TreeWords}, Trees.{LoadedClean, LoadedSound}}
-use Rattle.gated_tree.specs.Phases.{snapshot_after, snapshot_locked_out, node_step, kids_step, at_snapshot}
+use Rattle.vfs_gates.proofs.Prelude.{Action, Bool, Called, Config, DealtNumbers, Done, Err, GateError, Go, Next, None, Ok, Op, Option, Phase, Reply}
+use Rattle.vfs_gates.proofs.Prelude.{Result, SeatedTask, Some, Traced, View, Wait, ap, arith, at_snapshot, cases_Bool, inl, inr, is_some, own_number}
+use Rattle.vfs_gates.proofs.Prelude.{own_view, ran_items, refl, refusal_at, state_of_trace, subst, told_as, unit_of, ℕ, ◌==◌, ◌∙◌, ◌≡◌, ◌≤◌}
+use Rattle.std.specs.Prelude.{List, [], false, length, true, ◌++◌, ◌∷◌}
+use Rattle.access_model.specs.Replies.{map_next}
+use Rattle.gated_tree.specs.{Phases.{kids_step, node_step, snapshot_after, snapshot_locked_out}, Trees.{LoadedClean, LoadedSound}}
+use Rattle.gated_tree.specs.declared.{phases.TreePhase.TheVariants.Snapshot as Snapshots, snapshots.{Snapshot.Snapshot, SnapshotStep.SnapshotStep}}
+use Rattle.gated_tree.specs.declared.snapshots.SnapshotStep.TheVariants.{LoadsKids, LoadsNode, LoadsStage, LoadsUsed, Locks, Releases}
+use Rattle.gated_tree.specs.declared.trees.TreeWords.{TreeWords}
 use Rattle.node_words.specs.Nodes.{node_after, unpacked}
-use Rattle.gate_world.specs.declared.{config.Config.{Config}, operations.Op.{Op, TheVariants.{Snapshot as SnapshotOp}}, work.Phase.{Phase}}
-use Rattle.gate_world.specs.declared.{work.Phase.TheVariants.{Trees}, views.{Traced.{Traced}, View.{View}, Snapshot.{Snapshot as Noted}}}
-use Rattle.gate_world.specs.{Views.{actions_after}, traces.TraceStates.{state_of_trace, trace_state_after, IsNext, IsTrace}}
-use Rattle.gate_world.specs.traces.Snapshots.{last_snapshot, noted_last, snapshot_completes}
-use Rattle.gate_steps.specs.Seating.{DealtNumbers, done_by}
-use Rattle.gate_steps.specs.call_events.Runs.{Called, Performs, completed_by, ran_items, ran_snapshot, told_as, unit_of}
-use Rattle.vfs_gates.specs.{TaskStates.{SeatedTask, own_number, own_view, refusal_at, spare_of}, Seen.{HasTaken}}
-use Rattle.vfs_gates.proofs.Seeing.{call_saw, same_own}
+use Rattle.gate_world.specs.{Views.actions_after, declared.{operations.Op.TheVariants.Snapshot as SnapshotOp, views.Snapshot.Snapshot as Noted}}
+use Rattle.gate_world.specs.{declared.work.Phase.TheVariants.Trees, traces.Snapshots.{last_snapshot, noted_last, snapshot_completes}}
+use Rattle.gate_world.specs.traces.TraceStates.{IsNext, IsTrace, trace_state_after}
+use Rattle.gate_steps.specs.{Seating.done_by, call_events.Runs.{Performs, completed_by, ran_snapshot}}
+use Rattle.vfs_gates.{proofs.Seeing.{call_saw, same_own}, specs.{Seen.HasTaken, TaskStates.spare_of}}
 
 module _ (c : Config) (t : ℕ) (wait : Bool) (others : List (ℕ × ℕ)) (v : View) where
   -- the last snapshot after these steps
