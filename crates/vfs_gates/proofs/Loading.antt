@@ -6,25 +6,15 @@ use Rattle.std.{proofs.{Common.◌-◌, lemmas.Bool.Decides.nat_tests}, specs.Pr
 use Rattle.access_model.specs.{Replies.map_next, declared.replies.Reply.TheVariants.Tree as TreeReply}
 use Rattle.cpu_words.specs.Touches.{event_of}
 use Rattle.node_words.specs.Nodes.{node_after, unpacked}
-use Rattle.gated_tree.specs.Phases.{kids_step, node_step, snapshot_after, snapshot_next}
-use Rattle.gated_tree.specs.declared.{phases.TreePhase.TheVariants.Snapshot as Snapshots, snapshots.{Snapshot.Snapshot, SnapshotStep.SnapshotStep}}
-use Rattle.gated_tree.specs.declared.snapshots.SnapshotStep.TheVariants.{LoadsKids, LoadsNode, LoadsStage, LoadsUsed, Locks, Releases}
-use Rattle.gated_tree.specs.declared.trees.TreeWords.{TreeWords}
+use Rattle.gated_tree.specs.{Phases.{kids_step, node_step, snapshot_next}, declared.phases.TreePhase.TheVariants.Snapshot as Snapshots}
+use Rattle.gated_tree.specs.declared.snapshots.{Snapshot.Snapshot, SnapshotStep.TheVariants.{LoadsKids, LoadsNode, LoadsStage, LoadsUsed, Locks}}
+use Rattle.gated_tree.specs.declared.{snapshots.SnapshotStep.TheVariants.Releases, trees.TreeWords.TreeWords}
 use Rattle.gate_world.specs.{Accesses.accesses_after, Beginnings.first_phase, declared.accesses.Accesses.Accesses}
 use Rattle.gate_world.specs.declared.{operations.Op.TheVariants.Snapshot as SnapshotOp, work.Phase.TheVariants.Trees}
 use Rattle.gate_steps.{proofs.call_events.Leading.{led_nowhere, led_on}, specs.{Seating.items_after, call_events.Led.{Led, Stands, TaskSeat}}}
 use Rattle.gate_steps.specs.{call_events.Turns.{StateAgrees, state_at}, declared.call_events.words.GateWords.GateWords}
-use Rattle.vfs_gates.{proofs.{Calling.{Call, idle, items_of, not_begun, same}, Noting.follows_taking, Waiting.has_number}, specs.Buffers.BuffersMatch}
-use Rattle.vfs_gates.specs.{Buffers.{after_noting, completed, with_words}, Noted.{Noted, snapshot_at, with_kids, with_nodes}}
-
--- no step of a snapshot adds an action
-adds_none : (s : Snapshot) (step : SnapshotStep) (found : ℕ) → (snapshot_after s step found).1 ≡ None
-adds_none s Locks found = refl
-adds_none s LoadsStage found = refl
-adds_none s LoadsUsed found = refl
-adds_none s (LoadsNode node) found = refl
-adds_none s (LoadsKids node) found = refl
-adds_none s (Releases answer) found = refl
+use Rattle.vfs_gates.proofs.{Calling.{Call, idle, items_of, not_begun, same}, Noting.follows_taking, Taking.adds_none, Waiting.has_number}
+use Rattle.vfs_gates.specs.{Buffers.{BuffersMatch, after_noting, completed, with_words}, Noted.{Noted, snapshot_at, with_kids, with_nodes}}
 
 pub taking_leaves : (accesses : Accesses) (s : Snapshot) (found : ℕ) →
     accesses ≡ accesses_after accesses (after_of (Trees (Snapshots s)) found (Ok tt)).1

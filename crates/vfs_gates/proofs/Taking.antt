@@ -15,6 +15,10 @@ use Rattle.gate_world.specs.traces.TraceStates.{IsNext, IsTrace, trace_state_aft
 use Rattle.gate_steps.specs.{Seating.done_by, call_events.Runs.{Performs, completed_by, ran_snapshot}}
 use Rattle.vfs_gates.{proofs.Seeing.{call_saw, same_own}, specs.{Seen.HasTaken, TaskStates.spare_of}}
 
+-- no step of a snapshot adds an action
+pub adds_none : (s : Snapshot) (step : SnapshotStep) (found : ℕ) → (snapshot_after s step found).1 ≡ None
+adds_none s step found = grind arith
+
 module _ (c : Config) (t : ℕ) (wait : Bool) (others : List (ℕ × ℕ)) (v : View) where
   -- the last snapshot after these steps
   abbrev seen : List Traced → Option Noted
@@ -85,22 +89,13 @@ module _ (c : Config) (t : ℕ) (wait : Bool) (others : List (ℕ × ℕ)) (v : 
   step_comes trace e s (LoadsKids n) added none is h = kids_come trace e s (node_after n s.nodes) _ added none is
   step_comes trace e s (Releases answer) added none is h = answer_stays trace e answer is h
 
-  -- what a snapshot adds is nothing
-  adds_nothing : (s : Snapshot) (step : SnapshotStep) (found : ℕ) → (snapshot_after s step found).1 ≡ None
-  adds_nothing s Locks found = refl
-  adds_nothing s LoadsStage found = refl
-  adds_nothing s LoadsUsed found = refl
-  adds_nothing s (LoadsNode n) found = refl
-  adds_nothing s (LoadsKids n) found = refl
-  adds_nothing s (Releases answer) found = refl
-
   -- one step more
   phase_comes : (trace : List Traced) (e : Traced) (phase : Phase) (added : List Action) → added ≡ [] → AtPhase trace phase →
       seen (e ∷ trace) ≡ last_snapshot (completed_by (Go phase) trace e) (added ++ v.actions) others (seen trace) →
       NextInvariant (e ∷ trace) (trace_state_after (Go phase) added e).comes × ((trace_state_after (Go phase) added e).added ≡ [])
   phase_comes trace e (Trees (Snapshots x)) added none h is = (
     step_comes trace e x x.step added none is h,
-    ap (λ a. actions_after a added) (adds_nothing x x.step e.event.found) ∙ none,
+    ap (λ a. actions_after a added) (adds_none x x.step e.event.found) ∙ none,
   )
   phase_comes trace e phase added none h is = absurd h
 
