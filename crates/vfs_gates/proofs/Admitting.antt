@@ -1,12 +1,10 @@
 -- Whether an operation may begin, as a task's fields say.
-use Rattle.std.proofs.Common.{◌≡◌, ℕ, [], ◌∷◌, List, Bool, refl, sym, ap, ◌∙◌}
-use Rattle.std.specs.Prelude.{Option, is_some, Result, Ok, Err}
-use Rattle.access_model.specs.declared.errors.GateError.{GateError}
-use Rattle.gate_world.specs.{Beginnings.{first_phase, refusal, or_refusal, beginning}, Configs.IsWithin, Views.held_of, declared.config.Config.Config}
-use Rattle.gate_world.specs.declared.{operations.Op.Op, work.Phase.Phase}
-use Rattle.gate_steps.specs.call_events.{Answers.unless_refused, TaskState.TaskState, Seating.DealtNumbers, TaskStates.task_holdings, GhostAgrees.GhostAgrees}
-use Rattle.gate_steps.proofs.call_events.Beginnings.{refusal_agree, ok_means, err_means}
-use Rattle.vfs_gates.specs.{TaskStates.{SeatedTask, task_state, own_number, own_view, refusal_at, beginning_at}, declared.task.Task.TheInside.Inside}
+use Rattle.vfs_gates.proofs.Prelude.{Bool, Config, Err, GateError, IsWithin, List, Ok, Op, Option, Phase, Result, SeatedTask, [], ap, is_some}
+use Rattle.vfs_gates.proofs.Prelude.{own_number, own_view, refl, refusal_at, sym, ℕ, ◌∙◌, ◌∷◌, ◌≡◌}
+use Rattle.gate_world.specs.{Beginnings.{beginning, first_phase, or_refusal, refusal}, Views.held_of}
+use Rattle.gate_steps.{proofs.call_events.Beginnings.{err_means, ok_means, refusal_agree}, specs.call_events.Answers.unless_refused}
+use Rattle.gate_steps.specs.call_events.{GhostAgrees.GhostAgrees, Seating.DealtNumbers, TaskState.TaskState, TaskStates.task_holdings}
+use Rattle.vfs_gates.specs.{TaskStates.{beginning_at, task_state}, declared.task.Task.TheInside.Inside}
 
 module _ (number : ℕ) (c : Config) (begins : Option Op) (state : TaskState) (flags : List Bool) where
   -- the configuration of a task is within its limits

@@ -1,13 +1,11 @@
 -- Callbacks by a task that is idle, or isn't.
-use Rattle.std.proofs.Common.{◌≡◌, ℕ, ◌≤◌, Bool, true, refl, sym, ◌∙◌, subst, arith, lt-ltb}
-use Rattle.std.specs.Prelude.{Option, Some, None, is_some, Result, Ok, Err, OnOk, IfOk, List}
-use Rattle.access_model.specs.declared.{errors.GateError.{GateError, TheVariants.{Order}}, replies.Reply.{Reply}}
-use Rattle.gate_world.specs.declared.{config.Config.{Config}, operations.Op.TheVariants.{Callback}, views.Traced.{Traced}}
-use Rattle.gate_world.specs.traces.Traces.{IsHonestAnswer}
-use Rattle.gate_steps.proofs.call_events.Running.{ran_told}
-use Rattle.gate_steps.specs.call_events.Runs.{told_as, ran_of, the_reply, Called, IsRanReply, Replies}
-use Rattle.vfs_gates.specs.{TaskStates.{SeatedTask, refusal_at, IsIdle}, Held.{IsAsBefore}, Settled.{Settles, SettlesLevel}}
-use Rattle.vfs_gates.proofs.Holding.{keeps, as_before_twice}
+use Rattle.vfs_gates.proofs.Prelude.{Bool, Called, Config, Err, GateError, None, Ok, Option, Reply, Result, SeatedTask, Some, Traced, arith, is_some}
+use Rattle.vfs_gates.proofs.Prelude.{refl, refusal_at, subst, sym, told_as, true, ℕ, ◌∙◌, ◌≡◌, ◌≤◌}
+use Rattle.std.{proofs.Common.lt-ltb, specs.Prelude.{IfOk, List, OnOk}}
+use Rattle.access_model.specs.declared.errors.GateError.TheVariants.{Order}
+use Rattle.gate_world.specs.{declared.operations.Op.TheVariants.Callback, traces.Traces.IsHonestAnswer}
+use Rattle.gate_steps.{proofs.call_events.Running.ran_told, specs.call_events.Runs.{IsRanReply, Replies, ran_of, the_reply}}
+use Rattle.vfs_gates.{proofs.Holding.{as_before_twice, keeps}, specs.{Held.IsAsBefore, Settled.{Settles, SettlesLevel}, TaskStates.IsIdle}}
 
 module _ (level : ℕ) (old left : SeatedTask) (low : 1 ≤ level) (high : level ≤ 3) where
   begins : IsIdle old → refusal_at (Callback level) old ≡ None

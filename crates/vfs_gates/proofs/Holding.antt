@@ -1,19 +1,18 @@
 -- What whole calls leave of what a task holds.
-use Rattle.gate_world.specs.declared.entries.Entry.{Entry}
-use Rattle.gate_world.specs.{Operations.all_levels_closed, traces.TraceStates.state_of_trace, traces.Found.{clean_found, cleans, found_complete, found_read_only, found_sealed}}
-use Rattle.gate_world.specs.{traces.Found.found_shared, Holdings.{Holdings, holdings_of, held_after}, traces.Traces.actions_of, declared.config.Config.Config}
-use Rattle.gate_world.specs.declared.operations.Op.{Op, TheVariants.{Want, DropMount, ChangeMount, RemountSb, Start, End, WantWrite, DropWrite}}
-use Rattle.gate_world.specs.declared.{operations.Op.TheVariants.{Freeze, Thaw, Create, Open, Close}, views.Traced.Traced, work.Phase.Phase}
-use Rattle.std.proofs.{Common.{◌≡◌, ℕ, ◌<◌, Bool, true, false, List, [], ◌∷◌, ◌++◌, refl, sym, ap, ◌∙◌, subst, inl, inr, true≢false}, lemmas.Bool.cases_Bool}
-use Rattle.std.specs.Prelude.{Option, Some, None, Result, Ok, Err}
-use Rattle.access_model.specs.declared.actions.Action.{Action, TheVariants.{Grant, Return, SbRo, SbRw, Stage as StageAction, Leave, Pass, Clean}}
-use Rattle.access_model.specs.declared.{actions.Action.TheVariants.{Open as OpenAction, Close as CloseAction}, errors.GateError.GateError, replies.Next.Next}
-use Rattle.access_model.specs.declared.replies.{Next.TheVariants.{Go, Wait, Done}, Reply.{Reply, TheVariants.Node as NodeReply}}
-use Rattle.cpu_words.specs.declared.{events.Touch.{Touch, TheVariants.And}, names.WordName.{WordName, TheVariants.Node}}
+use Rattle.vfs_gates.proofs.Prelude.{Action, AreMoves, Bool, Called, ChangeMount, Config, Done, Entry, Err, Freeze, GateError, Go, Grant, List, Next}
+use Rattle.vfs_gates.proofs.Prelude.{None, Ok, Op, Option, Phase, Reply, Result, SeatedTask, Some, Traced, Wait, WantWrite, WordName, [], actions_of}
+use Rattle.vfs_gates.proofs.Prelude.{ap, cases_Bool, false, inl, inr, own_actions, own_number, own_view, ran_items, refl, refusal_at, state_of_trace}
+use Rattle.vfs_gates.proofs.Prelude.{subst, sym, told_as, true, ℕ, ◌++◌, ◌<◌, ◌∙◌, ◌∷◌, ◌≡◌}
+use Rattle.gate_world.specs.{Holdings.{Holdings, held_after, holdings_of}, Operations.all_levels_closed, declared.operations.Op.TheVariants.Close}
+use Rattle.gate_world.specs.declared.operations.Op.TheVariants.{Create, DropMount, DropWrite, End, Open, RemountSb, Start, Thaw, Want}
+use Rattle.gate_world.specs.traces.Found.{clean_found, cleans, found_complete, found_read_only, found_sealed, found_shared}
+use Rattle.std.proofs.Common.{true≢false}
+use Rattle.access_model.specs.declared.actions.Action.TheVariants.{Clean, Close as CloseAction, Leave, Open as OpenAction, Pass, Return, SbRo, SbRw}
+use Rattle.access_model.specs.declared.{actions.Action.TheVariants.Stage as StageAction, replies.Reply.TheVariants.Node as NodeReply}
+use Rattle.cpu_words.specs.declared.{events.Touch.{TheVariants.And, Touch}, names.WordName.TheVariants.Node}
 use Rattle.mount_counts.specs.Phases.{has_flag}
-use Rattle.gate_steps.proofs.call_events.Asked.{either_way}
-use Rattle.gate_steps.specs.call_events.{Runs.{ran_items, IsNextMove, AreMoves, told_as, Called, Replies}, Seating.DealtNumbers}
-use Rattle.vfs_gates.specs.{Held.{Rests, own_actions, IsAsBefore, takes_nothing}, TaskStates.{SeatedTask, own_number, own_view, refusal_at, IsIdle}}
+use Rattle.gate_steps.{proofs.call_events.Asked.either_way, specs.call_events.{Runs.{IsNextMove, Replies}, Seating.DealtNumbers}}
+use Rattle.vfs_gates.specs.{Held.{IsAsBefore, Rests, takes_nothing}, TaskStates.IsIdle}
 
 -- an action that is neither a grant nor a return, and neither opens nor closes a file
 abbrev is_free : Action → Bool

@@ -1,3 +1,4 @@
+pub mod Prelude
 pub mod FlagSteps
 pub mod Parting
 pub mod Splitting

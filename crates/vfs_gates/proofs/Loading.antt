@@ -1,34 +1,20 @@
 -- A snapshot whose steps stand in a line: where they lead, and what its task notes of them.
-use Rattle.std.proofs.Common.{◌≡◌, ℕ, ◌-◌, ◌<◌, ◌≤◌, refl, sym, ap, ◌∙◌, subst, arith, Bool, true, false}
-use Rattle.std.proofs.lemmas.Bool.Decides.{nat_tests}
-use Rattle.std.specs.Prelude.{Option, Some, None, Result, Ok, List, is_some, if◌then◌else◌, length, not, slice_set as set}
-use Rattle.access_model.specs.{declared.{replies.Next.{Next, TheVariants.{Go, Done}}, errors.GateError.{GateError}}, Replies.{map_next}}
-use Rattle.access_model.specs.declared.replies.Reply.{Reply, TheVariants.{Tree as TreeReply}}
-use Rattle.cpu_words.specs.{Touches.{event_of}, declared.events.Event.{Event}}
+use Rattle.vfs_gates.proofs.Prelude.{Bool, BufferWords, Config, DealtNumbers, Done, Event, GateError, Go, Next, None, Ok, Op, Option, Phase, Reply}
+use Rattle.vfs_gates.proofs.Prelude.{Result, Some, after_of, ap, arith, at_snapshot, false, if◌then◌else◌, is_some, phase_after, refl, subst, sym}
+use Rattle.vfs_gates.proofs.Prelude.{true, ℕ, ◌<◌, ◌∙◌, ◌≡◌, ◌≤◌}
+use Rattle.std.{proofs.{Common.◌-◌, lemmas.Bool.Decides.nat_tests}, specs.Prelude.{List, length, not, slice_set as set}}
+use Rattle.access_model.specs.{Replies.map_next, declared.replies.Reply.TheVariants.Tree as TreeReply}
+use Rattle.cpu_words.specs.Touches.{event_of}
 use Rattle.node_words.specs.Nodes.{node_after, unpacked}
-use Rattle.gated_tree.specs.Phases.{at_snapshot, kids_step, node_step, snapshot_after, snapshot_next}
-use Rattle.gated_tree.specs.declared.{trees.TreeWords.{TreeWords}, phases.TreePhase.TheVariants.{Snapshot as Snapshots}}
-use Rattle.gated_tree.specs.declared.snapshots.{Snapshot.{Snapshot}, SnapshotStep.{SnapshotStep}}
-use Rattle.gated_tree.specs.declared.snapshots.SnapshotStep.TheVariants.{Locks, LoadsStage, LoadsUsed, LoadsNode, LoadsKids, Releases}
-use Rattle.gate_world.specs.{Accesses.{accesses_after}, Views.{phase_after}, Work.{after_of}, declared.accesses.Accesses.{Accesses}}
-use Rattle.gate_world.specs.{declared.{config.Config.{Config}, operations.Op.{Op}}, Beginnings.{first_phase}}
-use Rattle.gate_world.specs.declared.{operations.Op.TheVariants.{Snapshot as SnapshotOp}, work.Phase.{Phase, TheVariants.{Trees}}}
-use Rattle.gate_steps.specs.{Seating.{DealtNumbers, items_after}}
-use Rattle.gate_steps.specs.{declared.call_events.words.GateWords.{GateWords}, call_events.{Led.{Led, Stands, TaskSeat}, Turns.{StateAgrees, state_at}}}
-use Rattle.gate_steps.proofs.call_events.Leading.{led_on, led_nowhere}
-use Rattle.vfs_gates.specs.Noted.{Noted, snapshot_at, with_kids, with_nodes}
-use Rattle.vfs_gates.specs.Buffers.{BufferWords, BuffersMatch, after_noting, completed, with_words}
-use Rattle.vfs_gates.proofs.{Calling.{Call, idle, items_of, not_begun, same}, Noting.{follows_taking}}
-use Rattle.vfs_gates.proofs.Waiting.{has_number}
-
--- no step of a snapshot adds an action
-adds_none : (s : Snapshot) (step : SnapshotStep) (found : ℕ) → (snapshot_after s step found).1 ≡ None
-adds_none s Locks found = refl
-adds_none s LoadsStage found = refl
-adds_none s LoadsUsed found = refl
-adds_none s (LoadsNode node) found = refl
-adds_none s (LoadsKids node) found = refl
-adds_none s (Releases answer) found = refl
+use Rattle.gated_tree.specs.{Phases.{kids_step, node_step, snapshot_next}, declared.phases.TreePhase.TheVariants.Snapshot as Snapshots}
+use Rattle.gated_tree.specs.declared.snapshots.{Snapshot.Snapshot, SnapshotStep.TheVariants.{LoadsKids, LoadsNode, LoadsStage, LoadsUsed, Locks}}
+use Rattle.gated_tree.specs.declared.{snapshots.SnapshotStep.TheVariants.Releases, trees.TreeWords.TreeWords}
+use Rattle.gate_world.specs.{Accesses.accesses_after, Beginnings.first_phase, declared.accesses.Accesses.Accesses}
+use Rattle.gate_world.specs.declared.{operations.Op.TheVariants.Snapshot as SnapshotOp, work.Phase.TheVariants.Trees}
+use Rattle.gate_steps.{proofs.call_events.Leading.{led_nowhere, led_on}, specs.{Seating.items_after, call_events.Led.{Led, Stands, TaskSeat}}}
+use Rattle.gate_steps.specs.{call_events.Turns.{StateAgrees, state_at}, declared.call_events.words.GateWords.GateWords}
+use Rattle.vfs_gates.proofs.{Calling.{Call, idle, items_of, not_begun, same}, Noting.follows_taking, Taking.adds_none, Waiting.has_number}
+use Rattle.vfs_gates.specs.{Buffers.{BuffersMatch, after_noting, completed, with_words}, Noted.{Noted, snapshot_at, with_kids, with_nodes}}
 
 pub taking_leaves : (accesses : Accesses) (s : Snapshot) (found : ℕ) →
     accesses ≡ accesses_after accesses (after_of (Trees (Snapshots s)) found (Ok tt)).1

@@ -1,25 +1,20 @@
 -- The room for snapshots follows a step of a snapshot: what the step has loaded is noted there.
-use Rattle.std.proofs.Common.{◌≡◌, ℕ, zero, suc, ◌+◌, ◌≤◌, refl, sym, ap, ◌∙◌, subst, arith, Bool, add-one, inl, inr}
-use Rattle.std.proofs.lemmas.{List.{length-replicate, length-set, take-set, take_all}, Bool.{cases_Bool, Decides.{nat_tests}}}
-use Rattle.std.proofs.lemmas.Grind.{common_steps}
-use Rattle.std.specs.Prelude.{◌==◌, Option, Some, None, Err, List, [], ◌∷◌, true, false, if◌then◌else◌, is_some, not, length, take, slice_set as set}
-use Rattle.access_model.specs.{declared.replies.Next.{Next, TheVariants.{Go, Wait, Done}}, Replies.{map_next}}
-use Rattle.access_model.specs.declared.errors.GateError.TheVariants.{Again, Invalid}
-use Rattle.cpu_words.specs.{Hooks.{HookAnswer}, Touches.{event_of}, declared.{events.Event.{Event}, names.WordName.{WordName}}}
-use Rattle.cpu_words.specs.declared.names.WordName.TheVariants.{Kids}
+use Rattle.vfs_gates.proofs.Prelude.{Bool, BufferWords, DealtNumbers, Done, Err, Event, Go, HookAnswer, Next, None, Numbered, Op, Option, Phase, Some}
+use Rattle.vfs_gates.proofs.Prelude.{Traced, Wait, WordName, after_of, ap, arith, at_snapshot, cases_Bool, if◌then◌else◌, inl, inr, is_some, next_of}
+use Rattle.vfs_gates.proofs.Prelude.{own_view, phase_after, refl, subst, suc, sym, zero, ℕ, ◌+◌, ◌==◌, ◌∙◌, ◌≡◌, ◌≤◌}
+use Rattle.std.proofs.{Common.add-one, lemmas.{Bool.Decides.nat_tests, Grind.common_steps, List.{length-replicate, length-set, take-set, take_all}}}
+use Rattle.std.specs.Prelude.{List, [], false, length, not, slice_set as set, take, true, ◌∷◌}
+use Rattle.access_model.specs.{Replies.map_next, declared.errors.GateError.TheVariants.{Again, Invalid}}
+use Rattle.cpu_words.specs.{Touches.event_of, declared.names.WordName.TheVariants.Kids}
 use Rattle.node_words.specs.Nodes.{node_after, unpacked}
-use Rattle.gated_tree.specs.{Phases.{at_snapshot, kids_step, node_step}, Trees.{loaded}}
-use Rattle.gated_tree.specs.declared.{phases.TreePhase.TheVariants.{Snapshot as Snapshots}, snapshots.Snapshot.{Snapshot as Taking}}
-use Rattle.gated_tree.specs.declared.snapshots.SnapshotStep.{SnapshotStep}
-use Rattle.gated_tree.specs.declared.snapshots.SnapshotStep.TheVariants.{Locks, LoadsStage, LoadsUsed, LoadsNode, LoadsKids, Releases}
-use Rattle.gated_tree.specs.declared.trees.TreeWords.{TreeWords}
-use Rattle.gate_world.specs.declared.{operations.Op.{Op}, work.Phase.{Phase, TheVariants.{Trees}}, views.Snapshot.{Snapshot as Noted}}
-use Rattle.gate_world.specs.{declared.views.Traced.{Traced}, traces.Found.{is_load}}
-use Rattle.gate_world.specs.{traces.Snapshots.{completes, last_snapshot, loads_noted, noted_last}, Views.{phase_after}}
-use Rattle.gate_world.specs.Work.{after_of, next_of}
-use Rattle.gate_steps.specs.{Seating.{DealtNumbers, done_by, items_after}, declared.seating.Numbered.{Numbered}}
-use Rattle.vfs_gates.specs.Buffers.{BufferWords, BuffersMatch, HasNodes, IsSized, LastTells, NextTells, StepTells, after_noting, completed, noted_in, trace_so_far, with_words}
-use Rattle.vfs_gates.specs.TaskStates.{own_view}
+use Rattle.gated_tree.specs.{Phases.{kids_step, node_step}, Trees.loaded, declared.phases.TreePhase.TheVariants.Snapshot as Snapshots}
+use Rattle.gated_tree.specs.declared.snapshots.{Snapshot.Snapshot as Taking, SnapshotStep.{SnapshotStep, TheVariants.{LoadsKids, LoadsNode}}}
+use Rattle.gated_tree.specs.declared.{snapshots.SnapshotStep.TheVariants.{LoadsStage, LoadsUsed, Locks, Releases}, trees.TreeWords.TreeWords}
+use Rattle.gate_world.specs.{declared.{views.Snapshot.Snapshot as Noted, work.Phase.TheVariants.Trees}, traces.{Found.is_load, Snapshots.completes}}
+use Rattle.gate_world.specs.traces.Snapshots.{last_snapshot, loads_noted, noted_last}
+use Rattle.gate_steps.specs.Seating.{done_by, items_after}
+use Rattle.vfs_gates.specs.Buffers.{BuffersMatch, HasNodes, IsSized, LastTells, NextTells, StepTells, after_noting, completed, noted_in, trace_so_far}
+use Rattle.vfs_gates.specs.Buffers.{with_words}
 
 -- what a step adds to the own view: itself, and the snapshot that it completes
 trace_after : (begins : Option Op) (phase : Phase) (hook : HookAnswer) (found : ℕ) (x : Numbered) (xs : DealtNumbers) →

@@ -1,12 +1,8 @@
 -- What a file system's own hooks were asked by way of hooks that ask them.
-use Rattle.std.proofs.Common.{◌≡◌, refl, sym, ap, ◌∙◌, subst, List, [], ◌∷◌}
-use Rattle.std.specs.Prelude.{Option, Some, None, Result}
-use Rattle.access_model.specs.declared.errors.GateError.{GateError}
-use Rattle.cpu_words.specs.Hooks.{HookAnswer}
+use Rattle.vfs_gates.proofs.Prelude.{DealtNumbers, GateError, HookAnswer, List, None, Op, Option, Result, SeatedTask, Some, [], ap, refl, refusal_at}
+use Rattle.vfs_gates.proofs.Prelude.{subst, sym, ◌∙◌, ◌∷◌, ◌≡◌}
 use Rattle.freeze_levels.specs.declared.hooks.HookCall.{HookCall}
-use Rattle.gate_world.specs.declared.operations.Op.{Op}
-use Rattle.gate_steps.specs.{Seating.{DealtNumbers}, call_events.Asking.{Ask, PerformsAsking, WereAsked, asks_of}}
-use Rattle.vfs_gates.specs.TaskStates.{SeatedTask, refusal_at}
+use Rattle.gate_steps.specs.call_events.Asking.{Ask, PerformsAsking, WereAsked, asks_of}
 
 -- the hooks that ask, with the file system's own in them, under a name that stays
 module _ {S H N : Type 0} (name : S → N) (own : S → H) (asking : HookCall → DealtNumbers → S → HookAnswer → S → Type 0)

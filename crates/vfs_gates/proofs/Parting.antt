@@ -1,19 +1,17 @@
 -- A task's fields are what its seat knows, after a split and a join, and of the first task.
-use Rattle.std.proofs.Common.{◌≡◌, ℕ, zero, suc, ◌<◌, ◌≤◌, ◌⊎◌, ◌↔◌, Bool, true, false, cond, eqb, List, [], ◌∷◌, ◌++◌, length, get_or, set, replicate, sym}
-use Rattle.std.proofs.{Common.{refl, ap, ◌∙◌, subst, inl, inr, ⊎_elim, arith, get_or-set_same, get_or-set_other}, lemmas.Bool.cases_lt}
+use Rattle.vfs_gates.proofs.Prelude.{Bool, Config, IsWithin, List, None, Numbered, Op, Option, View, [], ap, arith, false, get_elem?, inl, inr}
+use Rattle.vfs_gates.proofs.Prelude.{length, own_view, refl, some, subst, suc, sym, true, zero, ℕ, ◌++◌, ◌<◌, ◌∙◌, ◌∷◌, ◌≡◌, ◌≤◌}
+use Rattle.std.proofs.{Common.{cond, eqb, get_or, get_or-set_other, get_or-set_same, replicate, set, ⊎_elim, ◌↔◌, ◌⊎◌}, lemmas.Bool.cases_lt}
 use Rattle.std.proofs.lemmas.List.{get_or-replicate, get_or_past}
-use Rattle.std.specs.Prelude.{Option, None}
-use mathlib.Core.{Logic.{dite}, Option.{some, some-injective, some-ne-none}}
-use native.Mathlib.Decide.{ℕ_discrete, dec_lt}
-use lib.ListN.{get_elem?}
-use Rattle.gate_world.specs.{Configs.IsWithin, Views.opening_view, declared.{config.Config.Config, operations.Op.Op, views.View.View}}
-use Rattle.gate_steps.specs.call_events.{TaskState.TaskState, Seating.{DealtNumbers, numbered, one_if, times, without, view_in, renewed, kept_of, given_of, deal}}
-use Rattle.gate_steps.specs.declared.seating.Numbered.{Numbered}
-use Rattle.gate_steps.specs.call_events.{TaskStates.idle_task, GhostAgrees.{PhaseOk, IsStill, AllRest, Keeps, OwnNumberAgrees, GhostAgrees}}
-use Rattle.gate_steps.proofs.call_events.{Dealing.{one_if-same, one_if-other, times-append}, Giving.{view_in-at, times-without, times-without_other}}
-use Rattle.gate_steps.proofs.call_events.Opening.{times-deal_below, times-deal_above, times-deal}
-use Rattle.vfs_gates.specs.TaskStates.{spare_of, Empty, IsNothing, own_view}
-use Rattle.vfs_gates.proofs.FlagSteps.{IsSet, false_true}
+use mathlib.Core.{Logic.dite, Option.{some-injective, some-ne-none}}
+use native.Mathlib.Decide.{dec_lt, ℕ_discrete}
+use Rattle.gate_world.specs.Views.{opening_view}
+use Rattle.gate_steps.proofs.call_events.{Dealing.{one_if-other, one_if-same, times-append}, Giving.{times-without, times-without_other, view_in-at}}
+use Rattle.gate_steps.{proofs.call_events.Opening.{times-deal, times-deal_above, times-deal_below}, specs.call_events.GhostAgrees.AllRest}
+use Rattle.gate_steps.specs.call_events.{GhostAgrees.{GhostAgrees, IsStill, Keeps, OwnNumberAgrees, PhaseOk}, Seating.{DealtNumbers, deal, given_of}}
+use Rattle.gate_steps.specs.call_events.{Seating.{kept_of, numbered, one_if, renewed, times, view_in, without}, TaskState.TaskState}
+use Rattle.gate_steps.specs.call_events.TaskStates.{idle_task}
+use Rattle.vfs_gates.{proofs.FlagSteps.{IsSet, false_true}, specs.TaskStates.{Empty, IsNothing, spare_of}}
 
 -- an idle seat has no access at a mount
 idle_mount : (m : ℕ) → m < 8 → ◌≡◌ {A = ℕ} (get_or (replicate 8 0) m 0) 0

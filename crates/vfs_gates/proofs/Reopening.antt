@@ -1,11 +1,9 @@
 -- A change of a mount to writable, which waits: it is done.
-use Rattle.std.proofs.{Common.{◌≡◌, ℕ, true, false, refl, sym, subst, inl, inr}, lemmas.Bool.{cases_Bool}}
-use Rattle.std.specs.Prelude.{◌==◌, Ok, List, [], ◌∷◌}
-use Rattle.access_model.specs.declared.{actions.Action.{Action}, replies.{Next.{Next}, Reply.{Reply}}}
-use Rattle.cpu_words.specs.Hooks.{HookAnswer}
-use Rattle.mount_counts.specs.{Phases.{has_flag}, declared.phases.{ChangeStep.{ChangeStep}, MountPhase.{MountPhase}}}
-use Rattle.gate_world.specs.{traces.TraceStates.{state_of_trace, trace_state_after}, Work.{after_of}}
-use Rattle.gate_world.specs.declared.{config.Config.Config, operations.Op.Op, views.Traced.Traced, work.Phase.Phase}
+use Rattle.vfs_gates.proofs.Prelude.{Action, Config, HookAnswer, Next, Ok, Op, Phase, Reply, Traced, after_of, cases_Bool, false, inl, inr, refl}
+use Rattle.vfs_gates.proofs.Prelude.{state_of_trace, subst, sym, true, ℕ, ◌==◌, ◌≡◌}
+use Rattle.std.specs.Prelude.{List, [], ◌∷◌}
+use Rattle.mount_counts.specs.{Phases.has_flag, declared.phases.{ChangeStep.ChangeStep, MountPhase.MountPhase}}
+use Rattle.gate_world.specs.traces.TraceStates.{trace_state_after}
 
 -- the change at a step
 abbrev opening : Config → ℕ → ℕ → ChangeStep → Phase

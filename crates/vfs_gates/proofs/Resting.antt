@@ -1,18 +1,15 @@
 -- What calls are of a task that rests.
-use Rattle.std.proofs.Common.{◌≡◌, ℕ, zero, suc, ◌<◌, ◌≤◌, Bool, true, false, cond, eqb, List, [], ◌∷◌, ◌++◌, length, refl, sym, ap, ◌∙◌, subst, arith, lt-ltb, true≢false}
-use Rattle.std.specs.Prelude.{Option, Some, None, Result, Ok, Err, IfErr}
-use Rattle.access_model.specs.declared.{errors.GateError.{GateError, TheVariants.{Busy, Again, ReadOnly}}, replies.Reply.{Reply}}
-use Rattle.gate_world.specs.declared.{config.Config.{Config}, operations.Op.{Op, TheVariants.{Want, ChangeMount}}, views.View.{View}}
-use Rattle.gate_world.specs.{declared.{views.Traced.{Traced}, entries.Entry.{Entry}}, traces.Traces.{IsHonestAnswer}, Views.{opening_view}}
+use Rattle.vfs_gates.proofs.Prelude.{Bool, Called, ChangeMount, Config, DealtNumbers, Entry, Err, GateError, List, None, Ok, Op, Option, Reply}
+use Rattle.vfs_gates.proofs.Prelude.{Result, SeatedTask, Some, Traced, View, [], ap, arith, false, length, own_actions, own_number, own_view, refl}
+use Rattle.vfs_gates.proofs.Prelude.{refusal_at, subst, suc, sym, told_as, true, unit_of, zero, ℕ, ◌++◌, ◌<◌, ◌∙◌, ◌∷◌, ◌≡◌, ◌≤◌}
+use Rattle.std.{proofs.Common.{cond, eqb, lt-ltb, true≢false}, specs.Prelude.IfErr}
+use Rattle.access_model.specs.declared.errors.GateError.TheVariants.{Again, Busy, ReadOnly}
+use Rattle.gate_world.specs.{Views.opening_view, declared.operations.Op.TheVariants.Want, traces.Traces.IsHonestAnswer}
 use Rattle.atomic_table.specs.Seated.{TableId}
-use Rattle.gate_steps.specs.{Rules.{first_known}, call_events.{Runs.{told_as, unit_of, Called, Performs}, TaskState.{TaskState}}}
-use Rattle.gate_steps.specs.Seating.{DealtNumbers, HaveViews, numbered, times, view_in, kept_of, given_of, deal}
-use Rattle.gate_steps.specs.call_events.GhostAgrees.{GhostAgrees}
-use Rattle.gate_steps.proofs.call_events.Giving.{view_in-at}
-use Rattle.vfs_gates.specs.declared.gates.Gates.{Gates}
-use Rattle.vfs_gates.specs.TaskStates.{SeatedTask, task_state, own_number, own_view, spare_of, refusal_at, Empty, IsFrom}
-use Rattle.vfs_gates.specs.{Ended.{EndedWith}, Parts.{SplitOf}, Held.{Rests, own_actions}}
-use Rattle.vfs_gates.proofs.{Parting.{rest-at}, Holding.{adds, keeps, refused_call_keeps, rests_on}}
+use Rattle.gate_steps.{proofs.call_events.Giving.view_in-at, specs.{Rules.first_known, Seating.{HaveViews, deal, given_of, kept_of, numbered, times}}}
+use Rattle.gate_steps.specs.{Seating.view_in, call_events.{GhostAgrees.GhostAgrees, Runs.Performs, TaskState.TaskState}}
+use Rattle.vfs_gates.{proofs.{Holding.{adds, keeps, refused_call_keeps, rests_on}, Parting.rest-at}, specs.{Ended.EndedWith, Held.Rests}}
+use Rattle.vfs_gates.specs.{Parts.SplitOf, TaskStates.{Empty, IsFrom, spare_of, task_state}, declared.gates.Gates.Gates}
 
 -- there is a mount and a processor
 pub some_mount : (s : SeatedTask) (g : Gates) → IsFrom s g → 0 < s.config.mounts

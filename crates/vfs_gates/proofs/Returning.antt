@@ -1,17 +1,14 @@
 -- What a return leaves of a task whose access was granted before.
-use Rattle.std.proofs.{Common.{◌≡◌, ℕ, ◌+◌, ◌-◌, ◌<◌, Bool, true, false, List, ◌∷◌, refl, sym, ap, ◌∙◌, subst, arith, inl, inr, lt-ltb}, Math.Path.fun_ext}
-use Rattle.std.proofs.lemmas.Bool.{and_parts, ltb-true, not-true, Decides.eqb_tells}
-use Rattle.std.specs.Prelude.{Option, Some, None, Result, Ok, Err, is_some, nat_lt, not}
-use Rattle.finite_sums.specs.Sums.{update}
-use Rattle.finite_sums.proofs.Totals.{update_at, update_off}
-use Rattle.access_model.specs.{Histories.{mounts_of, levels_of}, declared.actions.{Action.TheVariants.{Grant, Return}, Gate.TheVariants.{Mount, Level}}}
-use Rattle.access_model.specs.declared.{errors.GateError.GateError, replies.Reply.Reply}
-use Rattle.gate_world.specs.{Holdings.{Holdings, holdings_of, held_after}, traces.Traces.IsHonestAnswer, Views.held_of, declared.config.Config.Config}
-use Rattle.gate_world.specs.declared.{operations.Op.{Op, TheVariants.{Want, DropMount, WantWrite, DropWrite}}, views.Traced.Traced}
-use Rattle.gate_steps.proofs.call_events.Beginnings.{may_begin, MayBegin}
-use Rattle.gate_steps.specs.call_events.Runs.{told_as, unit_of, Called, Performs}
-use Rattle.vfs_gates.specs.{Held.{own_actions, IsAsBefore, IsGivenBack}, TaskStates.{SeatedTask, own_view, refusal_at, IsIdle}}
-use Rattle.vfs_gates.proofs.Holding.{adds, stays, unchanged}
+use Rattle.vfs_gates.proofs.Prelude.{Bool, Called, Config, Err, GateError, Grant, List, None, Ok, Op, Option, Reply, Result, SeatedTask, Some, Traced}
+use Rattle.vfs_gates.proofs.Prelude.{WantWrite, ap, arith, eqb_tells, false, inl, inr, is_some, own_actions, own_view, refl, refusal_at, subst, sym}
+use Rattle.vfs_gates.proofs.Prelude.{told_as, true, unit_of, ℕ, ◌+◌, ◌<◌, ◌∙◌, ◌∷◌, ◌≡◌}
+use Rattle.std.{proofs.{Common.{lt-ltb, ◌-◌}, Math.Path.fun_ext, lemmas.Bool.{and_parts, ltb-true, not-true}}, specs.Prelude.{nat_lt, not}}
+use Rattle.finite_sums.{proofs.Totals.{update_at, update_off}, specs.Sums.update}
+use Rattle.access_model.specs.{Histories.{levels_of, mounts_of}, declared.actions.{Action.TheVariants.Return, Gate.TheVariants.{Level, Mount}}}
+use Rattle.gate_world.specs.{Holdings.{Holdings, held_after, holdings_of}, Views.held_of, declared.operations.Op.TheVariants.{DropMount, DropWrite}}
+use Rattle.gate_world.specs.{declared.operations.Op.TheVariants.Want, traces.Traces.IsHonestAnswer}
+use Rattle.gate_steps.{proofs.call_events.Beginnings.{MayBegin, may_begin}, specs.call_events.Runs.Performs}
+use Rattle.vfs_gates.{proofs.Holding.{adds, stays, unchanged}, specs.{Held.{IsAsBefore, IsGivenBack}, TaskStates.IsIdle}}
 
 -- a call that was done began, and was one whole operation that replied
 pub record WasDone (op : Op) (old left : SeatedTask) : Type 0 where

@@ -1,26 +1,24 @@
 -- What the room for snapshots tells of a task, as its operation begins and goes on.
-use Rattle.gate_world.specs.declared.{entries.Entry.{Entry}, config.Config.{Config}, operations.Op.{Op}, work.Phase.{Phase}}
-use Rattle.gate_world.specs.declared.work.Phase.TheVariants.{Mounts, Remounts, DownReads, UpReads, Callbacks, Writes, Freezes, Thaws, Trees, Closes}
-use Rattle.gate_world.specs.{declared.views.Traced.{Traced}, Beginnings.{first_phase}, traces.Snapshots.{completes, last_snapshot}}
-use Rattle.gate_world.specs.{Views.{phase_after}, Work.{after_of, next_of}, declared.views.{View.{View}, Snapshot.{Snapshot as Noted}}}
-use Rattle.gate_world.specs.traces.TraceStates.{trace_state_after, state_of_trace}
-use Rattle.gate_steps.specs.{Seating.{knows, DealtNumbers, deal, done_by, given_of, items_after, kept_of}, Rules.{first_items}}
-use Rattle.gate_steps.specs.{declared.seating.Numbered.{Numbered}, call_events.{TaskState.{TaskState}, Step.{Step}}}
-use Rattle.gate_steps.specs.call_events.{Runs.{Called, OpUnderWay, completed_by, items_at, ran_items, ran_snapshot}, Stepped.{Stepped}}
-use Rattle.gate_steps.specs.call_events.{GhostAgrees.{GhostAgrees}, Turns.{step_was}}
-use Rattle.std.proofs.Common.{◌≡◌, ℕ, zero, suc, ◌≤◌, refl, sym, ap, ◌∙◌, subst, arith, Bool, true≢false}
-use Rattle.std.specs.Prelude.{Option, Some, None, Result, List, [], ◌∷◌, ◌++◌, false, option_map, length}
-use Rattle.access_model.specs.{declared.{replies.Next.{Next, TheVariants.{Go, Wait, Done}}, actions.Action.{Action}}, Replies.{map_next}}
-use Rattle.access_model.specs.declared.{errors.GateError.{GateError}, replies.Reply.{Reply}}
-use Rattle.cpu_words.specs.{Hooks.{HookAnswer}, Touches.{event_of, found_by}, declared.events.Event.{Event}}
-use Rattle.gated_tree.specs.declared.phases.TreePhase.{TreePhase}
-use Rattle.gated_tree.specs.declared.phases.TreePhase.TheVariants.{Create as Creates, Remove as Removes, Grow as Grows, MoveTo as Moves, Mark as TreeMarks, OpenFile as OpensOne, Snapshot as Snapshots, ClearMarks as TreeClears}
-use Rattle.gated_tree.specs.declared.{snapshots.Snapshot.{Snapshot as Taking}, trees.TreeWords.{TreeWords}}
+use Rattle.vfs_gates.proofs.Prelude.{Action, Bool, BufferWords, Called, Config, DealtNumbers, Done, Entry, Event, GateError, Go, HookAnswer, Next}
+use Rattle.vfs_gates.proofs.Prelude.{None, Numbered, Op, Option, Phase, Reply, Result, SeatedTask, Some, Traced, View, Wait, after_of, ap, arith}
+use Rattle.vfs_gates.proofs.Prelude.{next_of, own_number, own_view, phase_after, ran_items, refl, state_of_trace, subst, suc, sym, zero, ℕ, ◌∙◌, ◌≡◌}
+use Rattle.vfs_gates.proofs.Prelude.{◌≤◌}
+use Rattle.gate_world.specs.{Beginnings.first_phase, declared.{views.Snapshot.Snapshot as Noted, work.Phase.TheVariants.{Callbacks, Closes}}}
+use Rattle.gate_world.specs.declared.work.Phase.TheVariants.{DownReads, Freezes, Mounts, Remounts, Thaws, Trees, UpReads, Writes}
+use Rattle.gate_world.specs.traces.{Snapshots.{completes, last_snapshot}, TraceStates.trace_state_after}
+use Rattle.gate_steps.specs.{Rules.first_items, Seating.{deal, done_by, given_of, items_after, kept_of, knows}, call_events.GhostAgrees.GhostAgrees}
+use Rattle.gate_steps.specs.call_events.{Runs.{OpUnderWay, completed_by, items_at, ran_snapshot}, Step.Step, Stepped.Stepped, TaskState.TaskState}
+use Rattle.gate_steps.specs.call_events.Turns.{step_was}
+use Rattle.std.{proofs.Common.true≢false, specs.Prelude.{List, [], false, length, option_map, ◌++◌, ◌∷◌}}
+use Rattle.access_model.specs.Replies.{map_next}
+use Rattle.cpu_words.specs.Touches.{event_of, found_by}
+use Rattle.gated_tree.specs.declared.phases.TreePhase.TheVariants.{ClearMarks as TreeClears, Create as Creates, Grow as Grows, Mark as TreeMarks}
+use Rattle.gated_tree.specs.declared.phases.TreePhase.TheVariants.{MoveTo as Moves, OpenFile as OpensOne, Remove as Removes, Snapshot as Snapshots}
+use Rattle.gated_tree.specs.declared.{phases.TreePhase.TreePhase, snapshots.Snapshot.Snapshot as Taking, trees.TreeWords.TreeWords}
 use Rattle.percpu_rwsem.specs.Readers.{up_read_after}
 use Rattle.atomic_table.specs.Seated.{TableId}
-use Rattle.vfs_gates.specs.Buffers.{BufferWords, HasSnapshotRoom, LastTells, NextTells, BuffersMatch, is_of_snapshot, last_in, trace_so_far}
-use Rattle.vfs_gates.specs.TaskStates.{SeatedTask, own_number, own_view, task_state}
-use Rattle.vfs_gates.proofs.Calling.{Call, Left, ended_at, goes_at, idle, own_is}
+use Rattle.vfs_gates.{proofs.Calling.{Call, Left, ended_at, goes_at, idle, own_is}, specs.Buffers.{BuffersMatch, HasSnapshotRoom, LastTells}}
+use Rattle.vfs_gates.specs.{Buffers.{NextTells, is_of_snapshot, last_in, trace_so_far}, TaskStates.task_state}
 
 -- what comes next is none
 abbrev pub NextIsOther : Next Phase → Type 0
@@ -63,54 +61,18 @@ goes_on_other (Closes x) found hook h = other_next Closes (λ p. refl) _
 
 -- its room has nothing to tell of what it has loaded
 pub other_tells : (nodes : ℕ) (r : BufferWords) (trace : List Traced) (phase : Phase) → is_of_snapshot phase ≡ false → NextTells nodes r trace (Some phase)
-other_tells nodes r trace (Mounts x) h = tt
-other_tells nodes r trace (Remounts x) h = tt
-other_tells nodes r trace (DownReads x) h = tt
-other_tells nodes r trace (UpReads x) h = tt
-other_tells nodes r trace (Callbacks x) h = tt
-other_tells nodes r trace (Writes x) h = tt
-other_tells nodes r trace (Freezes x) h = tt
-other_tells nodes r trace (Thaws x) h = tt
-other_tells nodes r trace (Trees (Creates x)) h = tt
-other_tells nodes r trace (Trees (Removes x)) h = tt
-other_tells nodes r trace (Trees (Grows x)) h = tt
-other_tells nodes r trace (Trees (Moves x)) h = tt
-other_tells nodes r trace (Trees (TreeMarks x)) h = tt
-other_tells nodes r trace (Trees (OpensOne x)) h = tt
-other_tells nodes r trace (Trees (Snapshots x)) h = absurd (true≢false h)
-other_tells nodes r trace (Trees (TreeClears x)) h = tt
-other_tells nodes r trace (Closes x) h = tt
+other_tells nodes r trace phase h = grind arith
 
 pub next_tells : (nodes : ℕ) (r : BufferWords) (trace : List Traced) (n : Next Phase) → NextIsOther n → NextTells nodes r trace (phase_after n)
-next_tells nodes r trace (Go phase) h = other_tells nodes r trace phase h
-next_tells nodes r trace (Wait phase) h = other_tells nodes r trace phase h
-next_tells nodes r trace (Done answer) h = tt
+next_tells nodes r trace n h = grind (arith, other_tells)
 
 -- nor does it complete one
 pub other_completes : (phase : Phase) (trace : List Traced) (found : ℕ) → is_of_snapshot phase ≡ false → completes phase trace found ≡ None
-other_completes (Mounts x) trace found h = refl
-other_completes (Remounts x) trace found h = refl
-other_completes (DownReads x) trace found h = refl
-other_completes (UpReads x) trace found h = refl
-other_completes (Callbacks x) trace found h = refl
-other_completes (Writes x) trace found h = refl
-other_completes (Freezes x) trace found h = refl
-other_completes (Thaws x) trace found h = refl
-other_completes (Trees (Creates x)) trace found h = refl
-other_completes (Trees (Removes x)) trace found h = refl
-other_completes (Trees (Grows x)) trace found h = refl
-other_completes (Trees (Moves x)) trace found h = refl
-other_completes (Trees (TreeMarks x)) trace found h = refl
-other_completes (Trees (OpensOne x)) trace found h = refl
-other_completes (Trees (Snapshots x)) trace found h = absurd (true≢false h)
-other_completes (Trees (TreeClears x)) trace found h = refl
-other_completes (Closes x) trace found h = refl
+other_completes phase trace found h = grind arith
 
 -- an operation that is no snapshot, as far as it has come
 completed_other : (n : Next Phase) (earlier : List Traced) (e : Traced) → NextIsOther n → completed_by n earlier e ≡ None
-completed_other (Go phase) earlier e h = other_completes phase earlier e.event.found h
-completed_other (Wait phase) earlier e h = other_completes phase earlier e.event.found h
-completed_other (Done answer) earlier e h = refl
+completed_other n earlier e h = grind (arith, other_completes)
 
 course_other : (n : Next Phase) (added : List Action) (e : Traced) → NextIsOther n → NextIsOther (trace_state_after n added e).comes
 course_other (Go phase) added e h = goes_on_other phase e.event.found e.hook h
@@ -234,26 +196,10 @@ stepped_room nodes r left begins phase hook table table_left c (x ∷ xs) items_
 
 -- a phase that is no call at the tree, and a call that is no snapshot
 pub not_tree : (phase : Phase) → ((x : TreePhase) → phase ≡ Trees x → ⊥) → is_of_snapshot phase ≡ false
-not_tree (Mounts x) not = refl
-not_tree (Remounts x) not = refl
-not_tree (DownReads x) not = refl
-not_tree (UpReads x) not = refl
-not_tree (Callbacks x) not = refl
-not_tree (Writes x) not = refl
-not_tree (Freezes x) not = refl
-not_tree (Thaws x) not = refl
-not_tree (Trees x) not = absurd (not x refl)
-not_tree (Closes x) not = refl
+not_tree phase not = grind arith
 
 pub not_snapshot : (call : TreePhase) → ((x : Taking) → call ≡ Snapshots x → ⊥) → is_of_snapshot (Trees call) ≡ false
-not_snapshot (Creates x) not = refl
-not_snapshot (Removes x) not = refl
-not_snapshot (Grows x) not = refl
-not_snapshot (Moves x) not = refl
-not_snapshot (TreeMarks x) not = refl
-not_snapshot (OpensOne x) not = refl
-not_snapshot (Snapshots x) not = absurd (not x refl)
-not_snapshot (TreeClears x) not = refl
+not_snapshot call not = grind arith
 
 -- a step of an operation that is no snapshot leaves the last snapshot
 leaves_last : (begins : Option Op) (phase : Phase) (hook : HookAnswer) (found : ℕ) (x : Numbered) (xs : DealtNumbers) → is_of_snapshot phase ≡ false →

@@ -1,14 +1,12 @@
 -- A task's last snapshot is of a moment of the one history.
-use Rattle.gate_world.specs.declared.{entries.Entry.{Entry}, config.Config.{Config}, operations.Op.{Op}, views.View.{View}}
-use Rattle.gate_world.specs.{declared.views.{Traced.{Traced}, Snapshot.{Snapshot}}, Configs.{model_limits}}
-use Rattle.gate_world.specs.{traces.{Snapshots.{last_snapshot}, TraceStates.{state_of_trace}}, Moments.{HasMoment}}
-use Rattle.std.proofs.Common.{◌≡◌, ℕ, ◌≤◌, arith, List, [], ◌∷◌, ◌++◌, length, refl, ap, ◌∙◌, subst}
-use Rattle.std.specs.Prelude.{Option, Some, None, Result}
-use Rattle.access_model.specs.declared.{actions.Action.{Action}, errors.GateError.{GateError}, replies.Reply.{Reply}}
+use Rattle.vfs_gates.proofs.Prelude.{Action, Called, Config, DealtNumbers, Entry, GateError, HaveHistory, List, None, Op, Option, Reply, Result}
+use Rattle.vfs_gates.proofs.Prelude.{SeatedTask, Some, Traced, View, [], ap, arith, length, model_limits, own_number, own_view, ran_items, refl}
+use Rattle.vfs_gates.proofs.Prelude.{state_of_trace, subst, ℕ, ◌++◌, ◌∙◌, ◌∷◌, ◌≡◌, ◌≤◌}
+use Rattle.gate_world.specs.{Moments.HasMoment, declared.views.Snapshot.Snapshot, traces.Snapshots.last_snapshot}
 use Rattle.freeze_laws.proofs.moments.Frozen.{tells}
-use Rattle.gated_tree.specs.{declared.trees.TreeWords.{TreeWords}, Trees.{node_at}}
-use Rattle.gate_steps.specs.{Seating.{DealtNumbers, HaveHistory, done_by}, call_events.Runs.{completed_by, ran_snapshot, ran_items, Called}}
-use Rattle.vfs_gates.specs.{TaskStates.{SeatedTask, own_number, own_view, spare_of}, Seen.{IsOfAMoment}}
+use Rattle.gated_tree.specs.{Trees.node_at, declared.trees.TreeWords.TreeWords}
+use Rattle.gate_steps.specs.{Seating.done_by, call_events.Runs.{completed_by, ran_snapshot}}
+use Rattle.vfs_gates.specs.{Seen.IsOfAMoment, TaskStates.spare_of}
 
 -- in any history of a task's numbers
 pub saw_a_moment : (c : Config) (items : DealtNumbers) (last_seen : List (List Entry)) (all : HaveHistory c items last_seen)

@@ -1,13 +1,13 @@
 -- Tasks that are split off, one after the other, take the numbers in their order, and none is refused but for memory.
-use Rattle.std.proofs.Common.{◌≡◌, ℕ, zero, suc, ◌+◌, ◌<◌, ◌≤◌, ◌≢◌, refl, ap, sym, subst, ◌∙◌, arith, true, false, cond, eqb, List, [], ◌∷◌, ◌++◌, length}
+use Rattle.vfs_gates.proofs.Prelude.{Config, DealtNumbers, GateError, List, SeatedTask, [], ap, arith, false, length, own_number, own_view, refl}
+use Rattle.vfs_gates.proofs.Prelude.{subst, suc, sym, true, zero, ℕ, ◌++◌, ◌+◌, ◌<◌, ◌∙◌, ◌∷◌, ◌≡◌, ◌≤◌}
+use Rattle.std.proofs.Common.{cond, eqb, ◌≢◌}
 use mathlib.Core.Logic.{dite}
-use native.Mathlib.Decide.{ℕ_discrete, dec_lt}
-use Rattle.access_model.specs.declared.errors.GateError.{GateError, TheVariants.{Order, TooMany, NoMemory}}
-use Rattle.gate_world.specs.declared.config.Config.{Config}
-use Rattle.gate_steps.specs.{Rules.{first_items}, Seating.{DealtNumbers, times, kept_of, given_of, deal, view_in, without}}
+use native.Mathlib.Decide.{dec_lt, ℕ_discrete}
+use Rattle.access_model.specs.declared.errors.GateError.TheVariants.{NoMemory, Order, TooMany}
 use Rattle.gate_steps.proofs.call_events.{Giving.{times-without, times-without_other}, Opening.{times-deal, times-deal_below}}
-use Rattle.vfs_gates.specs.{Parts.{SplitOf, SplitRefused}, TaskStates.{SeatedTask, IsIdle, own_number, own_view, spare_of}}
-use Rattle.vfs_gates.specs.Splitting.{AreNumbered, Gives, HasBegun, HaveDoneNothing}
+use Rattle.gate_steps.specs.{Rules.first_items, Seating.{deal, given_of, kept_of, times, view_in, without}}
+use Rattle.vfs_gates.specs.{Parts.{SplitOf, SplitRefused}, Splitting.{AreNumbered, Gives, HasBegun, HaveDoneNothing}, TaskStates.{IsIdle, spare_of}}
 
 -- the numbers behind the first of so many
 later_dealt : (count k : ℕ) → 1 ≤ k → k < count → times k (spare_of (deal 0 count)) ≡ 1

@@ -1,22 +1,23 @@
 -- A snapshot that replied has taken one: its last load but its release is the last load of the tree.
-use Rattle.std.proofs.{Common.{◌≡◌, ℕ, ◌≤◌, refl, ap, ◌∙◌, subst, inl, inr, arith, Bool}, lemmas.Bool.{cases_Bool}}
-use Rattle.std.specs.Prelude.{Option, Some, None, Result, Ok, Err, List, [], ◌∷◌, ◌++◌, ◌==◌, true, false, is_some, length}
-use Rattle.access_model.specs.declared.{actions.Action.{Action}, errors.GateError.{GateError}, replies.Next.{Next}}
-use Rattle.access_model.specs.{declared.replies.{Next.TheVariants.{Go, Wait, Done}, Reply.{Reply}}, Replies.{map_next}}
-use Rattle.gated_tree.specs.declared.{phases.TreePhase.TheVariants.{Snapshot as Snapshots}, snapshots.Snapshot.{Snapshot}}
-use Rattle.gated_tree.specs.declared.snapshots.SnapshotStep.{SnapshotStep}
-use Rattle.gated_tree.specs.declared.snapshots.SnapshotStep.TheVariants.{Locks, LoadsStage, LoadsUsed, LoadsNode, LoadsKids, Releases}
-use Rattle.gated_tree.specs.{declared.trees.TreeWords.{TreeWords}, Trees.{LoadedClean, LoadedSound}}
-use Rattle.gated_tree.specs.Phases.{snapshot_after, snapshot_locked_out, node_step, kids_step, at_snapshot}
+use Rattle.vfs_gates.proofs.Prelude.{Action, Bool, Called, Config, DealtNumbers, Done, Err, GateError, Go, Next, None, Ok, Op, Option, Phase, Reply}
+use Rattle.vfs_gates.proofs.Prelude.{Result, SeatedTask, Some, Traced, View, Wait, ap, arith, at_snapshot, cases_Bool, inl, inr, is_some, own_number}
+use Rattle.vfs_gates.proofs.Prelude.{own_view, ran_items, refl, refusal_at, state_of_trace, subst, told_as, unit_of, ℕ, ◌==◌, ◌∙◌, ◌≡◌, ◌≤◌}
+use Rattle.std.specs.Prelude.{List, [], false, length, true, ◌++◌, ◌∷◌}
+use Rattle.access_model.specs.Replies.{map_next}
+use Rattle.gated_tree.specs.{Phases.{kids_step, node_step, snapshot_after, snapshot_locked_out}, Trees.{LoadedClean, LoadedSound}}
+use Rattle.gated_tree.specs.declared.{phases.TreePhase.TheVariants.Snapshot as Snapshots, snapshots.{Snapshot.Snapshot, SnapshotStep.SnapshotStep}}
+use Rattle.gated_tree.specs.declared.snapshots.SnapshotStep.TheVariants.{LoadsKids, LoadsNode, LoadsStage, LoadsUsed, Locks, Releases}
+use Rattle.gated_tree.specs.declared.trees.TreeWords.{TreeWords}
 use Rattle.node_words.specs.Nodes.{node_after, unpacked}
-use Rattle.gate_world.specs.declared.{config.Config.{Config}, operations.Op.{Op, TheVariants.{Snapshot as SnapshotOp}}, work.Phase.{Phase}}
-use Rattle.gate_world.specs.declared.{work.Phase.TheVariants.{Trees}, views.{Traced.{Traced}, View.{View}, Snapshot.{Snapshot as Noted}}}
-use Rattle.gate_world.specs.{Views.{actions_after}, traces.TraceStates.{state_of_trace, trace_state_after, IsNext, IsTrace}}
-use Rattle.gate_world.specs.traces.Snapshots.{last_snapshot, noted_last, snapshot_completes}
-use Rattle.gate_steps.specs.Seating.{DealtNumbers, done_by}
-use Rattle.gate_steps.specs.call_events.Runs.{Called, Performs, completed_by, ran_items, ran_snapshot, told_as, unit_of}
-use Rattle.vfs_gates.specs.{TaskStates.{SeatedTask, own_number, own_view, refusal_at, spare_of}, Seen.{HasTaken}}
-use Rattle.vfs_gates.proofs.Seeing.{call_saw, same_own}
+use Rattle.gate_world.specs.{Views.actions_after, declared.{operations.Op.TheVariants.Snapshot as SnapshotOp, views.Snapshot.Snapshot as Noted}}
+use Rattle.gate_world.specs.{declared.work.Phase.TheVariants.Trees, traces.Snapshots.{last_snapshot, noted_last, snapshot_completes}}
+use Rattle.gate_world.specs.traces.TraceStates.{IsNext, IsTrace, trace_state_after}
+use Rattle.gate_steps.specs.{Seating.done_by, call_events.Runs.{Performs, completed_by, ran_snapshot}}
+use Rattle.vfs_gates.{proofs.Seeing.{call_saw, same_own}, specs.{Seen.HasTaken, TaskStates.spare_of}}
+
+-- no step of a snapshot adds an action
+pub adds_none : (s : Snapshot) (step : SnapshotStep) (found : ℕ) → (snapshot_after s step found).1 ≡ None
+adds_none s step found = grind arith
 
 module _ (c : Config) (t : ℕ) (wait : Bool) (others : List (ℕ × ℕ)) (v : View) where
   -- the last snapshot after these steps
@@ -88,22 +89,13 @@ module _ (c : Config) (t : ℕ) (wait : Bool) (others : List (ℕ × ℕ)) (v : 
   step_comes trace e s (LoadsKids n) added none is h = kids_come trace e s (node_after n s.nodes) _ added none is
   step_comes trace e s (Releases answer) added none is h = answer_stays trace e answer is h
 
-  -- what a snapshot adds is nothing
-  adds_nothing : (s : Snapshot) (step : SnapshotStep) (found : ℕ) → (snapshot_after s step found).1 ≡ None
-  adds_nothing s Locks found = refl
-  adds_nothing s LoadsStage found = refl
-  adds_nothing s LoadsUsed found = refl
-  adds_nothing s (LoadsNode n) found = refl
-  adds_nothing s (LoadsKids n) found = refl
-  adds_nothing s (Releases answer) found = refl
-
   -- one step more
   phase_comes : (trace : List Traced) (e : Traced) (phase : Phase) (added : List Action) → added ≡ [] → AtPhase trace phase →
       seen (e ∷ trace) ≡ last_snapshot (completed_by (Go phase) trace e) (added ++ v.actions) others (seen trace) →
       NextInvariant (e ∷ trace) (trace_state_after (Go phase) added e).comes × ((trace_state_after (Go phase) added e).added ≡ [])
   phase_comes trace e (Trees (Snapshots x)) added none h is = (
     step_comes trace e x x.step added none is h,
-    ap (λ a. actions_after a added) (adds_nothing x x.step e.event.found) ∙ none,
+    ap (λ a. actions_after a added) (adds_none x x.step e.event.found) ∙ none,
   )
   phase_comes trace e phase added none h is = absurd h
 

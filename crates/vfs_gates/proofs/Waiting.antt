@@ -1,23 +1,19 @@
 -- What a task tells of its waits, as its operations begin, go on and end.
-use Rattle.gate_world.specs.{declared.entries.Entry.{Entry}, traces.TraceStates.{TraceState, state_of_trace}}
-use Rattle.gate_world.specs.traces.Traces.{MayWait, most_events}
-use Rattle.gate_world.specs.{Views.{begun_view, opening_view, phase_after, view_after_with_others, with_hook}, Work.{after_of, next_of}}
-use Rattle.gate_world.specs.declared.{accesses.Accesses.{Accesses}, config.Config.{Config}, operations.Op.{Op}}
-use Rattle.gate_world.specs.declared.operations.Op.TheVariants.{Want, ChangeMount, RemountSb, Start, WantWrite, Callback, Freeze, Thaw, Close, Snapshot}
-use Rattle.gate_world.specs.declared.{views.{Traced.{Traced}, View.{View}}, work.Phase.{Phase}}
-use Rattle.gate_steps.specs.{Seating.{knows}, call_events.Refused.{IsHonestWait, WaitsHonestly}, Rules.{first_items}}
-use Rattle.gate_steps.specs.call_events.{Runs.{begins_at, items_at, ran_items, IsBounded}, TaskState.{TaskState}}
-use Rattle.gate_steps.specs.{Seating.{DealtNumbers, deal, done_by, given_of, items_after, kept_of}, call_events.Step.{Step}}
-use Rattle.gate_steps.specs.call_events.{Stepped.{Stepped}, GhostAgrees.{PhaseOk, GhostAgrees}, Turns.{state_at, step_was}}
-use Rattle.gate_steps.specs.call_events.Waited.{OpUnderWayWaiting, OpAfterStepWaiting, waits_by, waits_in}
-use Rattle.std.proofs.Common.{◌≡◌, ℕ, zero, suc, ◌+◌, ◌≤◌, add-zero, refl, sym, ap, ◌∙◌, subst, arith, Bool, true, false, true≢false, length}
-use Rattle.std.specs.Prelude.{Option, Some, None, is_some, List, [], ◌∷◌, ◌++◌}
-use Rattle.access_model.specs.declared.{actions.Action.{Action}, replies.Next.{Next, TheVariants.{Go, Wait, Done}}}
+use Rattle.vfs_gates.proofs.Prelude.{Action, Bool, ChangeMount, Config, DealtNumbers, Done, Entry, Event, Freeze, Go, HookAnswer, Next, None, Op}
+use Rattle.vfs_gates.proofs.Prelude.{Option, Phase, SeatedTask, Some, Traced, View, Wait, WantWrite, after_of, ap, arith, false, is_some, length}
+use Rattle.vfs_gates.proofs.Prelude.{next_of, own_number, own_view, phase_after, ran_items, refl, state_of_trace, subst, suc, sym, true, zero, ℕ, ◌+◌}
+use Rattle.vfs_gates.proofs.Prelude.{◌∙◌, ◌≡◌, ◌≤◌}
+use Rattle.gate_world.specs.{Views.{begun_view, opening_view, view_after_with_others, with_hook}, declared.accesses.Accesses.Accesses}
+use Rattle.gate_world.specs.declared.operations.Op.TheVariants.{Callback, Close, RemountSb, Snapshot, Start, Thaw, Want}
+use Rattle.gate_world.specs.traces.{TraceStates.TraceState, Traces.{MayWait, most_events}}
+use Rattle.gate_steps.{proofs.call_events.Running.{course_is, same_wait}, specs.{Rules.first_items, Seating.{deal, done_by, given_of, items_after}}}
+use Rattle.gate_steps.specs.{Seating.{kept_of, knows}, call_events.{GhostAgrees.{GhostAgrees, PhaseOk}, Refused.{IsHonestWait, WaitsHonestly}}}
+use Rattle.gate_steps.specs.call_events.{Runs.{IsBounded, begins_at, items_at}, Step.Step, Stepped.Stepped, TaskState.TaskState, Turns.state_at}
+use Rattle.gate_steps.specs.call_events.{Turns.step_was, Waited.{OpAfterStepWaiting, OpUnderWayWaiting, waits_by, waits_in}}
+use Rattle.std.{proofs.Common.{add-zero, true≢false}, specs.Prelude.{List, [], ◌++◌, ◌∷◌}}
 use Rattle.atomic_table.specs.Seated.{TableId}
-use Rattle.cpu_words.specs.{Hooks.{HookAnswer}, Touches.{event_of, found_by}, declared.events.Event.{Event}}
-use Rattle.gate_steps.proofs.call_events.Running.{course_is, same_wait}
-use Rattle.vfs_gates.specs.{TaskStates.{SeatedTask, own_number, own_view, task_state}, Waits.{StandsBy, WaitsTell, counted, is_wait}}
-use Rattle.vfs_gates.proofs.Calling.{Call, Left, same}
+use Rattle.cpu_words.specs.Touches.{event_of, found_by}
+use Rattle.vfs_gates.{proofs.Calling.{Call, Left, same}, specs.{TaskStates.task_state, Waits.{StandsBy, WaitsTell, counted, is_wait}}}
 
 -- an idle number with no operation has none to tell
 pub tell_none : (c : Config) (t : ℕ) (v : View) → v.op ≡ None → v.phase ≡ None → WaitsTell c t v 0

@@ -1,7 +1,7 @@
 -- Holdings that agree at mounts and at levels: with them a task may be at the same calls.
-use Rattle.gate_schedules.proofs.Prelude.{Bool, Config, Holdings, TreePhase, ap, arith, false, nat_lt, refl, suc, true, zero, ℕ, ◌<◌, ◌∙◌, ◌≡◌, ◌≤◌}
-use Rattle.std.specs.Prelude.{◌||◌}
-use Rattle.gate_world.specs.{Fits.TreeAccess, Holdings.Agree, Operations.{some_mount, holds_none, is_writer, is_faulter, may_mark}}
+use Rattle.gate_schedules.proofs.Prelude.{Bool, Config, Holdings, TreePhase, ap, arith, false, nat_lt, refl, suc, true, zero, ℕ, ◌<◌, ◌||◌, ◌∙◌, ◌≡◌}
+use Rattle.gate_schedules.proofs.Prelude.{◌≤◌}
+use Rattle.gate_world.specs.{Fits.TreeAccess, Holdings.Agree, Operations.{holds_none, is_faulter, is_writer, may_mark, some_mount}}
 
 pub agree_self : {c : Config} {held : Holdings} → Agree c held held
 agree_self = record { mounts = λ m lm. refl; levels = λ i one three. refl; files = λ n. refl }

@@ -1,14 +1,12 @@
 -- What the theorem says of a phase by its steps is what its role with the stage says: whether it closes a level, which stage it stored last in
 -- a freeze, and whether it owns `umount`.
-use Rattle.gate_schedules.proofs.Prelude.{Config, FreezeStep, None, Option, Phase, Some, World, ap, arith, if◌then◌else◌, shown, stage_role_of, sym}
-use Rattle.gate_schedules.proofs.Prelude.{total, ℕ, ◌==◌, ◌∙◌, ◌≡◌}
-use Rattle.std.specs.Prelude.{◌&&◌, ◌+◌}
-use Rattle.gated_tree.specs.declared.snapshots.SnapshotStep.{SnapshotStep}
-use Rattle.freeze_levels.specs.declared.thaws.ThawStep.{ThawStep}
-use Rattle.freeze_laws.specs.stages.{Roles.{Freezing, StageRole, freezes, sums, owns as stage_owns}, Shown.is_passed as passed_at_level}
-use Rattle.freeze_laws.specs.stages.Shown.{passed_shown}
-use Rattle.gate_world.specs.{Headline.freezing_at, Roles.{freeze_owns, freeze_stage_role, snapshot_owns, snapshot_stage_role, thaw_owns}}
-use Rattle.gate_world.specs.{Roles.thaw_stage_role, Rules.stage_roles, Shown.{closing, is_passed}}
+use Rattle.gate_schedules.proofs.Prelude.{Config, FreezeStep, Freezing, None, Option, Phase, SnapshotStep, Some, StageRole, ThawStep, World, ap}
+use Rattle.gate_schedules.proofs.Prelude.{arith, closing, freeze_stage_role, if◌then◌else◌, shown, stage_role_of, stage_roles, sym, total, ℕ, ◌&&◌}
+use Rattle.gate_schedules.proofs.Prelude.{◌==◌, ◌∙◌, ◌≡◌}
+use Rattle.std.specs.Prelude.{◌+◌}
+use Rattle.freeze_laws.specs.stages.{Roles.{freezes, owns as stage_owns, sums}, Shown.{is_passed as passed_at_level, passed_shown}}
+use Rattle.gate_world.specs.{Headline.freezing_at, Roles.{freeze_owns, snapshot_owns, snapshot_stage_role, thaw_owns, thaw_stage_role}}
+use Rattle.gate_world.specs.Shown.{is_passed}
 
 -- a freeze, a thaw and a snapshot own `umount` exactly where their roles with the stage say so
 pub freeze_owner : (nodes : ℕ) (s : FreezeStep) → stage_owns (freeze_stage_role nodes s) ≡ freeze_owns s

@@ -1,23 +1,21 @@
 -- What a step leaves alone.
-use Rattle.gate_schedules.proofs.Prelude.{AtLevel, AtMount, Bool, Config, Fits, Fitting, Holdings, Holds, IsGood, Option, Owner, Phase, Stages}
-use Rattle.gate_schedules.proofs.Prelude.{SyncAt, Touch, Tree, View, WordName, Words, World, ap, arith, common_steps, each_updated, eq-eqb, eqb_tells}
-use Rattle.gate_schedules.proofs.Prelude.{held_of, if◌then◌else◌, inl, inr, inside, is_frozen_whole, owns, refl, shown, stage_role_of, subst, suc}
-use Rattle.gate_schedules.proofs.Prelude.{sym, sync_role_of, tree_bounds, tree_role_of, true≢false, update, update_same, ℕ, ◌+◌, ◌<◌, ◌==◌, ◌∙◌, ◌≡◌}
-use Rattle.access_model.specs.States.{openers}
+use Rattle.gate_schedules.proofs.Prelude.{AtLevel, AtMount, Bool, Config, Files, Fits, Fitting, HasFile, Holding, Holdings, Holds, IsGood, Known}
+use Rattle.gate_schedules.proofs.Prelude.{Option, Owner, OwnerHolds, Part, Phase, Sections, StageRole, Stages, SyncAt, Touch, Tree, TreeHolds}
+use Rattle.gate_schedules.proofs.Prelude.{TreeState, View, ViewFits, WordName, Words, World, ap, arith, at_level, at_mount, closing, common_steps}
+use Rattle.gate_schedules.proofs.Prelude.{each_updated, eq-eqb, eqb_tells, file_of, has_open, held_at, held_of, holder_role_of, holders_in}
+use Rattle.gate_schedules.proofs.Prelude.{holds_level, if◌then◌else◌, inl, inr, inside, is_frozen_whole, level_added_by, level_taken_by, ne_eqb}
+use Rattle.gate_schedules.proofs.Prelude.{no_roles, node_shown, openers, opens_in, owns, refl, remounts, ro_bit, roles_of, shown, stage_role_of}
+use Rattle.gate_schedules.proofs.Prelude.{stage_roles, subst, suc, sym, sync_role_of, total_updated, tree_bounds, tree_role_of, tree_roles}
+use Rattle.gate_schedules.proofs.Prelude.{true≢false, update, update_map, update_same, ℕ, ◌+◌, ◌<◌, ◌==◌, ◌||◌, ◌∙◌, ◌≡◌}
 use Rattle.cpu_words.specs.gate_counts.Levels.{LevelHolds, LevelRole, LevelView, Out as CountsNot}
-use Rattle.finite_sums.proofs.Totals.{total_updated, update_map}
-use Rattle.freeze_levels.specs.{Holders.holders_in, holder_laws.Roles.{HolderRole, HoldersHold}}
+use Rattle.freeze_levels.specs.holder_laws.Roles.{HolderRole, HoldersHold}
 use Rattle.gate_schedules.proofs.frames.Known.{known_same}
-use Rattle.gate_world.specs.{Fits.{HasFile, file_of}, Levels.{at_level, level_added_by, level_taken_by}, Owners.KnowsWords, Roles.count_role_if}
-use Rattle.gate_world.specs.{Roles.{role_if, sync_role_if}, Rules.{Files, GatesHold, Holding, IsSteady, Known, OwnerHolds, Part, SameView, SameWords}}
-use Rattle.gate_world.specs.{Rules.{Sections, ViewFits, at_mount, holder_role_of, holder_roles, remounts, stage_roles}, SameRoles.{Roles, no_roles}}
-use Rattle.gate_world.specs.{SameRoles.roles_of, Shown.{closing, is_passed}, Trees.tree_roles, Views.{added_after, has_open, held_at, holds_level}}
-use Rattle.gate_world.specs.Views.{taken_after}
-use Rattle.node_words.specs.Nodes.{node_shown, opens_in}
-use Rattle.gated_tree.specs.Roles.{Role as TreeRole, TreeHolds, TreeState}
-use Rattle.freeze_laws.specs.{levels.Roles.{Out as IsApart, SyncNumberHolds, SyncRole}, stages.Roles.{StageRole, StagesHold}}
-use Rattle.mount_counts.specs.Roles.{MountHolds, MountView, Out, Role, ro_bit}
-use Rattle.std.{proofs.lemmas.Bool.ne_eqb, specs.Prelude.{false, true, ◌%◌, ◌||◌}}
+use Rattle.gate_world.specs.{Owners.KnowsWords, Roles.{count_role_if, role_if, sync_role_if}, Rules.{GatesHold, IsSteady, SameView, SameWords}}
+use Rattle.gate_world.specs.{Rules.holder_roles, SameRoles.Roles, Shown.is_passed, Views.{added_after, taken_after}}
+use Rattle.gated_tree.specs.Roles.{Role as TreeRole}
+use Rattle.freeze_laws.specs.{levels.Roles.{Out as IsApart, SyncNumberHolds, SyncRole}, stages.Roles.StagesHold}
+use Rattle.mount_counts.specs.Roles.{MountHolds, MountView, Out, Role}
+use Rattle.std.specs.Prelude.{false, true, ◌%◌}
 
 pub added_load : (name : WordName) (added : ℕ → ℕ → ℕ) → added_after name Touch.Load added ≡ added
 added_load name added = grind arith

@@ -1,10 +1,10 @@
 -- Who holds a freeze, as the laws of the holders have it: what holds of it in a state, and what a step of a task leaves of it.
-use Rattle.gate_schedules.proofs.Prelude.{Config, Holds, IsGood, Option, Owner, Phase, View, Words, World, ap, arith, eqb_tells, inl, inr, owns}
-use Rattle.gate_schedules.proofs.Prelude.{subst, sym, total, update, update_same, ℕ, ◌<◌, ◌∙◌, ◌≡◌, ◌≤◌}
-use Rattle.finite_sums.proofs.Totals.{total_none, update_map}
-use Rattle.freeze_levels.{proofs.holder_laws.HolderLaws.events_keep, specs.holder_laws.Events.{HolderMoment, HolderEvent, Happens, Moves, Stays}}
+use Rattle.gate_schedules.proofs.Prelude.{Config, Holding, Holds, IsGood, Option, Owner, Phase, View, Words, World, ap, arith, eqb_tells}
+use Rattle.gate_schedules.proofs.Prelude.{holder_role_of, inl, inr, owns, subst, sym, total, total_none, update, update_map, update_same, ℕ, ◌<◌, ◌∙◌}
+use Rattle.gate_schedules.proofs.Prelude.{◌≡◌, ◌≤◌}
+use Rattle.freeze_levels.{proofs.holder_laws.HolderLaws.events_keep, specs.holder_laws.Events.{Happens, HolderEvent, HolderMoment, Moves, Stays}}
 use Rattle.freeze_levels.specs.holder_laws.Roles.{HoldersHold, minds}
-use Rattle.gate_world.specs.Rules.{Holding, holder_role_of, holder_roles}
+use Rattle.gate_world.specs.Rules.{holder_roles}
 use Rattle.gate_schedules.proofs.frames.Owners.{owns_le}
 
 pub holder_owner : (p : Option Phase) → minds (holder_role_of p) ≤ owns p

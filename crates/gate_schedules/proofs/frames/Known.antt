@@ -1,11 +1,10 @@
 -- What the owner of `umount` has found or left is still there: nobody else changes such a word.
-use Rattle.gate_schedules.proofs.Prelude.{Config, Holds, HookAnswer, IsGood, List, None, Owner, Phase, Some, Touch, Traced, View, WordName, Words}
-use Rattle.gate_schedules.proofs.Prelude.{World, [], after_of, after_step, ap, arith, cases_Bool, each_updated, found_at, inl, inr, left, owns}
-use Rattle.gate_schedules.proofs.Prelude.{phase_after, put, read, sym, true, true≢false, words_after, ℕ, ◌<◌, ◌∙◌, ◌∷◌, ◌≡◌}
-use Rattle.std.{proofs.Common.◌⊎◌, specs.Prelude.{false, is_some}}
-use Rattle.cpu_words.specs.{Touches.event_of, declared.events.Event.Event}
-use Rattle.gate_world.specs.{Owners.{is_owned, is_owned_word, last_left, takes_lock, KnowsWords}, Rules.Known, Views.view_after, Work.next_of}
-use Rattle.gate_world.specs.{Worlds.value_at, traces.Found.is_load}
+use Rattle.gate_schedules.proofs.Prelude.{Config, Event, Holds, HookAnswer, IsGood, Known, List, None, Owner, Phase, Some, Touch, Traced, View}
+use Rattle.gate_schedules.proofs.Prelude.{WordName, Words, World, [], after_of, after_step, ap, arith, cases_Bool, each_updated, event_of, found_at}
+use Rattle.gate_schedules.proofs.Prelude.{inl, inr, is_some, left, next_of, owns, phase_after, put, read, sym, true, true≢false, value_at, view_after}
+use Rattle.gate_schedules.proofs.Prelude.{words_after, ℕ, ◌<◌, ◌∙◌, ◌∷◌, ◌≡◌}
+use Rattle.std.{proofs.Common.◌⊎◌, specs.Prelude.false}
+use Rattle.gate_world.specs.{Owners.{KnowsWords, is_owned, is_owned_word, last_left, takes_lock}, traces.Found.is_load}
 
 none_is_none : {A : Type 0} {B : Type 0} (x : A) → None ≡ Some x → B
 none_is_none x h = absurd (true≢false (ap is_some (sym h)))

@@ -1,6 +1,6 @@
 -- How many tasks may have a file open, and how much one of them counts.
-use Rattle.gate_schedules.proofs.Prelude.{Bool, arith, false, refl, true, ◌≡◌, ◌≤◌}
-use Rattle.access_model.specs.States.{one_if, most_tasks}
+use Rattle.gate_schedules.proofs.Prelude.{Bool, arith, false, one_if, refl, true, ◌≡◌, ◌≤◌}
+use Rattle.access_model.specs.States.{most_tasks}
 
 -- a model has at most 64 tasks
 pub most_tasks_is : most_tasks ≡ 64

@@ -1,13 +1,12 @@
 -- What is proved of an operation: of each of its phases, and of its beginning and its trace.
-use Rattle.gate_schedules.proofs.Prelude.{Action, Bool, Config, Err, Fits, GateError, Holdings, HookAnswer, IsGood, IsWithin, List, None, Op, Option}
-use Rattle.gate_schedules.proofs.Prelude.{Phase, PhaseFits, Some, StepKeeps, SyncStep, Traced, WordName, World, after_of, after_step, arith, false}
-use Rattle.gate_schedules.proofs.Prelude.{found_at, held_after, held_of, level_in, phase_after, true, ℕ, ◌+◌, ◌<◌, ◌∷◌, ◌≡◌, ◌≤◌}
-use Rattle.cpu_words.specs.Names.{Extents, IsWord}
-use Rattle.gate_world.specs.{Beginnings.{first_phase, is_in_order, is_in_range, is_within_room}, Configs.{extents_among, extents_of}, Fits.ActionFits}
-use Rattle.gate_world.specs.{Fits.{HasFile, file_of}, Holdings.{Agree, holdings_of}, Moments.CompletesNow, SameRoles.{no_roles, roles_of}}
-use Rattle.gate_world.specs.{Work.next_of, refusals.{Causes.{all_counted, all_inside}, KeptCauses.CauseOf, Waits.HasReason}, traces.Traces.actions_of}
-use Rattle.gate_world.specs.traces.Traces.{most_events}
-use Rattle.std.{proofs.Common.◌-◌, specs.Prelude.◌++◌}
+use Rattle.gate_schedules.proofs.Prelude.{Action, ActionFits, Bool, CauseOf, Config, Err, Fits, GateError, HasFile, HasReason, Holdings, HookAnswer}
+use Rattle.gate_schedules.proofs.Prelude.{IsGood, IsWithin, IsWord, List, None, Op, Option, Phase, PhaseFits, Some, StepKeeps, SyncStep, Traced}
+use Rattle.gate_schedules.proofs.Prelude.{WordName, World, after_of, after_step, arith, false, file_of, found_at, held_after, held_of, holdings_of}
+use Rattle.gate_schedules.proofs.Prelude.{level_in, next_of, no_roles, phase_after, roles_of, true, ℕ, ◌+◌, ◌-◌, ◌<◌, ◌∷◌, ◌≡◌, ◌≤◌}
+use Rattle.cpu_words.specs.Names.{Extents}
+use Rattle.gate_world.specs.{Beginnings.{first_phase, is_in_order, is_in_range, is_within_room}, Configs.{extents_among, extents_of}, Holdings.Agree}
+use Rattle.gate_world.specs.{Moments.CompletesNow, refusals.Causes.{all_counted, all_inside}, traces.Traces.{actions_of, most_events}}
+use Rattle.std.specs.Prelude.{◌++◌}
 use Rattle.gate_schedules.proofs.traces.TraceInvariant.{TraceLaws}
 
 pub by_bool : (b : Bool) (P : Bool → Type 0) → P true → P false → P b

@@ -1,12 +1,12 @@
 -- What every owner of `umount` may rely on, and its steps: under the lock, on the word `umount`, and on a mount's flags.
-use Rattle.gate_schedules.proofs.Prelude.{AtMount, Bool, Config, Holdings, IsGood, Option, Owner, Phase, View, Words, World, ap, arith, each_updated}
-use Rattle.gate_schedules.proofs.Prelude.{eqb_tells, held_of, inl, inr, owns, refl, shown, suc, total, update, update_at, update_same, ℕ, ◌+◌, ◌<◌}
-use Rattle.gate_schedules.proofs.Prelude.{◌==◌, ◌∙◌, ◌≡◌, ◌≤◌}
-use Rattle.finite_sums.proofs.Totals.{HasPlace, total_at, total_none, total_place, total_updated, update_map, update_off}
+use Rattle.gate_schedules.proofs.Prelude.{AtMount, Bool, Config, Holdings, IsGood, Option, Owner, OwnerHolds, Phase, View, ViewFits, Words, World}
+use Rattle.gate_schedules.proofs.Prelude.{added_by, ap, arith, at_mount, closing, each_updated, eqb_tells, has_hold, held_of, inl, inr, owns, refl}
+use Rattle.gate_schedules.proofs.Prelude.{remounts, ro_bit, role_of, shown, suc, taken_by, total, total_at, total_none, total_updated, update}
+use Rattle.gate_schedules.proofs.Prelude.{update_at, update_map, update_off, update_same, ℕ, ◌+◌, ◌<◌, ◌==◌, ◌∙◌, ◌≡◌, ◌≤◌}
+use Rattle.finite_sums.proofs.Totals.{HasPlace, total_place}
 use Rattle.gate_schedules.proofs.frames.Frames.{MountHoldsAfter, gates_after, holds_as, owner_same, shown_held, shown_still, view_as}
-use Rattle.gate_world.specs.{Rules.{GatesHold, IsSteady, OwnerHolds, ViewFits, at_mount, remounts, role_of}, Shown.closing, Views.added_by}
-use Rattle.gate_world.specs.{Views.taken_by, refusals.Waits.{HasCulprit, IsWaitedFor}}
-use Rattle.mount_counts.specs.Roles.{Role, has_hold, hold_bit, ro_bit, skips}
+use Rattle.gate_world.specs.{Rules.{GatesHold, IsSteady}, refusals.Waits.{HasCulprit, IsWaitedFor}}
+use Rattle.mount_counts.specs.Roles.{Role, hold_bit, skips}
 use Rattle.std.specs.Prelude.{◌-◌}
 
 pub owns_le : (p : Option Phase) → owns p ≤ 1

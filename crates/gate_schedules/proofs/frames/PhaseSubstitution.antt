@@ -1,8 +1,9 @@
 -- An operation that stands at a phase of another one, as a part of its own: the law of the other's step is the law of its step.
-use Rattle.gate_schedules.proofs.Prelude.{Action, Config, Fits, Holds, HookAnswer, IsGood, Next, Option, Phase, Touch, Tree, View, WordName, World}
-use Rattle.gate_schedules.proofs.Prelude.{ap, held_after, held_of, phase_after, refl, shown, subst, sym, update_at, ℕ, ◌<◌, ◌∙◌, ◌≡◌}
+use Rattle.gate_schedules.proofs.Prelude.{Action, Config, Files, Fits, Holds, HookAnswer, IsGood, Moves, Next, Option, Phase, Touch, Tree, View}
+use Rattle.gate_schedules.proofs.Prelude.{WordName, World, ap, held_after, held_of, phase_after, refl, roles_of, shown, subst, sym, update_at, ℕ, ◌<◌}
+use Rattle.gate_schedules.proofs.Prelude.{◌∙◌, ◌≡◌}
 use Rattle.gate_schedules.proofs.frames.{Frames.left_alone, SameRolesOffTree.{made, made_again, made_keeps_off_tree, rephased_off_tree}}
-use Rattle.gate_world.specs.{Rules.{Files, Moves}, SameRoles.{SameRoles, Roles, at_phase, off_tree, rephased, roles_of}}
+use Rattle.gate_world.specs.SameRoles.{Roles, SameRoles, at_phase, off_tree, rephased}
 
 pub alike_of : {p q : Option Phase} {r : Roles} → p ≡ q → r ≡ roles_of q → r ≡ roles_of p
 alike_of e h = h ∙ sym (ap roles_of e)

@@ -1,13 +1,13 @@
 -- An operation that stands at a phase of another one, and relies on something at the tree meanwhile, as a last close does inside level 3:
 -- the law of the other's step is the law of its step, but for the tree and the open files, which the step leaves alone.
-use Rattle.gate_schedules.proofs.Prelude.{Action, AtLevel, AtMount, Bool, Config, Fits, Fitting, Holds, HookAnswer, IsGood, Next, Option, Owner}
-use Rattle.gate_schedules.proofs.Prelude.{Phase, Stages, SyncAt, SyncStep, Touch, Tree, View, WordName, World, ap, arith, each_updated, false}
-use Rattle.gate_schedules.proofs.Prelude.{held_after, held_of, if◌then◌else◌, left, level_in, phase_after, put, read, refl, shown, subst, sym, true}
-use Rattle.gate_schedules.proofs.Prelude.{true≢false, update, update_at, ℕ, ◌<◌, ◌∙◌, ◌≡◌}
+use Rattle.gate_schedules.proofs.Prelude.{Action, AtLevel, AtMount, Bool, Config, Files, Fits, Fitting, Holding, Holds, HookAnswer, IsGood, Known}
+use Rattle.gate_schedules.proofs.Prelude.{Moves, Next, Option, Owner, Part, Phase, Sections, Stages, SyncAt, SyncStep, Touch, Tree, View, ViewFits}
+use Rattle.gate_schedules.proofs.Prelude.{WordName, World, added_by, ap, arith, each_updated, false, held_after, held_of, if◌then◌else◌, left}
+use Rattle.gate_schedules.proofs.Prelude.{level_added_by, level_in, level_taken_by, phase_after, put, read, refl, roles_of, shown, subst, sym}
+use Rattle.gate_schedules.proofs.Prelude.{taken_by, true, true≢false, update, update_at, view_with, ℕ, ◌<◌, ◌∙◌, ◌≡◌}
 use Rattle.gate_schedules.proofs.frames.{Accesses.holdings_of_after, ByPhase.closing_as, Frames.{left_alone, same_words, shown_still}}
 use Rattle.gate_schedules.proofs.levels.Steps.{level_kept}
-use Rattle.gate_world.specs.{Levels.{level_added_by, level_taken_by}, Rules.{Files, Holding, Known, Moves, Part, SameView, Sections, ViewFits}}
-use Rattle.gate_world.specs.{SameRoles.{SameRolesOffTree, Roles, at_phase, off_tree, rephased, roles_of}, Views.{added_by, taken_by, view_with}}
+use Rattle.gate_world.specs.{Rules.SameView, SameRoles.{Roles, SameRolesOffTree, at_phase, off_tree, rephased}}
 
 pub roles_off_tree : {p q : Option Phase} {r : Roles} → p ≡ q → r ≡ off_tree (roles_of q) → r ≡ off_tree (roles_of p)
 roles_off_tree e h = h ∙ sym (ap (λ p. off_tree (roles_of p)) e)

@@ -1,9 +1,9 @@
 -- The invariant and the shown state read no snapshot.
-use Rattle.gate_schedules.proofs.Prelude.{Config, Holds, HookAnswer, IsGood, List, None, Phase, Traced, View, Words, World, after_of, after_step, ap}
-use Rattle.gate_schedules.proofs.Prelude.{arith, eqb_tells, found_at, found_by, inl, inr, refl, shown, subst, sym, update, words_after, ℕ, ◌∙◌, ◌≡◌}
-use Rattle.std.{proofs.{Math.Path.fun_ext, lemmas.Bool.true≢false}, specs.Prelude.is_some}
-use Rattle.gate_world.specs.{Moments.CompletesNow, Rules.Part, Views.{view_with, view_after, view_after_with_others}, Work.next_of, Worlds.value_at}
-use Rattle.gate_world.specs.{Worlds.after_step_with_others, traces.Snapshots.completes}
+use Rattle.gate_schedules.proofs.Prelude.{Config, Holds, HookAnswer, IsGood, List, None, Part, Phase, Traced, View, Words, World, after_of}
+use Rattle.gate_schedules.proofs.Prelude.{after_step, ap, arith, eqb_tells, found_at, found_by, inl, inr, is_some, next_of, refl, shown, subst, sym}
+use Rattle.gate_schedules.proofs.Prelude.{update, value_at, view_after, view_with, words_after, ℕ, ◌∙◌, ◌≡◌}
+use Rattle.std.proofs.{Math.Path.fun_ext, lemmas.Bool.true≢false}
+use Rattle.gate_world.specs.{Moments.CompletesNow, Views.view_after_with_others, Worlds.after_step_with_others, traces.Snapshots.completes}
 
 -- a view, and a state, without their snapshots
 abbrev view_without_snapshot : View → View

@@ -1,18 +1,14 @@
 -- The stage of a state, as the laws of the stage have it: what holds of it, what a step of a task leaves of it, and which actions are
 -- allowed.
-use Rattle.gate_schedules.proofs.Prelude.{Action, Bool, Config, Holdings, Holds, IsGood, Option, Owner, Phase, Some, Stages, View, Words, World, ap}
-use Rattle.gate_schedules.proofs.Prelude.{arith, held_of, owns, refl, shown, stage_role_of, subst, sym, total, update, update_same, ℕ, ◌<◌, ◌==◌, ◌∙◌}
-use Rattle.gate_schedules.proofs.Prelude.{◌≡◌, ◌≤◌}
-use Rattle.access_model.specs.{Actions.IsAllowed, States.{State, is_dirty}}
-use Rattle.finite_sums.proofs.Totals.{total_none, update_map}
-use Rattle.freeze_levels.specs.Holders.{holders_in}
+use Rattle.gate_schedules.proofs.Prelude.{Action, Bool, Config, Holdings, Holds, IsGood, Option, Owner, Phase, Some, StageEvent, StageRole, Stages}
+use Rattle.gate_schedules.proofs.Prelude.{State, View, Words, World, ap, arith, dirty_in, has_open, held_at, held_of, holders_in, holds_level}
+use Rattle.gate_schedules.proofs.Prelude.{marks_of, model_limits, node_shown, owns, refl, ro_bit, shown, stage_role_of, stage_roles, subst, sym}
+use Rattle.gate_schedules.proofs.Prelude.{total, total_none, update, update_map, update_same, ℕ, ◌<◌, ◌==◌, ◌∙◌, ◌≡◌, ◌≤◌}
+use Rattle.access_model.specs.{Actions.IsAllowed, States.is_dirty}
 use Rattle.gate_schedules.proofs.{frames.{ByPhase.shown_passed, Owners.owns_le}, trees.worlds.Trees.marks_right}
-use Rattle.gate_world.specs.{Configs.model_limits, Rules.{marks_of, stage_roles}, Views.{has_open, held_at, holds_level}}
-use Rattle.node_words.specs.Nodes.{dirty_in, node_shown}
-use Rattle.mount_counts.specs.Roles.{ro_bit}
 use Rattle.freeze_laws.{proofs.stages.CitedLaws.{actions_are_allowed, actions_have_their_effect, events_keep}, specs.stages.Events.Happens}
-use Rattle.freeze_laws.specs.stages.Events.{Holds as StageHolds, SameDuties, RepresentsStages, StageEvent, Stages as StageMoment, action_of}
-use Rattle.freeze_laws.specs.stages.{Roles.{Owning, StageRole, owns as stage_owns}, Shown.{AsksOthers, ShowsStages, passed_shown, state_after}}
+use Rattle.freeze_laws.specs.stages.{Events.{Holds as StageHolds, RepresentsStages, SameDuties, Stages as StageMoment, action_of}, Roles.Owning}
+use Rattle.freeze_laws.specs.stages.{Roles.owns as stage_owns, Shown.{AsksOthers, ShowsStages, passed_shown, state_after}}
 use Rattle.std.specs.Prelude.{false}
 
 -- owners that rely on one thing or another are alike

@@ -1,24 +1,24 @@
 -- The next step of each task is on a word that holds what it may: the word of a node of the tree is a node's, and the sync word of a level
 -- is one.
-use Rattle.gate_schedules.proofs.Prelude.{Config, DownRead, Fits, Fitting, Holdings, HookAnswer, IsGood, IsWithin, Phase, PhaseFits, Some, SyncAt}
-use Rattle.gate_schedules.proofs.Prelude.{Tree, TreePhase, WordName, World, ap, arith, each_updated, false, held_of, read, subst, total, tree_bounds}
-use Rattle.gate_schedules.proofs.Prelude.{tree_role_of, true, update, ℕ, ◌<◌, ◌≡◌, ◌≤◌}
-use Rattle.std.{proofs.Common.◌*◌, specs.Prelude.is_some}
-use Rattle.percpu_rwsem.specs.{Readers.down_read_next, declared.readers.DownReadStep.DownReadStep}
-use Rattle.composite_ops.specs.declared.file_closes.phases.ClosePhase.{TheVariants.{LoadsFile as CloseLoadsFile, LowersCount}, ClosePhase}
+use Rattle.gate_schedules.proofs.Prelude.{ClosePhase, Config, DownRead, DownReadStep, Files, Fits, Fitting, HasFile, Holdings, HookAnswer, IsGood}
+use Rattle.gate_schedules.proofs.Prelude.{IsWithin, OpenFile, OpenStep, Phase, PhaseFits, RoleHolds, Some, SyncAt, Tree, TreePhase, WordName, World}
+use Rattle.gate_schedules.proofs.Prelude.{ap, arith, down_read_next, each_updated, false, file_of, has_open, held_of, is_some, next_of, one_if}
+use Rattle.gate_schedules.proofs.Prelude.{opens_in, read, subst, total, total_at, total_updated, tree_bounds, tree_role_of, true, update, ℕ, ◌<◌, ◌≡◌}
+use Rattle.gate_schedules.proofs.Prelude.{◌≤◌}
+use Rattle.std.proofs.Common.{◌*◌}
 use Rattle.composite_ops.specs.declared.file_closes.phases.ClosePhase.TheVariants.{Enters as EntersLevel, FreesNode as ClosesNode}
+use Rattle.composite_ops.specs.declared.file_closes.phases.ClosePhase.TheVariants.{LoadsFile as CloseLoadsFile, LowersCount}
 use Rattle.composite_ops.specs.file_closes.Phases.{next as close_next}
 use Rattle.freeze_levels.specs.declared.freezes.FreezeStep.TheVariants.{Closes}
-use Rattle.node_words.{proofs.Packing.packed_unpacks, specs.Nodes.{unpacked, opens_in}}
-use Rattle.gated_tree.specs.{Calls.TreePhaseFits, Phases.{next as tree_next, open_next}, Roles.RoleHolds, declared.opens.OpenFile.OpenFile}
-use Rattle.gated_tree.specs.declared.opens.OpenStep.{TheVariants.{LoadsFile as LoadsFileToOpen, OpensFile}, OpenStep}
+use Rattle.node_words.{proofs.Packing.packed_unpacks, specs.Nodes.unpacked}
+use Rattle.gated_tree.specs.{Calls.TreePhaseFits, Phases.{next as tree_next, open_next}}
+use Rattle.gated_tree.specs.declared.opens.OpenStep.TheVariants.{LoadsFile as LoadsFileToOpen, OpensFile}
 use Rattle.gated_tree.specs.declared.phases.TreePhase.TheVariants.{OpenFile as OpensOne}
-use Rattle.gate_world.specs.{Fits.{CloseFits, HasFile, file_of}, Rules.{Files, SyncHoldsIn}, Views.has_open, Work.next_of}
-use Rattle.gate_world.specs.{declared.work.Phase.TheVariants.{Trees, Closes}, traces.TraceStates.{WordIsValid, ReadIsValid, CloseReadIsValid}}
-use Rattle.gate_world.specs.traces.TraceStates.{OpenReadIsValid, EventsMayBe}
+use Rattle.gate_world.specs.{Fits.CloseFits, Rules.SyncHoldsIn, declared.work.Phase.TheVariants.{Closes, Trees}, traces.TraceStates.CloseReadIsValid}
+use Rattle.gate_world.specs.traces.TraceStates.{EventsMayBe, OpenReadIsValid, ReadIsValid, WordIsValid}
 use Rattle.cpu_words.specs.declared.names.WordName.TheVariants.{Node, Sync}
-use Rattle.finite_sums.proofs.Totals.{total_at, total_updated, total_bound}
-use Rattle.access_model.specs.States.{one_if, most_tasks}
+use Rattle.finite_sums.proofs.Totals.{total_bound}
+use Rattle.access_model.specs.States.{most_tasks}
 use Rattle.gate_schedules.proofs.frames.Openers.{most_tasks_is, one_le}
 
 -- the word of a node is that of one of the tree's, and a sync word that of one of the levels

@@ -1,27 +1,25 @@
 -- What each step of a down-write leaves of the levels: it enters the rcu_sync of its level, sets `block`, and sums the counts until nobody
 -- is counted.
-use Rattle.gate_schedules.proofs.Prelude.{Action, AtLevel, Config, Holds, IsGood, IsWithin, Next, Option, Phase, Some, Stages, SyncStep, Touch, View}
-use Rattle.gate_schedules.proofs.Prelude.{WordName, Words, World, ap, arith, common_steps, eq-eqb, eqb_tells, found_by, if◌then◌else◌, inl, inr}
-use Rattle.gate_schedules.proofs.Prelude.{is_frozen_whole, left, level_in, put, read, refl, stage_role_of, subst, suc, sym, sync_role_of, total}
-use Rattle.gate_schedules.proofs.Prelude.{true≢false, update, update_at, update_same, ℕ, ◌+◌, ◌<◌, ◌==◌, ◌∙◌, ◌≡◌, ◌≤◌}
-use Rattle.std.{proofs.lemmas.Option.none-some, specs.Prelude.{Bool, true, false}}
-use Rattle.finite_sums.proofs.Totals.{update_map}
-use Rattle.cpu_words.{proofs.gate_counts.LevelLaws.{swaps, sums_on, passes, sums_anew, none_passed}, specs.{Sums.sum_taking, Touches.wrap_add}}
-use Rattle.cpu_words.specs.{declared.sums.{Sum.Sum, Taken.Taken}, gate_counts.Levels.{LevelRole, LevelView, LevelHolds, Out as CountsNot, Summing}}
-use Rattle.cpu_words.specs.gate_counts.Levels.{Passed as CountsPassed}
-use Rattle.percpu_rwsem.specs.{Graces.looked, SyncWords.{unpack, is_passed, is_queued, on_enter, on_callback}, Transitions.transition_after}
-use Rattle.percpu_rwsem.specs.Writers.{down_write_next, down_write_after, at_down_write, enter_step, callback_step, sections_awaited, passed_awaited}
-use Rattle.percpu_rwsem.specs.{Writers.{sum_begun, down_write_summed}, declared.{grace.GraceNext.GraceNext, sync_word.GpState.GpState}}
-use Rattle.percpu_rwsem.specs.declared.{sync_word.SyncWord.SyncWord, transitions.{Transition.Transition, TransitionNext.TransitionNext}}
-use Rattle.percpu_rwsem.specs.declared.writers.{DownWrite.DownWrite, DownWriteStep.DownWriteStep}
-use Rattle.freeze_laws.proofs.{levels.{EventLaws.swap_keeps, Operations.down_writes_are_there}, stages.{Facts.total_alone, Positions.other_position}}
-use Rattle.freeze_laws.{proofs.stages.Positions.not_full, specs.levels.{Events.SyncLevelHolds, Operations.{down_write_role, value_at, left_by}}}
-use Rattle.freeze_laws.specs.{levels.{Operations.{by_next, HoldsOfNext}, Roles.{Out as IsApart, Closed, entered}}, stages.Roles.has_position}
-use Rattle.gate_world.specs.{Fits.DownWriteFits, Levels.{at_level, level_role_of}, Roles.{LevelPosition, position_count, position_sync}}
-use Rattle.gate_world.specs.{Roles.down_count_role, Rules.stage_roles, Views.holds_level}
-use Rattle.gate_schedules.proofs.{frames.Frames.SameLevelCounts, levels.LevelPositions.{HasPosition, closing_position, position_after_closing}}
-use Rattle.gate_schedules.proofs.levels.{LevelPositions.{LevelsHold, left_world}, PositionRoles.{count_at, sync_at, SayBeside, counts_left}}
-use Rattle.gate_schedules.proofs.levels.{PositionRoles.{counts_become, levels_move}, Worlds.{level_right, found_level, IsEventAt, event_word}}
+use Rattle.gate_schedules.proofs.Prelude.{Action, AtLevel, Config, DownWrite, DownWriteStep, Holds, IsGood, IsWithin, LevelPosition, Next, Option}
+use Rattle.gate_schedules.proofs.Prelude.{Phase, Some, Stages, Sum, SyncStep, Touch, Transition, TransitionNext, View, WordName, Words, World, ap}
+use Rattle.gate_schedules.proofs.Prelude.{arith, at_level, common_steps, down_write_after, down_write_next, eq-eqb, eqb_tells, found_by, holds_level}
+use Rattle.gate_schedules.proofs.Prelude.{if◌then◌else◌, inl, inr, is_frozen_whole, left, left_by, level_in, level_role_of, position_sync, put, read}
+use Rattle.gate_schedules.proofs.Prelude.{refl, stage_role_of, stage_roles, subst, suc, sym, sync_role_of, total, transition_after, true≢false}
+use Rattle.gate_schedules.proofs.Prelude.{unpack, update, update_at, update_map, update_same, wrap_add, ℕ, ◌+◌, ◌<◌, ◌==◌, ◌∙◌, ◌≡◌, ◌≤◌}
+use Rattle.std.{proofs.lemmas.Option.none-some, specs.Prelude.{Bool, false, true}}
+use Rattle.cpu_words.{proofs.gate_counts.LevelLaws.{none_passed, passes, sums_anew, sums_on, swaps}, specs.Sums.sum_taking}
+use Rattle.cpu_words.specs.{declared.sums.Taken.Taken, gate_counts.Levels.{LevelHolds, LevelRole, LevelView, Out as CountsNot}}
+use Rattle.cpu_words.specs.gate_counts.Levels.{Passed as CountsPassed, Summing}
+use Rattle.percpu_rwsem.specs.{Graces.looked, SyncWords.{is_passed, is_queued, on_callback, on_enter}, Writers.{at_down_write, callback_step}}
+use Rattle.percpu_rwsem.specs.Writers.{down_write_summed, enter_step, passed_awaited, sections_awaited, sum_begun}
+use Rattle.percpu_rwsem.specs.declared.{grace.GraceNext.GraceNext, sync_word.{GpState.GpState, SyncWord.SyncWord}}
+use Rattle.freeze_laws.proofs.{levels.{EventLaws.swap_keeps, Operations.down_writes_are_there}, stages.{Facts.total_alone, Positions.not_full}}
+use Rattle.freeze_laws.{proofs.stages.Positions.other_position, specs.levels.{Events.SyncLevelHolds, Operations.{HoldsOfNext, by_next}}}
+use Rattle.freeze_laws.specs.{levels.{Operations.{down_write_role, value_at}, Roles.{Closed, Out as IsApart, entered}}, stages.Roles.has_position}
+use Rattle.gate_world.specs.{Fits.DownWriteFits, Roles.{down_count_role, position_count}}
+use Rattle.gate_schedules.proofs.{frames.Frames.SameLevelCounts, levels.LevelPositions.{HasPosition, LevelsHold, closing_position, left_world}}
+use Rattle.gate_schedules.proofs.levels.{LevelPositions.position_after_closing, PositionRoles.{SayBeside, count_at, counts_become, counts_left}}
+use Rattle.gate_schedules.proofs.levels.{PositionRoles.{levels_move, sync_at}, Worlds.{IsEventAt, event_word, found_level, level_right}}
 
 -- each step of a down-write is one of its level, and changes no section word
 pub down_write_event : (d : DownWrite) (s : DownWriteStep) → IsEventAt d.level (down_write_next d s).0 (down_write_next d s).1

@@ -1,13 +1,10 @@
 -- What the invariant says of a level's sync word where a writer or a callback makes a transition of it: the transition is defined.
-use Rattle.gate_schedules.proofs.Prelude.{Bool, None, Option, Some, ap, arith, eqb_tells, found_by, inl, inr, left, nat_lt, refl, suc, total, true}
-use Rattle.gate_schedules.proofs.Prelude.{zero, ℕ, ◌<◌, ◌∙◌, ◌≡◌, ◌≤◌}
-use Rattle.std.proofs.lemmas.Bool.{lt-ltb}
-use Rattle.finite_sums.proofs.Totals.{total_at, total_none}
-use Rattle.percpu_rwsem.specs.{Readers.step_in, SyncWords.{bit, unpack, is_lawful, is_passed, is_awaited, on_enter, on_exit, on_callback}}
-use Rattle.percpu_rwsem.specs.{Transitions.{transition_next, transition_after}, declared.readers.DownReadStep.DownReadStep}
-use Rattle.percpu_rwsem.specs.declared.{sync_word.{GpState.GpState, SyncWord.SyncWord}, transitions.Transition.Transition}
-use Rattle.percpu_rwsem.specs.declared.transitions.TransitionNext.{TransitionNext}
-use Rattle.freeze_laws.{proofs.stages.Facts.other_zero, specs.levels.Roles.{SyncRole, entering, entered, claimed, closed, enter_bit, SyncHolds}}
+use Rattle.gate_schedules.proofs.Prelude.{Bool, DownReadStep, None, Option, Some, Transition, TransitionNext, ap, arith, closed, eqb_tells, found_by}
+use Rattle.gate_schedules.proofs.Prelude.{inl, inr, left, lt-ltb, nat_lt, on_exit, refl, suc, total, total_at, total_none, transition_after, true}
+use Rattle.gate_schedules.proofs.Prelude.{unpack, zero, ℕ, ◌<◌, ◌∙◌, ◌≡◌, ◌≤◌}
+use Rattle.percpu_rwsem.specs.{Readers.step_in, SyncWords.{bit, is_awaited, is_lawful, is_passed, on_callback, on_enter}, Transitions.transition_next}
+use Rattle.percpu_rwsem.specs.declared.sync_word.{GpState.GpState, SyncWord.SyncWord}
+use Rattle.freeze_laws.{proofs.stages.Facts.other_zero, specs.levels.Roles.{SyncHolds, SyncRole, claimed, enter_bit, entered, entering}}
 use Rattle.gate_schedules.{proofs.operations.deadlocks.FreezeProgress.not_none, specs.operations.Ranks.exchange_rank}
 
 -- what comes after a step of a transition has a lower rank, or it is made, or it is not defined, which is this

@@ -2,10 +2,10 @@
 use Rattle.gate_schedules.proofs.Prelude.{AtLevel, Config, IsGood, IsWithin, None, Some, SyncStep, View, Words, World, ap, arith, common_steps}
 use Rattle.gate_schedules.proofs.Prelude.{inside, is_frozen_whole, level_in, refl, subst, sym, sync_role_of, update, ℕ, ◌<◌, ◌∙◌, ◌≡◌}
 use Rattle.cpu_words.{proofs.gate_counts.LevelLaws.{is_left_frozen, thaws}, specs.gate_counts.Levels.{Out as CountsNot, Passed as CountsPassed}}
-use Rattle.freeze_laws.specs.levels.{Events.{Freezes, Thaws}, Roles.{SyncRole, Out as IsApart, Closed}}
+use Rattle.freeze_laws.specs.levels.{Events.{Freezes, Thaws}, Roles.{Closed, Out as IsApart, SyncRole}}
 use Rattle.gate_world.specs.Roles.{closed_to}
 use Rattle.gate_schedules.proofs.{frames.Frames.SameLevelCounts, levels.LevelPositions.{HasPosition, LevelsHold, LevelsRun, left_world}}
-use Rattle.gate_schedules.proofs.levels.{PositionRoles.{count_closed, sync_closed, counts_become, sections_left}, Worlds.level_steps}
+use Rattle.gate_schedules.proofs.levels.{PositionRoles.{count_closed, counts_become, sections_left, sync_closed}, Worlds.level_steps}
 
 -- the words of the levels are as they were, but for whether the file system is frozen as a whole
 pub record SameWordsOfLevels (old new : Words) : Type 0 where

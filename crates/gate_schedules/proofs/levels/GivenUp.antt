@@ -1,12 +1,11 @@
 -- What the store leaves of the levels by which a freeze gives one up, whose counts it sums.
-use Rattle.gate_schedules.proofs.Prelude.{AtLevel, Config, Holds, IsGood, IsWithin, Some, SyncStep, Touch, View, WordName, Words, World, arith}
-use Rattle.gate_schedules.proofs.Prelude.{is_frozen_whole, level_in, put, refl, subst, sym, update_at, ℕ, ◌<◌, ◌∙◌, ◌≤◌}
+use Rattle.gate_schedules.proofs.Prelude.{AtLevel, Config, Holds, IsGood, IsWithin, LevelPosition, Some, SyncStep, Touch, UpWriteStep, View, WordName}
+use Rattle.gate_schedules.proofs.Prelude.{Words, World, arith, is_frozen_whole, left_by, level_in, position_sync, put, refl, subst, sym, update_at, ℕ}
+use Rattle.gate_schedules.proofs.Prelude.{◌<◌, ◌∙◌, ◌≤◌}
 use Rattle.cpu_words.{proofs.gate_counts.LevelLaws.gives_up, specs.gate_counts.Levels.{Out as CountsNot, Summing}}
-use Rattle.percpu_rwsem.specs.declared.writers.UpWriteStep.{UpWriteStep}
-use Rattle.freeze_laws.{proofs.levels.Operations.up_writes_are_there, specs.levels.{Operations.left_by, Roles.{Closed, Entered}}}
-use Rattle.gate_world.specs.Roles.{LevelPosition, position_sync}
+use Rattle.freeze_laws.{proofs.levels.Operations.up_writes_are_there, specs.levels.Roles.{Closed, Entered}}
 use Rattle.gate_schedules.proofs.{frames.Frames.SameLevelCounts, levels.LevelPositions.{HasPosition, LevelsHold, left_world}}
-use Rattle.gate_schedules.proofs.levels.{PositionRoles.{count_at, sync_at, SayBeside, counts_become, levels_move}, UpWrite.up_write_event}
+use Rattle.gate_schedules.proofs.levels.{PositionRoles.{SayBeside, count_at, counts_become, levels_move, sync_at}, UpWrite.up_write_event}
 
 -- who sums the words of this level, before its first load
 abbrev pub summing_at : ℕ → LevelPosition

@@ -1,15 +1,12 @@
 -- What a step at a freeze level leaves alone, where it leaves the word `block` of each.
-use Rattle.gate_schedules.proofs.Prelude.{AtLevel, AtMount, Config, DownRead, Fitting, Holds, IsGood, Next, Option, Owner, Phase, Some, Stages}
-use Rattle.gate_schedules.proofs.Prelude.{SyncAt, Tree, View, Words, World, ap, arith, each_updated, inside, is_frozen_whole, map_next, owns}
-use Rattle.gate_schedules.proofs.Prelude.{phase_after, refl, shown, sym, sync_role_of, update, update_same, ℕ, ◌<◌, ◌==◌, ◌∙◌, ◌≡◌}
-use Rattle.gate_schedules.proofs.frames.{ByPhase.closing_as, Frames.{shown_as, left_alone, view_as, unwritten}, Known.known_same}
-use Rattle.std.specs.Prelude.{◌||◌}
-use Rattle.node_words.specs.Nodes.{node_shown}
-use Rattle.mount_counts.specs.Roles.{ro_bit}
+use Rattle.gate_schedules.proofs.Prelude.{AtLevel, AtMount, Config, DownRead, Files, Fitting, Holding, Holds, IsGood, Known, Next, Option, Owner}
+use Rattle.gate_schedules.proofs.Prelude.{Phase, Sections, Some, Stages, SyncAt, Tree, View, ViewFits, Words, World, added_by, ap, arith, at_level}
+use Rattle.gate_schedules.proofs.Prelude.{closing, each_updated, has_open, held_at, holders_in, holds_level, inside, is_frozen_whole, map_next}
+use Rattle.gate_schedules.proofs.Prelude.{no_roles, node_shown, owns, phase_after, refl, ro_bit, roles_of, shown, sym, sync_role_of, taken_by, update}
+use Rattle.gate_schedules.proofs.Prelude.{update_same, ℕ, ◌<◌, ◌==◌, ◌||◌, ◌∙◌, ◌≡◌}
+use Rattle.gate_schedules.proofs.frames.{ByPhase.closing_as, Frames.{left_alone, shown_as, unwritten, view_as}, Known.known_same}
 use Rattle.percpu_rwsem.specs.declared.readers.UpRead.{UpRead}
-use Rattle.freeze_levels.specs.Holders.{holders_in}
-use Rattle.gate_world.specs.{Levels.at_level, Owners.KnowsWords, Rules.{ViewFits, Known, Sections, Holding, Files}, SameRoles.{Roles, no_roles}}
-use Rattle.gate_world.specs.{SameRoles.roles_of, Shown.closing, Views.{held_at, added_by, taken_by, holds_level, has_open}}
+use Rattle.gate_world.specs.{Owners.KnowsWords, SameRoles.Roles}
 
 -- the words that are no level's own, and `block`
 abbrev pub beside_levels : Words → Words

@@ -1,16 +1,15 @@
 -- What each step of a freeze or a thaw is of each level: one of the level's own kinds of step, or one that leaves it.
-use Rattle.gate_schedules.proofs.Prelude.{Config, IsGood, IsWithin, Option, Some, SyncStep, Touch, View, WordName, Words, World, ap, arith}
-use Rattle.gate_schedules.proofs.Prelude.{common_steps, eqb_tells, found_by, inl, inr, is_frozen_whole, left, level_in, put, read, subst, sym}
-use Rattle.gate_schedules.proofs.Prelude.{sync_role_of, total, ℕ, ◌+◌, ◌<◌, ◌∙◌, ◌≡◌, ◌≤◌}
-use Rattle.percpu_rwsem.specs.{Writers.{down_write_after, up_write_after, down_write_next, up_write_next}, declared.writers.DownWrite.DownWrite}
-use Rattle.percpu_rwsem.specs.declared.writers.{UpWrite.UpWrite, UpWriteStep.UpWriteStep}
-use Rattle.freeze_laws.specs.levels.{Operations.left_by, Roles.{Out as IsApart, entered}}
-use Rattle.gate_world.specs.{Fits.{DownWriteFits, UpWriteFits}, Roles.{LevelPosition, position_sync}}
-use Rattle.gate_schedules.proofs.{frames.Frames.SameLevelWords, levels.DownWrite.{next_closing, down_write_event, closing_others, closing_there}}
+use Rattle.gate_schedules.proofs.Prelude.{Config, DownWrite, IsGood, IsWithin, LevelPosition, Option, Some, SyncStep, Touch, UpWrite, UpWriteStep}
+use Rattle.gate_schedules.proofs.Prelude.{View, WordName, Words, World, ap, arith, common_steps, down_write_after, down_write_next, eqb_tells}
+use Rattle.gate_schedules.proofs.Prelude.{found_by, inl, inr, is_frozen_whole, left, left_by, level_in, position_sync, put, read, subst, sym}
+use Rattle.gate_schedules.proofs.Prelude.{sync_role_of, total, up_write_after, up_write_next, ℕ, ◌+◌, ◌<◌, ◌∙◌, ◌≡◌, ◌≤◌}
+use Rattle.freeze_laws.specs.levels.Roles.{Out as IsApart, entered}
+use Rattle.gate_world.specs.Fits.{DownWriteFits, UpWriteFits}
+use Rattle.gate_schedules.proofs.{frames.Frames.SameLevelWords, levels.DownWrite.{closing_others, closing_there, down_write_event, next_closing}}
 use Rattle.gate_schedules.proofs.levels.{GivenUp.{leaving_at, leaving_beside, summing_at, unblocked_there}, LevelPositions.{HasPosition, LevelsRun}}
-use Rattle.gate_schedules.proofs.levels.LevelPositions.{closing_position, opening_position, left_world, position_after_closing}
-use Rattle.gate_schedules.proofs.levels.{LevelPositions.position_after_opening, PositionRoles.SayBeside, Steps.{level_stays, level_kept}}
-use Rattle.gate_schedules.proofs.levels.{UpWrite.{next_opening, up_write_event, opening_others, opening_there}, Worlds.IsEventAt}
+use Rattle.gate_schedules.proofs.levels.LevelPositions.{closing_position, left_world, opening_position, position_after_closing}
+use Rattle.gate_schedules.proofs.levels.{LevelPositions.position_after_opening, PositionRoles.SayBeside, Steps.{level_kept, level_stays}}
+use Rattle.gate_schedules.proofs.levels.{UpWrite.{next_opening, opening_others, opening_there, up_write_event}, Worlds.IsEventAt}
 
 -- a step that leaves what the levels read of the words, and how its task stands with them, leaves each level
 pub levels_stay_runs : (c : Config) (w : World) (t : ℕ) → t < c.tasks → (ws : Words) (v : View) (s : Option LevelPosition) →

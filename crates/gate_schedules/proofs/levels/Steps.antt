@@ -1,7 +1,7 @@
 -- Steps of tasks as steps of a level.
 use Rattle.gate_schedules.proofs.Prelude.{SyncStep, View, Words, World, arith, common_steps, inside, is_frozen_whole, level_in, sync_role_of, update}
 use Rattle.gate_schedules.proofs.Prelude.{ℕ, ◌<◌, ◌≡◌}
-use Rattle.freeze_laws.specs.levels.Events.{SyncLevel, Stays}
+use Rattle.freeze_laws.specs.levels.Events.{Stays, SyncLevel}
 
 pub level_stays : (tasks t : ℕ) → t < tasks → (l l' : SyncLevel) → l' ≡ l → SyncStep tasks l l'
 level_stays tasks t lt l l' e = record { task = t; there = lt; kind = Stays; happens = e }

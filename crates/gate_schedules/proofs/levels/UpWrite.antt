@@ -1,16 +1,16 @@
 -- What each step of an up-write leaves of the levels: its store opens its level, and its exchange leaves the rcu_sync.
-use Rattle.gate_schedules.proofs.Prelude.{AtLevel, Config, Holds, IsGood, IsWithin, Next, Some, SyncStep, Touch, View, WordName, Words, World, arith}
-use Rattle.gate_schedules.proofs.Prelude.{found_by, is_frozen_whole, left, level_in, put, read, refl, subst, sym, update_at, ℕ, ◌<◌, ◌∙◌, ◌≡◌, ◌≤◌}
+use Rattle.gate_schedules.proofs.Prelude.{AtLevel, Config, Holds, IsGood, IsWithin, Next, Some, SyncStep, Touch, Transition, TransitionNext, UpWrite}
+use Rattle.gate_schedules.proofs.Prelude.{UpWriteStep, View, WordName, Words, World, arith, found_by, is_frozen_whole, left, left_by, level_in}
+use Rattle.gate_schedules.proofs.Prelude.{on_exit, position_sync, put, read, refl, subst, sym, transition_after, up_write_after, up_write_next}
+use Rattle.gate_schedules.proofs.Prelude.{update_at, ℕ, ◌<◌, ◌∙◌, ◌≡◌, ◌≤◌}
 use Rattle.cpu_words.{proofs.gate_counts.LevelLaws.reopens, specs.gate_counts.Levels.Out as CountsNot}
-use Rattle.percpu_rwsem.specs.{SyncWords.on_exit, Transitions.transition_after, Writers.{up_write_next, up_write_after, at_up_write, exit_made}}
-use Rattle.percpu_rwsem.specs.declared.{transitions.{Transition.Transition, TransitionNext.TransitionNext}, writers.UpWrite.UpWrite}
-use Rattle.percpu_rwsem.specs.declared.writers.UpWriteStep.{UpWriteStep}
-use Rattle.freeze_laws.{proofs.levels.Operations.up_writes_are_there, specs.levels.Operations.{up_write_role, left_by, by_next, HoldsOfNext}}
+use Rattle.percpu_rwsem.specs.Writers.{at_up_write, exit_made}
+use Rattle.freeze_laws.{proofs.levels.Operations.up_writes_are_there, specs.levels.Operations.{HoldsOfNext, by_next, up_write_role}}
 use Rattle.freeze_laws.specs.levels.Roles.{Out as IsApart}
-use Rattle.gate_world.specs.{Fits.UpWriteFits, Roles.{position_count, position_sync}}
-use Rattle.gate_schedules.proofs.{frames.Frames.SameLevelCounts, levels.LevelPositions.{HasPosition, opening_position, position_after_opening}}
-use Rattle.gate_schedules.proofs.levels.{LevelPositions.{LevelsHold, left_world}, PositionRoles.{count_at, sync_at, SayBeside, counts_left}}
-use Rattle.gate_schedules.proofs.levels.{PositionRoles.{counts_become, levels_move}, Worlds.{found_level, IsEventAt, event_word}}
+use Rattle.gate_world.specs.{Fits.UpWriteFits, Roles.position_count}
+use Rattle.gate_schedules.proofs.{frames.Frames.SameLevelCounts, levels.LevelPositions.{HasPosition, LevelsHold, left_world, opening_position}}
+use Rattle.gate_schedules.proofs.levels.{LevelPositions.position_after_opening, PositionRoles.{SayBeside, count_at, counts_become, counts_left}}
+use Rattle.gate_schedules.proofs.levels.{PositionRoles.{levels_move, sync_at}, Worlds.{IsEventAt, event_word, found_level}}
 
 -- the same up-write at this step
 abbrev pub opening_at : UpWrite → UpWriteStep → UpWrite

@@ -1,11 +1,10 @@
 -- Loads of a task at a mount: they leave the words and the shown state.
 use Rattle.gate_schedules.proofs.Prelude.{AtMount, Config, Fits, Fitting, HookAnswer, IsGood, MountPhase, Next, None, Option, Phase, Some, Touch}
-use Rattle.gate_schedules.proofs.Prelude.{View, WordName, World, ap, arith, held_of, owns, phase_after, put, read, refl, shown, subst, sym, update}
-use Rattle.gate_schedules.proofs.Prelude.{update_same, ℕ, ◌<◌, ◌∙◌, ◌≡◌}
+use Rattle.gate_schedules.proofs.Prelude.{View, WordName, World, added_by, ap, arith, at_mount, closing, held_of, owns, phase_after, put, read, refl}
+use Rattle.gate_schedules.proofs.Prelude.{remounts, role_of, shown, subst, sym, taken_by, update, update_same, view_with, ℕ, ◌<◌, ◌∙◌, ◌≡◌}
 use Rattle.gate_schedules.proofs.frames.Frames.{MountHoldsAfter, added_load, gates_after, holds_as, owner_same, shown_still, taken_load, view_as}
 use Rattle.gate_schedules.proofs.frames.Words.{load_same}
-use Rattle.gate_world.specs.{Fits.MountFits, Roles.mount_owns, Rules.{GatesHold, IsSteady, at_mount, remounts, role_of}, Shown.closing}
-use Rattle.gate_world.specs.Views.{added_by, taken_by, view_with}
+use Rattle.gate_world.specs.{Fits.MountFits, Roles.mount_owns, Rules.{GatesHold, IsSteady}}
 
 pub steady : {p q r : Option Phase} → p ≡ r → IsSteady r q → IsSteady p q
 steady e s = grind arith

@@ -1,7 +1,6 @@
 -- A want whose mount is not held, a drop, and a change that finds `umount` free run out.
-use Rattle.gate_schedules.proofs.Prelude.{Config, MountPhase, Phase, arith, ℕ}
-use Rattle.mount_counts.specs.declared.phases.{Change.Change, Want.Want}
-use Rattle.gate_schedules.specs.operations.Unblocked.{PhaseEnds}
+use Rattle.gate_schedules.proofs.Prelude.{Config, MountPhase, Phase, PhaseEnds, Want, arith, ℕ}
+use Rattle.mount_counts.specs.declared.phases.Change.{Change}
 
 pub want_ends : (c : Config) (x : Want) → PhaseEnds c (Phase.Mounts (MountPhase.Want x))
 want_ends c x = grind arith

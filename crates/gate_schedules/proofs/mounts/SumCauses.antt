@@ -1,11 +1,9 @@
 -- The cause of a sum of a mount's counts, from each state of an execution to the next, whichever operation reads it.
-use Rattle.gate_schedules.proofs.Prelude.{Config, IsGood, List, None, Some, World, [], ap, arith, cases_Bool, eqb_tells, false, inl, inr, refl, suc}
-use Rattle.gate_schedules.proofs.Prelude.{sym, true, ℕ, ◌+◌, ◌<◌, ◌∙◌, ◌∷◌, ◌≡◌}
-use Rattle.std.proofs.Common.{add-one}
-use Rattle.cpu_words.{proofs.gate_counts.Numbers.{ahead_step, ahead_past}, specs.{Sums.{lead, ahead}, Touches.wrap_add, declared.sums.Sum.Sum}}
-use Rattle.mount_counts.specs.declared.phases.ChangeStep.{ChangeStep}
-use Rattle.gate_world.specs.refusals.{Causes.{all_counted, was_counted, words_read, moments_of_sum}, KeptCauses.ChangeCause}
-use Rattle.gate_schedules.proofs.traces.Moments.{fresh_lead, none_counted, sum_skips, sum_begins, sum_goes}
+use Rattle.gate_schedules.proofs.Prelude.{ChangeStep, Config, IsGood, List, None, Some, Sum, World, [], add-one, ap, arith, cases_Bool, eqb_tells}
+use Rattle.gate_schedules.proofs.Prelude.{false, inl, inr, refl, suc, sym, true, wrap_add, ℕ, ◌+◌, ◌<◌, ◌∙◌, ◌∷◌, ◌≡◌}
+use Rattle.cpu_words.{proofs.gate_counts.Numbers.{ahead_past, ahead_step}, specs.Sums.{ahead, lead}}
+use Rattle.gate_world.specs.refusals.{Causes.{all_counted, moments_of_sum, was_counted, words_read}, KeptCauses.ChangeCause}
+use Rattle.gate_schedules.proofs.traces.Moments.{fresh_lead, none_counted, sum_begins, sum_goes, sum_skips}
 
 module _ (c : Config) (t m : ℕ) where
   -- in this state and the earlier ones

@@ -1,15 +1,15 @@
 -- What is proved of each operation, by the folder named after it: the one place that knows them all.
-use Rattle.gate_schedules.proofs.Prelude.{Config, MountPhase, Op, Phase}
-use Rattle.gate_schedules.proofs.{frames.OperationLaws.{PhaseLaws, OpLaws}, mounts.Progress.{want_ends, drop_ends, change_ends}}
-use Rattle.gate_schedules.proofs.operations.{callback.{Laws.{callback_phase, callback_op}, Progress.callback_ends}, calls.Laws.create_keeps}
-use Rattle.gate_schedules.proofs.operations.calls.Laws.{remove_keeps, grow_keeps, move_keeps, fault_keeps, flush_keeps, snapshot_keeps, open_keeps}
-use Rattle.gate_schedules.proofs.operations.{calls.{PhaseLaws.tree_phase_keeps, Progress.tree_ends}, change.Laws.{change_phase, change_op}}
-use Rattle.gate_schedules.proofs.operations.{close.{Laws.close_phase, Progress.close_ends, Trace.close_op}, freeze.Laws.{freeze_phase, freeze_op}}
-use Rattle.gate_schedules.proofs.operations.{freeze.Progress.freeze_ends, readers.Laws.{read_phase, end_phase, start_op, end_op}}
-use Rattle.gate_schedules.proofs.operations.{readers.Progress.{read_ends, end_ends, write_ends}, remount.Laws.{remount_phase, remount_op}}
-use Rattle.gate_schedules.proofs.operations.{remount.Progress.remount_ends, thaw.{Laws.{thaw_phase, thaw_op}, Progress.thaw_ends}}
-use Rattle.gate_schedules.proofs.operations.{want.Laws.{want_phase, drop_phase, want_op, drop_op}, write_access.Laws.{write_phase, want_write_op}}
-use Rattle.gate_schedules.{proofs.operations.write_access.Laws.drop_write_op, specs.operations.Unblocked.PhaseEnds}
+use Rattle.gate_schedules.proofs.Prelude.{Config, MountPhase, Op, Phase, PhaseEnds}
+use Rattle.gate_schedules.proofs.{frames.OperationLaws.{OpLaws, PhaseLaws}, mounts.Progress.{change_ends, drop_ends, want_ends}}
+use Rattle.gate_schedules.proofs.operations.{callback.{Laws.{callback_op, callback_phase}, Progress.callback_ends}, calls.Laws.create_keeps}
+use Rattle.gate_schedules.proofs.operations.calls.Laws.{fault_keeps, flush_keeps, grow_keeps, move_keeps, open_keeps, remove_keeps, snapshot_keeps}
+use Rattle.gate_schedules.proofs.operations.{calls.{PhaseLaws.tree_phase_keeps, Progress.tree_ends}, change.Laws.{change_op, change_phase}}
+use Rattle.gate_schedules.proofs.operations.{close.{Laws.close_phase, Progress.close_ends, Trace.close_op}, freeze.Laws.{freeze_op, freeze_phase}}
+use Rattle.gate_schedules.proofs.operations.{freeze.Progress.freeze_ends, readers.{Laws.{end_op, end_phase, read_phase, start_op}, Progress.end_ends}}
+use Rattle.gate_schedules.proofs.operations.{readers.Progress.{read_ends, write_ends}, remount.Laws.{remount_op, remount_phase}}
+use Rattle.gate_schedules.proofs.operations.{remount.Progress.remount_ends, thaw.{Laws.{thaw_op, thaw_phase}, Progress.thaw_ends}, want.Laws.drop_op}
+use Rattle.gate_schedules.proofs.operations.{want.Laws.{drop_phase, want_op, want_phase}, write_access.Laws.{drop_write_op, want_write_op}}
+use Rattle.gate_schedules.proofs.operations.write_access.Laws.{write_phase}
 
 pub phase_keeps : (c : Config) (phase : Phase) → PhaseLaws c phase
 phase_keeps c (Phase.Mounts (MountPhase.Want x)) = want_phase c x

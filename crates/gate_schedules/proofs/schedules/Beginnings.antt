@@ -1,9 +1,8 @@
 -- What it means that an operation may begin.
 use Rattle.gate_schedules.proofs.Prelude.{Bool, Config, Err, Fits, GateError, Holdings, None, Ok, Op, Option, Result, Some, ap, cases_Bool, false}
-use Rattle.gate_schedules.proofs.Prelude.{if◌then◌else◌, inl, inr, refl, sym, true, true≢false, ℕ, ◌≡◌}
+use Rattle.gate_schedules.proofs.Prelude.{if◌then◌else◌, inl, inr, is_some, refl, sym, true, true≢false, ℕ, ◌≡◌}
 use Rattle.gate_schedules.proofs.operations.AllOperations.{op_keeps}
 use Rattle.gate_world.specs.{Beginnings.{first_phase, is_in_order, is_in_range, is_within_room, or_refusal, refusal}, Holdings.Agree}
-use Rattle.std.specs.Prelude.{is_some}
 
 -- nothing else is under way, its numbers are in range, and the task holds what it may
 pub record MayBegin (c : Config) (under_way : Bool) (held : Holdings) (op : Op) : Type 0 where

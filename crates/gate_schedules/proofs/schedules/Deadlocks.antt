@@ -1,10 +1,10 @@
 -- Of every execution: a reply is near, or each operation under way is blocked; and all that is under way settles.
-use Rattle.gate_schedules.proofs.Prelude.{Config, IsWithin, List}
-use Rattle.gate_world.specs.{Headline.world_after, declared.entries.Entry.Entry}
+use Rattle.gate_schedules.proofs.Prelude.{Config, Entry, EventsKeepRule, IsWithin, List}
+use Rattle.gate_world.specs.Headline.{world_after}
 use Rattle.gate_schedules.proofs.operations.{AllOperations.{phase_ends, phase_keeps}, deadlocks.BlockedIsStable.blocked_stays}
 use Rattle.gate_schedules.proofs.operations.deadlocks.{BlockedOrProgress.world_goes, RepliesOrFrozen.world_replies, Settles.world_settles}
-use Rattle.gate_schedules.{proofs.schedules.HeadlineProof.whole_rule, specs.operations.Progress.{EventsKeepRule, EventsMoveModel, EverybodySettles}}
-use Rattle.gate_schedules.specs.operations.{Progress.{BlockedStaysBlocked, ReplyOrAllBlocked, RepliesOrIsFrozen}, Ranks.most_events_to_reply}
+use Rattle.gate_schedules.{proofs.schedules.HeadlineProof.whole_rule, specs.operations.Progress.{BlockedStaysBlocked, EventsMoveModel}}
+use Rattle.gate_schedules.specs.operations.{Progress.{EverybodySettles, RepliesOrIsFrozen, ReplyOrAllBlocked}, Ranks.most_events_to_reply}
 use Rattle.gate_schedules.specs.operations.Ranks.{most_events_to_settle}
 
 module _ (c : Config) (lim : IsWithin c) where

@@ -1,15 +1,11 @@
 -- Each transition, and so each execution, keeps what is said of the causes of refusals.
-use Rattle.gate_schedules.proofs.Prelude.{Config, Fits, Fitting, GateError, HookAnswer, IsGood, List, None, Op, Option, Phase, Some, View, World, []}
-use Rattle.gate_schedules.proofs.Prelude.{after_step, ap, arith, eqb_tells, held_of, inl, inr, left, nat_lt, refl, subst, sym, update_at, ℕ, ◌<◌, ◌∷◌}
-use Rattle.gate_schedules.proofs.Prelude.{◌≡◌}
-use Rattle.std.proofs.lemmas.Bool.{ltb-true}
-use Rattle.finite_sums.proofs.Totals.{update_off}
-use Rattle.cpu_words.specs.Names.{IsWord}
-use Rattle.gate_world.specs.{Beginnings.first_phase, Views.{begun_view, view_after}, Work.next_of, Worlds.{after_begin, begin_of, step_of, value_at}}
-use Rattle.gate_world.specs.{Worlds.{happens, run}, declared.entries.Entry.Entry, refusals.{Causes.{trail, since_begun}, KeptCauses.CauseOf}}
+use Rattle.gate_schedules.proofs.Prelude.{CauseOf, Config, Entry, Fits, Fitting, GateError, HookAnswer, IsGood, IsWord, List, None, Op, Option, Phase}
+use Rattle.gate_schedules.proofs.Prelude.{Some, View, World, [], after_step, ap, arith, eqb_tells, happens, held_of, inl, inr, left, ltb-true, nat_lt}
+use Rattle.gate_schedules.proofs.Prelude.{next_of, refl, step_of, subst, sym, update_at, update_off, value_at, view_after, ℕ, ◌<◌, ◌∷◌, ◌≡◌}
+use Rattle.gate_world.specs.{Beginnings.first_phase, Views.begun_view, Worlds.{after_begin, begin_of, run}, refusals.Causes.{since_begun, trail}}
 use Rattle.gate_world.specs.refusals.KeptCauses.{Causes}
 use Rattle.gate_schedules.proofs.frames.{OperationLaws.{IsQuiet, extents_touched}, ZeroCountsUnchanged.write_quiet}
-use Rattle.gate_schedules.proofs.operations.AllOperations.{phase_keeps, op_keeps}
+use Rattle.gate_schedules.proofs.operations.AllOperations.{op_keeps, phase_keeps}
 
 -- a task that is at an operation had begun it, so its states go on
 pub begun_on : (t : ℕ) (w : World) (earlier : List World) (phase : Phase) → (w.views t).phase ≡ Some phase →

@@ -1,22 +1,20 @@
 -- What holds of every execution from the opening on.
-use Rattle.gate_schedules.proofs.Prelude.{Action, Config, Err, GateError, HookAnswer, IsGood, IsWithin, List, Next, None, Op, Option, Phase, Some}
-use Rattle.gate_schedules.proofs.Prelude.{Traced, View, World, [], after_of, ap, arith, found_at, inl, inr, refl, shown, subst, sym, ℕ, ◌<◌, ◌∙◌, ◌∷◌}
-use Rattle.gate_schedules.proofs.Prelude.{◌≡◌}
-use Rattle.std.specs.Prelude.{◌++◌, false, true}
-use Rattle.access_model.{proofs.{Closed.closed, Frozen.{frozen_shut, frozen_still}}, specs.{Histories.{Done, end_of, IsLegal}, Holders.held_by}}
-use Rattle.access_model.specs.{Laws.{FrozenIsShut, IsFrozenStill, NobodyHoldsClosed}, States.State}
-use Rattle.gate_world.specs.{Configs.model_limits, Headline.{world_after, actions_so_far, MovesTheModel, IsOneRun, NobodyIsInside, SumsHold}}
-use Rattle.gate_world.specs.Headline.{IdleSumsHold, NothingIsLeft, FreezeIsUnderWay, HoldersAreTold, FrozenTreeIsWhole, FrozenTreeStays}
-use Rattle.gate_world.specs.{Headline.{SnapshotsStand, ViewTells, OperationsAreKept}, Holdings.holdings_of, Views.HoldsAsBefore, Worlds.opening}
-use Rattle.gate_world.specs.{Worlds.{happens, run, history}, declared.entries.Entry.Entry, refusals.Causes.{since_begun, HasCause}}
-use Rattle.gate_world.specs.refusals.{Causes.{RefusalsHaveCauses, trail_of}, KeptCauses.CauseOf, Waits.{HasReason, EachWaitHasCulprit}}
-use Rattle.gate_world.specs.{refusals.Waits.HasCulpritAmong, traces.{TraceStates.{state_of_trace, IsTraced, FollowsOrder, AllTraced}, Traces.Tells}}
-use Rattle.gate_world.specs.traces.Traces.{actions_of}
-use Rattle.gate_schedules.proofs.{frames.ValidWords.events_may_be, operations.AllOperations.{phase_keeps, op_keeps}, schedules.Beginnings.may_begin}
-use Rattle.gate_schedules.proofs.schedules.{BetweenStores.{AllTold, entry_told, opening_told, holders_told}, Entries.{TrailHolds, trail_holds}}
-use Rattle.gate_schedules.proofs.schedules.{Entries.begun_on, Leads.sums_lead, Lists.run_lists, Rests.{at_rest, a_freeze_is_under_way}}
-use Rattle.gate_schedules.proofs.schedules.{Runs.history_on, Schedule.{opening_good, opening_shown, happens_keeps, run_keeps, gate_sums, idle_sums}}
-use Rattle.gate_schedules.proofs.{schedules.{SnapshotStability.snapshots_stand, Snapshots.run_moments}, traces.Traced.{opening_traced, entry_keeps}}
+use Rattle.gate_schedules.proofs.Prelude.{Action, CauseOf, Config, Entry, Err, GateError, HasReason, HookAnswer, IsGood, IsWithin, List, Next, None}
+use Rattle.gate_schedules.proofs.Prelude.{Op, Option, Phase, Some, State, Traced, View, World, [], after_of, ap, arith, found_at, happens, held_by}
+use Rattle.gate_schedules.proofs.Prelude.{holdings_of, inl, inr, model_limits, refl, shown, subst, sym, ℕ, ◌<◌, ◌∙◌, ◌∷◌, ◌≡◌}
+use Rattle.std.specs.Prelude.{false, true, ◌++◌}
+use Rattle.access_model.{proofs.{Closed.closed, Frozen.{frozen_shut, frozen_still}}, specs.{Histories.{Done, IsLegal, end_of}, Laws.FrozenIsShut}}
+use Rattle.access_model.specs.Laws.{IsFrozenStill, NobodyHoldsClosed}
+use Rattle.gate_world.specs.Headline.{FreezeIsUnderWay, FrozenTreeIsWhole, FrozenTreeStays, HoldersAreTold, IdleSumsHold, IsOneRun, MovesTheModel}
+use Rattle.gate_world.specs.Headline.{NobodyIsInside, NothingIsLeft, OperationsAreKept, SnapshotsStand, SumsHold, ViewTells, actions_so_far}
+use Rattle.gate_world.specs.{Headline.world_after, Views.HoldsAsBefore, Worlds.{history, opening, run}, refusals.Causes.HasCause}
+use Rattle.gate_world.specs.refusals.{Causes.{RefusalsHaveCauses, since_begun, trail_of}, Waits.{EachWaitHasCulprit, HasCulpritAmong}}
+use Rattle.gate_world.specs.traces.{TraceStates.{AllTraced, FollowsOrder, IsTraced, state_of_trace}, Traces.{Tells, actions_of}}
+use Rattle.gate_schedules.proofs.{frames.ValidWords.events_may_be, operations.AllOperations.{op_keeps, phase_keeps}, schedules.Beginnings.may_begin}
+use Rattle.gate_schedules.proofs.schedules.{BetweenStores.{AllTold, entry_told, holders_told, opening_told}, Entries.{TrailHolds, begun_on}}
+use Rattle.gate_schedules.proofs.schedules.{Entries.trail_holds, Leads.sums_lead, Lists.run_lists, Rests.{a_freeze_is_under_way, at_rest}}
+use Rattle.gate_schedules.proofs.schedules.{Runs.history_on, Schedule.{gate_sums, happens_keeps, idle_sums, opening_good, opening_shown, run_keeps}}
+use Rattle.gate_schedules.proofs.{schedules.{SnapshotStability.snapshots_stand, Snapshots.run_moments}, traces.Traced.{entry_keeps, opening_traced}}
 use Rattle.gate_schedules.{proofs.trees.worlds.Frozen.frozen_whole, specs.{Frozen.FrozenIsClosed, Leads.SumsLead}}
 
 module _ (c : Config) (lim : IsWithin c) where

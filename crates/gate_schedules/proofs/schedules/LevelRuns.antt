@@ -1,15 +1,14 @@
 -- Each freeze level of an execution is a run of it, so its grace periods are kept.
-use Rattle.gate_schedules.proofs.Prelude.{Config, GateError, HookAnswer, IsGood, IsWithin, List, None, Op, Option, Phase, Some, SyncStep, World, []}
-use Rattle.gate_schedules.proofs.Prelude.{ap, arith, cases_Bool, held_of, inl, inr, inside, level_in, nat_lt, refl, suc, sym, sync_role_of, zero, ℕ}
-use Rattle.gate_schedules.proofs.Prelude.{◌<◌, ◌∙◌, ◌∷◌, ◌≡◌, ◌≤◌}
-use Rattle.std.{proofs.lemmas.Bool.ltb-true, specs.Prelude.{length, take, is_some}}
+use Rattle.gate_schedules.proofs.Prelude.{Config, Entry, GateError, HookAnswer, IsGood, IsWithin, List, None, Op, Option, Phase, Some, SyncStep}
+use Rattle.gate_schedules.proofs.Prelude.{World, [], ap, arith, cases_Bool, happens, held_of, inl, inr, inside, is_some, length, level_in, ltb-true}
+use Rattle.gate_schedules.proofs.Prelude.{nat_lt, refl, step_of, suc, sym, sync_role_of, zero, ℕ, ◌<◌, ◌∙◌, ◌∷◌, ◌≡◌, ◌≤◌}
+use Rattle.std.specs.Prelude.{take}
 use Rattle.freeze_laws.proofs.levels.{CitedLaws.idle_is_earned, GraceLaws.graces_are_whole, IdleLaws.only_callbacks_idle, SlowLaws.stays_slow}
 use Rattle.freeze_laws.specs.levels.Events.{SyncLevelHolds, SyncRun}
-use Rattle.gate_world.specs.{Beginnings.{first_phase, view_refusal}, LevelRuns.{level_after, IsLevelRun, GracesAreKept, LevelsAreRuns}}
-use Rattle.gate_world.specs.{Views.begun_view, Worlds.{begin_of, step_of, happens, run, opening}, declared.entries.Entry.{TheVariants.Begins, Entry}}
-use Rattle.gate_world.specs.declared.entries.Entry.TheVariants.{Steps}
-use Rattle.gate_schedules.proofs.{levels.{Steps.{level_stays, level_kept}, Worlds.level_right}, operations.AllOperations.{phase_keeps, op_keeps}}
-use Rattle.gate_schedules.proofs.schedules.{Beginnings.may_begin, HeadlineProof.whole_rule, Schedule.{idle_is, happens_keeps}}
+use Rattle.gate_world.specs.{Beginnings.{first_phase, view_refusal}, LevelRuns.{GracesAreKept, IsLevelRun, LevelsAreRuns, level_after}}
+use Rattle.gate_world.specs.{Views.begun_view, Worlds.{begin_of, opening, run}, declared.entries.Entry.TheVariants.{Begins, Steps}}
+use Rattle.gate_schedules.proofs.{levels.{Steps.{level_kept, level_stays}, Worlds.level_right}, operations.AllOperations.{op_keeps, phase_keeps}}
+use Rattle.gate_schedules.proofs.schedules.{Beginnings.may_begin, HeadlineProof.whole_rule, Schedule.{happens_keeps, idle_is}}
 
 module _ (c : Config) (lim : IsWithin c) (i : ℕ) (one : 1 ≤ i) (three : i ≤ 3) where
   still : (w next : World) → level_in next i ≡ level_in w i → SyncStep c.tasks (level_in w i) (level_in next i)

@@ -1,18 +1,15 @@
 -- Nothing is left behind: with no operation under way nobody has a lock, a remount or a hold.
-use Rattle.gate_schedules.proofs.Prelude.{AtMount, Bool, Config, IsGood, None, Owner, Stages, SyncAt, Tree, World, ap, arith, eqb_tells, false, inl}
-use Rattle.gate_schedules.proofs.Prelude.{inr, inside, is_frozen_whole, owns, refl, shown, stage_role_of, subst, suc, sym, sync_role_of, total}
-use Rattle.gate_schedules.proofs.Prelude.{tree_role_of, true, zero, ℕ, ◌+◌, ◌<◌, ◌∙◌, ◌≡◌, ◌≤◌}
-use Rattle.std.proofs.Common.{◌⊎◌, ◌/◌, ◌%◌}
-use Rattle.finite_sums.proofs.Totals.{total_none}
-use Rattle.access_model.specs.States.{is_removed, one_if}
-use Rattle.gated_tree.specs.Roles.{removal}
-use Rattle.mount_counts.{proofs.laws.Bits.hold_unset, specs.Roles.{has_hold, hold_bit}}
-use Rattle.percpu_rwsem.specs.SyncWords.{bit, unpack}
-use Rattle.freeze_laws.{proofs.stages.{CitedLaws.freeze_is_under_way, Facts.{way_is, other_zero}}, specs.levels.Roles.{closed, claimed}}
-use Rattle.freeze_laws.specs.stages.Roles.{freezes, under_way, Place, Freezing}
+use Rattle.gate_schedules.proofs.Prelude.{AtMount, Bool, Config, Freezing, Holding, IsGood, None, Owner, Sections, Stages, SyncAt, Tree, World, ap}
+use Rattle.gate_schedules.proofs.Prelude.{arith, closed, eqb_tells, false, has_hold, holder_role_of, inl, inr, inside, is_frozen_whole, is_removed}
+use Rattle.gate_schedules.proofs.Prelude.{one_if, owns, refl, remounts, removal, role_of, shown, stage_role_of, stage_roles, subst, suc, sym}
+use Rattle.gate_schedules.proofs.Prelude.{sync_role_of, total, total_none, tree_role_of, true, unpack, zero, ℕ, ◌+◌, ◌<◌, ◌∙◌, ◌≡◌, ◌≤◌}
+use Rattle.std.proofs.Common.{◌%◌, ◌/◌, ◌⊎◌}
+use Rattle.mount_counts.{proofs.laws.Bits.hold_unset, specs.Roles.hold_bit}
+use Rattle.percpu_rwsem.specs.SyncWords.{bit}
+use Rattle.freeze_laws.{proofs.stages.{CitedLaws.freeze_is_under_way, Facts.{other_zero, way_is}}, specs.{levels.Roles.claimed, stages.Roles.Place}}
+use Rattle.freeze_laws.specs.stages.Roles.{freezes, under_way}
 use Rattle.freeze_levels.{proofs.holder_laws.HolderLaws.held_exactly, specs.holder_laws.Roles.between}
-use Rattle.gate_world.specs.{Headline.{IsAtRest, IsUntaken, HeldWhereFrozen, FreezeIsUnderWay}, Rules.{Holding, Sections, SyncHoldsIn}}
-use Rattle.gate_world.specs.Rules.{holder_role_of, remounts, role_of, stage_roles}
+use Rattle.gate_world.specs.{Headline.{FreezeIsUnderWay, HeldWhereFrozen, IsAtRest, IsUntaken}, Rules.SyncHoldsIn}
 use Rattle.gate_schedules.proofs.frames.{ByPhase.{apart_stage, freezing_is, stage_of}, Holders.holders_at, Stages.{stages_in, stages_right}}
 use Rattle.gate_schedules.proofs.trees.worlds.Frozen.{idle_sound}
 

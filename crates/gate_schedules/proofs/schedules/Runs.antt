@@ -1,8 +1,8 @@
 -- Executions, transition by transition.
-use Rattle.gate_schedules.proofs.Prelude.{Action, Config, Option, World, ap, arith, refl, sym, ℕ, ◌∙◌, ◌≡◌}
-use Rattle.std.proofs.Common.{List, [], ◌∷◌, ◌++◌, append_assoc}
+use Rattle.gate_schedules.proofs.Prelude.{Action, Config, Entry, Option, World, ap, arith, happens, refl, sym, ℕ, ◌∙◌, ◌≡◌}
+use Rattle.std.proofs.Common.{List, [], append_assoc, ◌++◌, ◌∷◌}
 use Rattle.access_model.specs.Histories.{Done}
-use Rattle.gate_world.specs.{Worlds.{happens, run, history, with_action, action_of, task_of}, declared.entries.Entry.Entry}
+use Rattle.gate_world.specs.Worlds.{action_of, history, run, task_of, with_action}
 
 pub run_more : (c : Config) (w : World) (es : List Entry) (e : Entry) → run c w (es ++ e ∷ []) ≡ happens c (run c w es) e
 run_more c w [] e = refl

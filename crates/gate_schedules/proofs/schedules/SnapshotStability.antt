@@ -1,7 +1,7 @@
 -- A snapshot under way stands in a frozen tree, from its load of stage 4 to its release.
-use Rattle.gate_schedules.proofs.Prelude.{Config, IsGood, Some, Stages, Tree, World, arith, stage_role_of, subst, tree_bounds, tree_role_of, ℕ, ◌≡◌}
-use Rattle.gated_tree.specs.{Calls.{words_loaded, reading}, Roles.RoleHolds, declared.snapshots.SnapshotStep.SnapshotStep}
-use Rattle.freeze_laws.specs.stages.Roles.{KnowsStage}
+use Rattle.gate_schedules.proofs.Prelude.{Config, IsGood, KnowsStage, RoleHolds, SnapshotStep, Some, Stages, Tree, World, arith, stage_role_of, subst}
+use Rattle.gate_schedules.proofs.Prelude.{tree_bounds, tree_role_of, ℕ, ◌≡◌}
+use Rattle.gated_tree.specs.Calls.{reading, words_loaded}
 use Rattle.gate_world.specs.{Headline.SnapshotsStand, Roles.snapshot_stage_role, traces.Snapshots.values_noted}
 
 -- who has loaded words relies on stage 4

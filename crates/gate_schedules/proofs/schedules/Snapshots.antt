@@ -1,18 +1,17 @@
 -- Each last snapshot has its moment in the history, and keeps it.
-use Rattle.gate_schedules.proofs.Prelude.{Action, Config, GateError, HookAnswer, IsGood, IsWithin, List, None, Op, Option, Phase, Some, View, World}
-use Rattle.gate_schedules.proofs.Prelude.{[], ap, arith, cases_Bool, each_updated, found_at, inl, inr, nat_lt, refl, shown, subst, sym, ℕ, ◌<◌, ◌∙◌}
-use Rattle.gate_schedules.proofs.Prelude.{◌∷◌, ◌≡◌}
-use Rattle.std.{proofs.lemmas.Bool.ltb-true, specs.Prelude.{length, slice_index}}
+use Rattle.gate_schedules.proofs.Prelude.{Action, Config, Entry, GateError, HookAnswer, IsGood, IsWithin, List, Moves, None, Op, Option, Phase, Some}
+use Rattle.gate_schedules.proofs.Prelude.{State, View, World, [], ap, arith, cases_Bool, each_updated, found_at, happens, inl, inr, length, ltb-true}
+use Rattle.gate_schedules.proofs.Prelude.{model_limits, nat_lt, refl, shown, step_of, subst, sym, value_at, ℕ, ◌<◌, ◌∙◌, ◌∷◌, ◌≡◌}
+use Rattle.std.specs.Prelude.{slice_index}
 use Rattle.finite_sums.proofs.Totals.{total_same}
-use Rattle.access_model.specs.{Histories.{Done, end_of, IsLegal, own_part, IsMerge}, States.{State, size_of}, declared.actions.NodeInfo.NodeInfo}
+use Rattle.access_model.specs.{Histories.{Done, IsLegal, IsMerge, end_of, own_part}, States.size_of, declared.actions.NodeInfo.NodeInfo}
 use Rattle.freeze_laws.{proofs.moments.Moments.{is_now, stays}, specs.moments.Moments.HaveDone}
-use Rattle.gated_tree.specs.{Trees.{node_at, is_child, HasDirectory, IsSound, LoadedSound, LoadedClean}, declared.trees.TreeWords.TreeWords}
-use Rattle.gate_world.specs.{Beginnings.view_refusal, Configs.model_limits, Headline.FrozenTreeIsWhole, Moments.{HasMoment, AllHaveMoments}}
-use Rattle.gate_world.specs.{Moments.{IsPresentTree, CompletesNow}, Rules.Moves, Views.view_after_with_others, Worlds.begin_of}
-use Rattle.gate_world.specs.Worlds.{after_step_with_others, step_of, happens, phase_action, action_of, task_of, with_action, value_at, run, history}
-use Rattle.gate_world.specs.{declared.{entries.Entry.{TheVariants.{Begins, Steps}, Entry}, views.Snapshot.Snapshot}, traces.Snapshots.completes}
-use Rattle.gate_world.specs.traces.Snapshots.{last_snapshot}
-use Rattle.gate_schedules.proofs.{operations.AllOperations.phase_keeps, schedules.{Lists.{lists, happens_lists}, Schedule.happens_keeps}}
+use Rattle.gated_tree.specs.{Trees.{HasDirectory, IsSound, LoadedClean, LoadedSound, is_child, node_at}, declared.trees.TreeWords.TreeWords}
+use Rattle.gate_world.specs.{Beginnings.view_refusal, Headline.FrozenTreeIsWhole, Moments.{AllHaveMoments, CompletesNow, HasMoment, IsPresentTree}}
+use Rattle.gate_world.specs.{Views.view_after_with_others, Worlds.{action_of, after_step_with_others, begin_of, history, phase_action, run, task_of}}
+use Rattle.gate_world.specs.{Worlds.with_action, declared.{entries.Entry.TheVariants.{Begins, Steps}, views.Snapshot.Snapshot}}
+use Rattle.gate_world.specs.traces.Snapshots.{completes, last_snapshot}
+use Rattle.gate_schedules.proofs.{operations.AllOperations.phase_keeps, schedules.{Lists.{happens_lists, lists}, Schedule.happens_keeps}}
 use Rattle.gate_schedules.proofs.{schedules.Schedule.legal_more, trees.worlds.Frozen.frozen_whole}
 
 -- the parent of a node is a directory also in a tree that shows the same nodes

@@ -1,10 +1,9 @@
 -- Moments of an execution: the last question, the last look at the stage, the moments of a sum, and what was counted.
-use Rattle.gate_schedules.proofs.Prelude.{AtMount, Bool, Config, IsGood, List, None, Some, World, [], arith, false, refl, total, true, ℕ, ◌<◌, ◌∷◌}
-use Rattle.gate_schedules.proofs.Prelude.{◌≡◌}
-use Rattle.std.{proofs.{Common.◌%◌, lemmas.Bool.ne_eqb}, specs.Prelude.◌||◌}
-use Rattle.cpu_words.{proofs.gate_counts.{Events.words_sum, Numbers.ahead_none}, specs.Sums.{lead, ahead}}
-use Rattle.gate_world.specs.{Rules.MountHoldsIn, refusals.Causes.{all_counted, was_counted, asks, last_question, looks_at_stage, last_look}}
-use Rattle.gate_world.specs.refusals.Causes.{words_read, moments_of_sum}
+use Rattle.gate_schedules.proofs.Prelude.{AtMount, Bool, Config, IsGood, List, MountHoldsIn, None, Some, World, [], arith, false, ne_eqb, refl, total}
+use Rattle.gate_schedules.proofs.Prelude.{true, ℕ, ◌<◌, ◌||◌, ◌∷◌, ◌≡◌}
+use Rattle.std.proofs.Common.{◌%◌}
+use Rattle.cpu_words.{proofs.gate_counts.{Events.words_sum, Numbers.ahead_none}, specs.Sums.{ahead, lead}}
+use Rattle.gate_world.specs.refusals.Causes.{all_counted, asks, last_look, last_question, looks_at_stage, moments_of_sum, was_counted, words_read}
 
 pub or_true : (b : Bool) → (b || true) ≡ true
 or_true true = refl

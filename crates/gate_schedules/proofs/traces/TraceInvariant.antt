@@ -1,8 +1,8 @@
 -- What a trace says, kept from each step to the next.
-use Rattle.gate_schedules.proofs.Prelude.{Action, Config, HookAnswer, List, Next, Op, Phase, Traced, [], after_of, arith, found_by, ℕ, ◌∷◌}
-use Rattle.cpu_words.specs.{Touches.event_of, declared.events.Event.Event}
-use Rattle.gate_world.specs.{Beginnings.first_phase, Views.{actions_after, with_hook}, Work.next_of, traces.TraceStates.trace_state_after}
-use Rattle.gate_world.specs.traces.{TraceStates.{state_of_trace, IsEventOf, IsNext, IsTrace, ReadIsValid}, Traces.{most_events, IsShort, Tells}}
+use Rattle.gate_schedules.proofs.Prelude.{Action, Config, Event, HookAnswer, List, Next, Op, Phase, Traced, [], actions_after, after_of, arith}
+use Rattle.gate_schedules.proofs.Prelude.{event_of, found_by, next_of, with_hook, ℕ, ◌∷◌}
+use Rattle.gate_world.specs.{Beginnings.first_phase, traces.TraceStates.{IsEventOf, IsNext, IsTrace, ReadIsValid, state_of_trace, trace_state_after}}
+use Rattle.gate_world.specs.traces.Traces.{IsShort, Tells, most_events}
 
 -- what a trace says by where its operation stands, where `At` is what it says at a phase
 abbrev pub InvariantAfter : (List Traced → Phase → List Action → Type 0) → Config → Op → List Traced → Next Phase → List Action → Type 0

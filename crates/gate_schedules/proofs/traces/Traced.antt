@@ -1,10 +1,9 @@
 -- Each view follows its operation, after every execution.
-use Rattle.gate_schedules.proofs.Prelude.{Config, GateError, HookAnswer, None, Op, Option, Phase, Some, View, World, arith, cases_Bool, each_updated}
-use Rattle.gate_schedules.proofs.Prelude.{inl, inr, nat_lt, refl, ℕ, ◌<◌, ◌≡◌}
-use Rattle.std.proofs.lemmas.Bool.{cases_lt, lt-ltb, le-ltb}
-use Rattle.gate_world.specs.{Beginnings.view_refusal, Views.view_after, Work.next_of, Worlds.{begin_refusal, begin_of, value_at, step_of, happens}}
-use Rattle.gate_world.specs.{Worlds.opening, declared.entries.Entry.{TheVariants.{Begins, Steps}, Entry}, traces.TraceStates.{IsTraced, ReadIsValid}}
-use Rattle.gate_world.specs.traces.TraceStates.{AllTraced, EventsMayBe}
+use Rattle.gate_schedules.proofs.Prelude.{Config, Entry, GateError, HookAnswer, None, Op, Option, Phase, Some, View, World, arith, cases_Bool}
+use Rattle.gate_schedules.proofs.Prelude.{cases_lt, each_updated, happens, inl, inr, le-ltb, lt-ltb, nat_lt, next_of, refl, step_of, value_at}
+use Rattle.gate_schedules.proofs.Prelude.{view_after, ℕ, ◌<◌, ◌≡◌}
+use Rattle.gate_world.specs.{Beginnings.view_refusal, Worlds.{begin_of, begin_refusal, opening}, declared.entries.Entry.TheVariants.{Begins, Steps}}
+use Rattle.gate_world.specs.traces.TraceStates.{AllTraced, EventsMayBe, IsTraced, ReadIsValid}
 
 -- the next step of a view that follows its operation
 step_follows : (c : Config) (t : ℕ) (v : View) (op : Option Op) (phase : Phase) (value : ℕ) (hook : HookAnswer) → v.phase ≡ Some phase →

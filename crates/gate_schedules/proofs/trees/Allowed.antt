@@ -1,7 +1,7 @@
 -- What the tree allows, with the accesses that the task holds, is what the model allows.
-use Rattle.gate_schedules.proofs.Prelude.{Action, arith, update, ℕ, ◌≡◌}
-use Rattle.access_model.specs.{Actions.{MayDo, after_action, opens_after, tree_after}, States.{Limits, State, openers}}
-use Rattle.gate_schedules.specs.trees.Events.{TreeAllows, HasLeave, bounds_of}
+use Rattle.gate_schedules.proofs.Prelude.{Action, State, arith, openers, update, ℕ, ◌≡◌}
+use Rattle.access_model.specs.{Actions.{MayDo, after_action, opens_after, tree_after}, States.Limits}
+use Rattle.gate_schedules.specs.trees.Events.{HasLeave, TreeAllows, bounds_of}
 
 -- an action that the tree allows, of a task with the accesses that it needs, is one that the model allows
 pub may_do : (l : Limits) (s : State) (t : ℕ) (action : Action) → HasLeave l s t action → TreeAllows (bounds_of l) s.tree action →

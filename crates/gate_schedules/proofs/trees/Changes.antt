@@ -1,18 +1,18 @@
 -- The compare-exchanges of node words that found what was loaded. Each says what the tree keeps and which action it is.
-use Rattle.gate_schedules.proofs.Prelude.{Action, Bool, None, Some, ap, arith, eq-eqb, false, if◌then◌else◌, inl, inr, refl, subst, sym, total, true}
-use Rattle.gate_schedules.proofs.Prelude.{update, update_same, ℕ, ◌+◌, ◌<◌, ◌==◌, ◌∙◌, ◌≡◌, ◌≤◌}
-use Rattle.std.{proofs.{Common.{◌-◌, ◌%◌}, lemmas.Bool.ne_eqb}, specs.Prelude.{◌⊎◌, ◌&&◌, option_map}}
-use Rattle.finite_sums.proofs.Totals.{update_map, total_at}
-use Rattle.access_model.specs.{Actions.{grown, moved, marked, unlinked, after_remove}, States.{size_of, is_dirty, is_removed, one_if, IsFile}}
-use Rattle.access_model.specs.{States.{IsLinkedFile, IsDirectory}, declared.actions.{Kind.Kind, NodeInfo.NodeInfo}}
-use Rattle.node_words.{proofs.Words.{word_shows, word_opens, file_is_node, lawful_file, new_is_node, free_is_node}, specs.Nodes.{IsLawful, opens_in}}
-use Rattle.node_words.specs.Nodes.{word_of, info_of, node_shown, new_node, grown_node, moved_node, marked_node, opened_node, closed_node}
-use Rattle.node_words.specs.{Nodes.unlinked_node, declared.nodes.NodeWord.NodeWord}
-use Rattle.gated_tree.specs.Roles.{Role, Out, Loaded, Placing, Moving, Charged, Freed, Returning, Removing, Freeing, Dropped, Bounds, TreeState}
-use Rattle.gated_tree.specs.Roles.{AreWithin, charge, child_charge, removal, frees, IsFileNode, IsLastOpen, MayGrow, IsDirectoryAt, HasParent}
-use Rattle.gated_tree.specs.{Roles.{RoleHolds, TreeHolds, NobodyReads, MayDirty, NobodyElseFrees}, Trees.{is_same, has_parent}}
-use Rattle.gate_schedules.{proofs.trees.Laws.{role_says, not_freed, node_changes}, specs.trees.Events.{with_node, tree_shown, opens_shown, TreeDoes}}
-use Rattle.gate_schedules.specs.trees.Events.{MayClean}
+use Rattle.gate_schedules.proofs.Prelude.{Action, AreWithin, Bool, Bounds, NodeWord, None, Out, Role, RoleHolds, Some, TreeHolds, TreeState, ap}
+use Rattle.gate_schedules.proofs.Prelude.{arith, eq-eqb, false, if◌then◌else◌, inl, inr, is_removed, ne_eqb, node_shown, one_if, opens_in, refl}
+use Rattle.gate_schedules.proofs.Prelude.{removal, subst, sym, total, total_at, true, update, update_map, update_same, word_of, ℕ, ◌&&◌, ◌+◌, ◌-◌}
+use Rattle.gate_schedules.proofs.Prelude.{◌<◌, ◌==◌, ◌∙◌, ◌≡◌, ◌≤◌, ◌⊎◌}
+use Rattle.std.{proofs.Common.◌%◌, specs.Prelude.option_map}
+use Rattle.access_model.specs.{Actions.{after_remove, grown, marked, moved, unlinked}, States.{IsDirectory, IsFile, IsLinkedFile, is_dirty, size_of}}
+use Rattle.access_model.specs.declared.actions.{Kind.Kind, NodeInfo.NodeInfo}
+use Rattle.node_words.{proofs.Words.{file_is_node, free_is_node, lawful_file, new_is_node, word_opens, word_shows}, specs.Nodes.IsLawful}
+use Rattle.node_words.specs.Nodes.{closed_node, grown_node, info_of, marked_node, moved_node, new_node, opened_node, unlinked_node}
+use Rattle.gated_tree.specs.Roles.{Charged, Dropped, Freed, Freeing, HasParent, IsDirectoryAt, IsFileNode, IsLastOpen, Loaded, MayDirty, MayGrow}
+use Rattle.gated_tree.specs.Roles.{Moving, NobodyElseFrees, NobodyReads, Placing, Removing, Returning, charge, child_charge, frees}
+use Rattle.gated_tree.specs.Trees.{has_parent, is_same}
+use Rattle.gate_schedules.{proofs.trees.Laws.{node_changes, not_freed, role_says}, specs.trees.Events.{MayClean, TreeDoes, opens_shown, tree_shown}}
+use Rattle.gate_schedules.specs.trees.Events.{with_node}
 
 -- a file, as the model has it
 abbrev pub file_info : NodeWord → NodeInfo

@@ -1,16 +1,13 @@
 -- A clearing of the dirty marks; the tree is sealed and opened again; a snapshot; what holds where nothing is charged.
-use Rattle.gate_schedules.proofs.Prelude.{Action, None, Option, ap, arith, each_updated, eqb_tells, false, inl, inr, subst, suc, sym, update}
-use Rattle.gate_schedules.proofs.Prelude.{update_same, ℕ, ◌<◌, ◌∙◌, ◌≡◌, ◌≤◌}
-use Rattle.std.proofs.lemmas.Bool.{ne_eqb}
-use Rattle.finite_sums.proofs.Totals.{total_none}
+use Rattle.gate_schedules.proofs.Prelude.{Action, AreWithin, Bounds, Clearing, NodeWord, None, Option, Out, TreeHolds, TreeState, ap, arith, dirty_in}
+use Rattle.gate_schedules.proofs.Prelude.{each_updated, eqb_tells, false, inl, inr, ne_eqb, node_shown, removal, subst, suc, sym, total_none, turned}
+use Rattle.gate_schedules.proofs.Prelude.{update, update_same, word_of, ℕ, ◌<◌, ◌∙◌, ◌≡◌, ◌≤◌}
 use Rattle.access_model.specs.{States.is_dirty, declared.actions.NodeInfo.NodeInfo}
-use Rattle.node_words.proofs.{ClearedMarks.{clean_stays, cleared_is, marked_file, file_shown, directory_clean}, Packing.word_returns}
-use Rattle.node_words.{proofs.Words.dirty_shown, specs.Nodes.{dirty_in, removed_in, kind_in, kind_of, word_of, node_of, node_shown, marked_node}}
-use Rattle.node_words.specs.declared.nodes.NodeWord.{NodeWord}
-use Rattle.gated_tree.specs.Roles.{Out, Clearing, Reading, Bounds, TreeState, AreWithin, charge, child_charge, removal, tree_word, seen_as}
-use Rattle.gated_tree.specs.{Roles.{IsFileNode, HasParent, TreeHolds}, Trees.{HasDirectory, IsSound, IsClean}}
-use Rattle.gate_schedules.{proofs.trees.{Changes.{file_shows, unmarks}, Laws.{role_says, moves}}, specs.trees.Events.{turned, with_node}}
-use Rattle.gate_schedules.specs.trees.Events.{cleared_word, tree_shown, opens_shown, TreeDoes, MovesBy, MayClean, IsQuiet}
+use Rattle.node_words.proofs.{ClearedMarks.{clean_stays, cleared_is, directory_clean, file_shown, marked_file}, Packing.word_returns}
+use Rattle.node_words.{proofs.Words.dirty_shown, specs.Nodes.{kind_in, kind_of, marked_node, node_of, removed_in}}
+use Rattle.gated_tree.specs.{Roles.{HasParent, IsFileNode, Reading, charge, child_charge, seen_as, tree_word}, Trees.{HasDirectory, IsClean, IsSound}}
+use Rattle.gate_schedules.{proofs.trees.{Changes.{file_shows, unmarks}, Laws.{moves, role_says}}, specs.trees.Events.{IsQuiet, MayClean, MovesBy}}
+use Rattle.gate_schedules.specs.trees.Events.{TreeDoes, cleared_word, opens_shown, tree_shown, with_node}
 
 parent_there : (nodes : ℕ) (node : ℕ → ℕ) (entry : Option NodeInfo) → HasParent nodes node entry →
     HasDirectory nodes (tree_shown node) entry

@@ -1,17 +1,18 @@
 -- Loads, and the steps at `used` and at the counts of children. None of them changes a node word, so the shown tree stays.
-use Rattle.gate_schedules.proofs.Prelude.{Ok, Option, Some, ap, arith, each_updated, refl, suc, sym, total, update, zero, ℕ, ◌+◌, ◌<◌, ◌∙◌, ◌≡◌, ◌≤◌}
+use Rattle.gate_schedules.proofs.Prelude.{AreWithin, Bounds, NodeWord, Ok, Option, Out, Role, RoleHolds, Some, TreeHolds, TreeState, ap, arith}
+use Rattle.gate_schedules.proofs.Prelude.{each_updated, is_removed, node_shown, one_if, refl, removal, suc, sym, total, total_at, turned, update}
+use Rattle.gate_schedules.proofs.Prelude.{wrap_add, zero, ℕ, ◌+◌, ◌<◌, ◌∙◌, ◌≡◌, ◌≤◌}
 use Rattle.std.specs.Prelude.{true}
-use Rattle.finite_sums.proofs.Totals.{total_bound, total_at}
-use Rattle.access_model.specs.{States.{is_removed, one_if}, declared.actions.{Kind.Kind, NodeInfo.NodeInfo}}
-use Rattle.cpu_words.specs.Touches.{wrap_add, wrap_sub}
-use Rattle.node_words.{proofs.Words.{file_loaded, any_file_loaded, directory_loaded, word_shows}, specs.Nodes.{node_shown, info_of, file_in}}
-use Rattle.node_words.specs.{Nodes.{any_file_in, directory_in}, declared.nodes.NodeWord.NodeWord}
-use Rattle.gated_tree.specs.Roles.{Role, Out, Loaded, Found, Placing, Targets, Moving, Growing, Charged, Refunding, Freed, Returning, Removing}
-use Rattle.gated_tree.specs.Roles.{Freeing, Dropped, Uncounting, Bare, Bounds, TreeState, AreWithin, charge, child_charge, removal, IsFileNode}
-use Rattle.gated_tree.specs.{Roles.{MayGrow, IsDirectoryAt, HasParent, RoleHolds, TreeHolds, NobodyReads, MayRemove, HasNoCharge}, Trees.is_same}
-use Rattle.gated_tree.specs.Trees.{has_parent, is_child}
-use Rattle.gate_schedules.proofs.{frames.Openers.one_le, trees.Laws.{same_here, same_off, role_says, all_change, counts_change, moves}}
-use Rattle.gate_schedules.specs.trees.Events.{turned, with_used, with_kids, with_removed}
+use Rattle.finite_sums.proofs.Totals.{total_bound}
+use Rattle.access_model.specs.declared.actions.{Kind.Kind, NodeInfo.NodeInfo}
+use Rattle.cpu_words.specs.Touches.{wrap_sub}
+use Rattle.node_words.{proofs.Words.{any_file_loaded, directory_loaded, file_loaded, word_shows}, specs.Nodes.{any_file_in, directory_in, file_in}}
+use Rattle.node_words.specs.Nodes.{info_of}
+use Rattle.gated_tree.specs.Roles.{Bare, Charged, Dropped, Found, Freed, Freeing, Growing, HasNoCharge, HasParent, IsDirectoryAt, IsFileNode, Loaded}
+use Rattle.gated_tree.specs.Roles.{MayGrow, MayRemove, Moving, NobodyReads, Placing, Refunding, Removing, Returning, Targets, Uncounting, charge}
+use Rattle.gated_tree.specs.{Roles.child_charge, Trees.{has_parent, is_child, is_same}}
+use Rattle.gate_schedules.proofs.{frames.Openers.one_le, trees.Laws.{all_change, counts_change, moves, role_says, same_here, same_off}}
+use Rattle.gate_schedules.specs.trees.Events.{with_kids, with_removed, with_used}
 
 parent_le : (d : ℕ) (entry : Option NodeInfo) → has_parent d entry ≤ 1
 parent_le d entry = grind arith

@@ -1,21 +1,21 @@
 -- Each step keeps what holds of the tree, and moves the shown tree by its action or not at all.
-use Rattle.gate_schedules.proofs.Prelude.{Action, Option, ap, arith, each_updated, refl, suc, update, zero, ℕ, ◌<◌, ◌≡◌, ◌≤◌}
-use Rattle.finite_sums.proofs.Totals.{update_off, total_none, total_zero}
-use Rattle.access_model.specs.States.{size_of, is_removed, one_if}
-use Rattle.node_words.{proofs.Words.{free_is_node, root_is_node}, specs.Nodes.{IsNode, node_shown}}
-use Rattle.gated_tree.specs.Roles.{Out, Bare, Clearing, Bounds, TreeState, AreWithin, charge, child_charge, removal, seen_as, HasParent, TreeHolds}
-use Rattle.gated_tree.specs.Trees.{is_child}
-use Rattle.gate_schedules.proofs.trees.Changes.{creates, removes, marks_removed, grows, moves_to, dirties, flushes, opens_file, closes_file}
-use Rattle.gate_schedules.proofs.trees.{Changes.frees_file, Clearings.{seals, opens, goes_bare, stops_bare, clearing_begins, clears, passes}}
-use Rattle.gate_schedules.proofs.trees.{Clearings.{clearing_ends, snapshot_begins, snapshot_loads}, Counts.{looks, finds_directory, finds_file}}
-use Rattle.gate_schedules.proofs.trees.Counts.{finds_target, finds_room, leaves, create_fails, move_fails, grow_fails, charges_blocks, refunds_blocks}
-use Rattle.gate_schedules.proofs.trees.Counts.{frees_blocks, drops_blocks, remove_fails, counts_removal, uncounts, finds_last, finds_none}
-use Rattle.gate_schedules.{proofs.trees.{Counts.{create_adds, move_adds, subtracts_child}, Laws.role_says}, specs.trees.Events.{Event, MovesBy}}
-use Rattle.gate_schedules.specs.trees.Events.{opening_tree, turned, FindsDirectory, FindsFile, FindsTarget, FindsRoom, Looks, Leaves, CreateFails}
-use Rattle.gate_schedules.specs.trees.Events.{MoveFails, RemoveFails, GrowFails, ChargesBlocks, RefundsBlocks, FreesBlocks, DropsBlocks}
-use Rattle.gate_schedules.specs.trees.Events.{CountsRemoval, Uncounts, CreateAdds, MoveAdds, SubtractsChild, Creates, Removes, MarksRemoved, Grows}
-use Rattle.gate_schedules.specs.trees.Events.{Moves, Dirties, Flushes, OpensFile, ClosesFile, FindsLast, FreesFile, FindsNone, GoesBare, StopsBare}
-use Rattle.gate_schedules.specs.trees.Events.{BeginsClearing, Clears, Passes, Seals, Opens, BeginsReading, Reads}
+use Rattle.gate_schedules.proofs.Prelude.{Action, AreWithin, Bounds, Clearing, Option, Out, TreeHolds, TreeState, ap, arith, each_updated, is_removed}
+use Rattle.gate_schedules.proofs.Prelude.{node_shown, one_if, refl, removal, suc, total_none, turned, update, update_off, zero, ℕ, ◌<◌, ◌≡◌, ◌≤◌}
+use Rattle.finite_sums.proofs.Totals.{total_zero}
+use Rattle.access_model.specs.States.{size_of}
+use Rattle.node_words.{proofs.Words.{free_is_node, root_is_node}, specs.Nodes.IsNode}
+use Rattle.gated_tree.specs.{Roles.{Bare, HasParent, charge, child_charge, seen_as}, Trees.is_child}
+use Rattle.gate_schedules.proofs.trees.Changes.{closes_file, creates, dirties, flushes, frees_file, grows, marks_removed, moves_to, opens_file}
+use Rattle.gate_schedules.proofs.trees.{Changes.removes, Clearings.{clearing_begins, clearing_ends, clears, goes_bare, opens, passes, seals}}
+use Rattle.gate_schedules.proofs.trees.{Clearings.{snapshot_begins, snapshot_loads, stops_bare}, Counts.{charges_blocks, counts_removal, create_adds}}
+use Rattle.gate_schedules.proofs.trees.Counts.{create_fails, drops_blocks, finds_directory, finds_file, finds_last, finds_none, finds_room}
+use Rattle.gate_schedules.proofs.trees.Counts.{finds_target, frees_blocks, grow_fails, leaves, looks, move_adds, move_fails, refunds_blocks}
+use Rattle.gate_schedules.{proofs.trees.{Counts.{remove_fails, subtracts_child, uncounts}, Laws.role_says}, specs.trees.Events.BeginsClearing}
+use Rattle.gate_schedules.specs.trees.Events.{BeginsReading, ChargesBlocks, Clears, ClosesFile, CountsRemoval, CreateAdds, CreateFails, Creates}
+use Rattle.gate_schedules.specs.trees.Events.{Dirties, DropsBlocks, Event, FindsDirectory, FindsFile, FindsLast, FindsNone, FindsRoom, FindsTarget}
+use Rattle.gate_schedules.specs.trees.Events.{Flushes, FreesBlocks, FreesFile, GoesBare, GrowFails, Grows, Leaves, Looks, MarksRemoved, MoveAdds}
+use Rattle.gate_schedules.specs.trees.Events.{MoveFails, Moves, MovesBy, Opens, OpensFile, Passes, Reads, RefundsBlocks, RemoveFails, Removes, Seals}
+use Rattle.gate_schedules.specs.trees.Events.{StopsBare, SubtractsChild, Uncounts, opening_tree}
 
 module _ (c : Bounds) (within : AreWithin c) (s : TreeState) (good : TreeHolds c s) (t : ℕ) (lt : t < c.tasks) where
   pub clearing_seals : (n : ℕ) → c.nodes ≤ n → s.at t ≡ Clearing n → TreeHolds c (record (turned s t Out) { sealed = 1 })

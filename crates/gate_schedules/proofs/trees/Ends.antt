@@ -1,22 +1,20 @@
 -- What is known of a call's steps is kept from each step to the next, up to its answer.
-use Rattle.gate_schedules.proofs.Prelude.{Action, Bool, Err, GateError, List, Next, None, Ok, Option, Reply, Result, Some, [], ap, arith, cases_Bool}
-use Rattle.gate_schedules.proofs.Prelude.{eq-eqb, eqb_tells, false, found_by, inl, inr, nat_lt, refl, subst, sym, true, ℕ, ◌+◌, ◌<◌, ◌==◌, ◌∙◌, ◌≡◌}
-use Rattle.gate_schedules.proofs.Prelude.{◌≤◌}
-use Rattle.std.{proofs.lemmas.Bool.{cases_lt, ne_eqb, lt-ltb, le-ltb}, specs.Prelude.{◌&&◌, is_some, not}}
-use Rattle.cpu_words.specs.{Touches.event_of, declared.events.Event.Event}
-use Rattle.node_words.{proofs.Refused.{file_refused, directory_refused, taken_some, size_loaded}, specs.Nodes.{kind_in, word_of, unpacked, file_in}}
-use Rattle.node_words.specs.{Nodes.{directory_in, node_after}, Phases.after_look, declared.nodes.NodeWord.NodeWord}
-use Rattle.gated_tree.specs.Phases.{create_next, create_looked, at_create, remove_next, removes_file, at_remove, grow_next, at_grow, move_next}
-use Rattle.gated_tree.specs.Phases.{at_move, mark_next, mark_done, at_mark, open_next, at_open, opens_from, snapshot_next, snapshot_locked_out}
-use Rattle.gated_tree.specs.{Phases.{node_step, kids_step}, Refusals.{CreateHonest, FileHonest, GrowHonest, MoveHonest, SnapshotHonest, finds_free}}
-use Rattle.gated_tree.specs.Refusals.{finds_gone, finds_taken, finds_file, finds_directory, finds_large, finds_full, finds_other, finds_owner}
-use Rattle.gated_tree.specs.{Refusals.finds_thawed, declared.changes.{Create.Create, CreateStep.CreateStep, MoveStep.MoveStep, MoveTo.MoveTo}}
-use Rattle.gated_tree.specs.declared.{changes.{Remove.Remove, RemoveStep.RemoveStep}, growth.{Grow.Grow, GrowStep.GrowStep}, marks.Mark.Mark}
-use Rattle.gated_tree.specs.declared.{marks.MarkStep.MarkStep, opens.{OpenFile.OpenFile, OpenStep.OpenStep}, snapshots.Snapshot.Snapshot}
-use Rattle.gated_tree.specs.declared.snapshots.SnapshotStep.{SnapshotStep}
-use Rattle.gate_schedules.specs.trees.Ends.{action_if_done, remove_added, move_added, create_adds, IsReply, IsNodeReply, CreateKnows, RemoveKnows}
-use Rattle.gate_schedules.specs.trees.Ends.{GrowKnows, MoveAnswers, MoveKnows, SnapshotAnswers, SnapshotKnows, NextIsJustified, SeesMore, CreateEnds}
-use Rattle.gate_schedules.specs.trees.Ends.{RemoveEnds, GrowEnds, MoveEnds, MarkEnds, OpenEnds, SnapshotEnds}
+use Rattle.gate_schedules.proofs.Prelude.{Action, Bool, Create, CreateStep, Err, Event, GateError, Grow, GrowStep, List, Mark, MarkStep, MoveStep}
+use Rattle.gate_schedules.proofs.Prelude.{MoveTo, Next, NodeWord, None, Ok, OpenFile, OpenStep, Option, Remove, RemoveStep, Reply, Result, Snapshot}
+use Rattle.gate_schedules.proofs.Prelude.{SnapshotStep, Some, [], ap, arith, cases_Bool, cases_lt, eq-eqb, eqb_tells, event_of, false, found_by, inl}
+use Rattle.gate_schedules.proofs.Prelude.{inr, is_some, le-ltb, lt-ltb, nat_lt, ne_eqb, refl, subst, sym, true, word_of, ℕ, ◌&&◌, ◌+◌, ◌<◌, ◌==◌, ◌∙◌}
+use Rattle.gate_schedules.proofs.Prelude.{◌≡◌, ◌≤◌}
+use Rattle.std.specs.Prelude.{not}
+use Rattle.node_words.{proofs.Refused.{directory_refused, file_refused, size_loaded, taken_some}, specs.Nodes.{directory_in, file_in, kind_in}}
+use Rattle.node_words.specs.{Nodes.{node_after, unpacked}, Phases.after_look}
+use Rattle.gated_tree.specs.Phases.{at_create, at_grow, at_mark, at_move, at_open, at_remove, create_looked, create_next, grow_next, kids_step}
+use Rattle.gated_tree.specs.Phases.{mark_done, mark_next, move_next, node_step, open_next, opens_from, remove_next, removes_file, snapshot_locked_out}
+use Rattle.gated_tree.specs.{Phases.snapshot_next, Refusals.{CreateHonest, FileHonest, GrowHonest, MoveHonest, SnapshotHonest, finds_directory}}
+use Rattle.gated_tree.specs.Refusals.{finds_file, finds_free, finds_full, finds_gone, finds_large, finds_other, finds_owner, finds_taken}
+use Rattle.gated_tree.specs.Refusals.{finds_thawed}
+use Rattle.gate_schedules.specs.trees.Ends.{CreateEnds, CreateKnows, GrowEnds, GrowKnows, IsNodeReply, IsReply, MarkEnds, MoveAnswers, MoveEnds}
+use Rattle.gate_schedules.specs.trees.Ends.{MoveKnows, NextIsJustified, OpenEnds, RemoveEnds, RemoveKnows, SeesMore, SnapshotAnswers, SnapshotEnds}
+use Rattle.gate_schedules.specs.trees.Ends.{SnapshotKnows, action_if_done, create_adds, move_added, remove_added}
 
 both : (a b : Bool) → a ≡ true → b ≡ true → (a && b) ≡ true
 both a b x y = rw (x, y) refl

@@ -1,12 +1,9 @@
 -- The numbers of a phase stay in range, and each word of its steps is there.
-use Rattle.gate_schedules.proofs.Prelude.{HookAnswer, TreePhase, arith, common_steps, map_next, ℕ, ◌<◌, ◌≡◌}
-use Rattle.gated_tree.specs.{Calls.{CreateStepFits, RemoveStepFits, MoveStepFits, SnapshotStepFits, TreePhaseFits, NextFits}, Phases.after}
-use Rattle.gated_tree.specs.{Phases.{create_after, remove_after, grow_after, move_after, mark_after, open_after, snapshot_after}, Roles.Bounds}
-use Rattle.gated_tree.specs.{Roles.AreWithin, declared.changes.{Create.Create, CreateStep.CreateStep, MoveStep.MoveStep, MoveTo.MoveTo}}
-use Rattle.gated_tree.specs.declared.{changes.{Remove.Remove, RemoveStep.RemoveStep}, growth.{Grow.Grow, GrowStep.GrowStep}, marks.Mark.Mark}
-use Rattle.gated_tree.specs.declared.{marks.MarkStep.MarkStep, opens.{OpenFile.OpenFile, OpenStep.OpenStep}, snapshots.Snapshot.Snapshot}
-use Rattle.gated_tree.specs.declared.snapshots.SnapshotStep.{SnapshotStep}
-use Rattle.node_words.specs.{Phases.clear_after, declared.marks.ClearMarks.ClearMarks}
+use Rattle.gate_schedules.proofs.Prelude.{AreWithin, Bounds, ClearMarks, Create, CreateStep, Grow, GrowStep, HookAnswer, Mark, MarkStep, MoveStep}
+use Rattle.gate_schedules.proofs.Prelude.{MoveTo, OpenFile, OpenStep, Remove, RemoveStep, Snapshot, SnapshotStep, TreePhase, arith, clear_after}
+use Rattle.gate_schedules.proofs.Prelude.{common_steps, map_next, mark_after, ℕ, ◌<◌, ◌≡◌}
+use Rattle.gated_tree.specs.{Calls.{CreateStepFits, MoveStepFits, NextFits, RemoveStepFits, SnapshotStepFits, TreePhaseFits}, Phases.after}
+use Rattle.gated_tree.specs.Phases.{create_after, grow_after, move_after, open_after, remove_after, snapshot_after}
 
 module _ (c : Bounds) (within : AreWithin c) (t : ℕ) where
   create_fits : (x : Create) (step : CreateStep) (found : ℕ) → x.dir < c.nodes → x.nodes ≡ c.nodes → CreateStepFits c step →

@@ -1,14 +1,15 @@
 -- Any step at the tree: a role changes with the counts, or with one node word.
-use Rattle.gate_schedules.proofs.Prelude.{Option, Some, ap, arith, cases_Bool, each_updated, eq-eqb, false, inl, inr, nat_lt, refl, subst, suc, sym}
-use Rattle.gate_schedules.proofs.Prelude.{total, true, update, zero, ℕ, ◌+◌, ◌<◌, ◌∙◌, ◌≡◌, ◌≤◌}
-use Rattle.std.{proofs.lemmas.Bool.{cases_lt, ne_eqb}, specs.Prelude.◌⊎◌}
-use Rattle.finite_sums.proofs.Totals.{total_updated, total_changed_by, total_at}
-use Rattle.access_model.specs.{States.{size_of, is_dirty, is_removed, one_if, IsDirectory}, declared.actions.{Kind.Kind, NodeInfo.NodeInfo}}
-use Rattle.node_words.{proofs.Words.{word_shows, word_opens}, specs.{Nodes.{IsNode, opens_in, info_of, node_shown}, declared.nodes.NodeWord.NodeWord}}
-use Rattle.gated_tree.specs.Roles.{Role, Loaded, Found, Placing, Targets, Moving, Freeing, Bare, Clearing, Reading, Bounds, TreeState, charge}
-use Rattle.gated_tree.specs.Roles.{child_charge, removal, frees, is_bare, cleared, words_read, tree_word, seen_as, IsLastOpen, HasParent, RoleHolds}
-use Rattle.gated_tree.specs.{Roles.{TreeHolds, NobodyReads, MayDirty}, Trees.{is_same, has_parent, is_child}}
-use Rattle.gate_schedules.specs.trees.Events.{turned, with_node}
+use Rattle.gate_schedules.proofs.Prelude.{Bounds, Clearing, NodeWord, Option, Role, RoleHolds, Some, TreeHolds, TreeState, ap, arith, cases_Bool}
+use Rattle.gate_schedules.proofs.Prelude.{cases_lt, each_updated, eq-eqb, false, inl, inr, is_removed, nat_lt, ne_eqb, node_shown, one_if, opens_in}
+use Rattle.gate_schedules.proofs.Prelude.{refl, removal, subst, suc, sym, total, total_at, total_updated, true, turned, update, zero, ℕ, ◌+◌, ◌<◌}
+use Rattle.gate_schedules.proofs.Prelude.{◌∙◌, ◌≡◌, ◌≤◌, ◌⊎◌}
+use Rattle.finite_sums.proofs.Totals.{total_changed_by}
+use Rattle.access_model.specs.{States.{IsDirectory, is_dirty, size_of}, declared.actions.{Kind.Kind, NodeInfo.NodeInfo}}
+use Rattle.node_words.{proofs.Words.{word_opens, word_shows}, specs.Nodes.{IsNode, info_of}}
+use Rattle.gated_tree.specs.Roles.{Bare, Found, Freeing, HasParent, IsLastOpen, Loaded, MayDirty, Moving, NobodyReads, Placing, Reading, Targets}
+use Rattle.gated_tree.specs.{Roles.{charge, child_charge, cleared, frees, is_bare, seen_as, tree_word, words_read}, Trees.{has_parent, is_child}}
+use Rattle.gated_tree.specs.Trees.{is_same}
+use Rattle.gate_schedules.specs.trees.Events.{with_node}
 
 pub same_here : (d : ℕ) → is_same d d ≡ 1
 same_here d = rw (eq-eqb d d refl)

@@ -1,25 +1,21 @@
 -- Each step of each call is a step of the tree.
-use Rattle.gate_schedules.proofs.Prelude.{Action, Bool, Err, GateError, Next, None, Ok, Option, Reply, Result, Some, Touch, WordName, Words, ap}
-use Rattle.gate_schedules.proofs.Prelude.{arith, eqb_tells, false, if◌then◌else◌, inl, inr, nat_lt, put, read, refl, subst, sym, true, update, ℕ, ◌+◌}
-use Rattle.gate_schedules.proofs.Prelude.{◌<◌, ◌==◌, ◌∙◌, ◌≡◌, ◌≤◌}
-use Rattle.std.{proofs.lemmas.Bool.{cases_lt, lt-ltb, le-ltb}, specs.Prelude.is_some}
+use Rattle.gate_schedules.proofs.Prelude.{Action, AreWithin, Bool, Bounds, Create, CreateStep, Err, GateError, Grow, GrowStep, Mark, MarkStep}
+use Rattle.gate_schedules.proofs.Prelude.{MoveStep, MoveTo, Next, NodeWord, None, Ok, OpenFile, OpenStep, Option, Out, Remove, RemoveStep, Reply}
+use Rattle.gate_schedules.proofs.Prelude.{Result, Role, Some, Touch, TreeHolds, TreeState, WordName, Words, ap, arith, cases_lt, eqb_tells, false}
+use Rattle.gate_schedules.proofs.Prelude.{if◌then◌else◌, inl, inr, is_some, le-ltb, lt-ltb, mark_after, nat_lt, put, read, refl, role_after, subst}
+use Rattle.gate_schedules.proofs.Prelude.{sym, true, turned, update, word_of, ℕ, ◌+◌, ◌<◌, ◌==◌, ◌∙◌, ◌≡◌, ◌≤◌}
 use Rattle.access_model.specs.declared.actions.Kind.{Kind}
-use Rattle.gated_tree.specs.Calls.{create_role, remove_role, grow_role, move_role, mark_role, open_role, role_after, CreateStepFits, RemoveStepFits}
-use Rattle.gated_tree.specs.{Calls.OpenStepFits, Phases.{create_next, create_looked, create_looks_at, create_past, create_after, at_create}}
-use Rattle.gated_tree.specs.Phases.{remove_next, remove_after, removes_file, at_remove, grow_next, grow_from, grow_after, at_grow, move_next}
-use Rattle.gated_tree.specs.Phases.{move_after, at_move, mark_next, mark_done, mark_after, at_mark, open_next, open_after, at_open, opens_from}
-use Rattle.gated_tree.specs.Roles.{Role, Out, Loaded, Found, Growing, Charged, Refunding, Returning, Uncounting, Bounds, TreeState, AreWithin}
-use Rattle.gated_tree.specs.{Roles.{TreeHolds, NobodyReads, MayDirty, MayRemove, HasNoCharge}, declared.changes.Create.Create}
-use Rattle.gated_tree.specs.declared.changes.{CreateStep.CreateStep, MoveStep.MoveStep, MoveTo.MoveTo, Remove.Remove, RemoveStep.RemoveStep}
-use Rattle.gated_tree.specs.declared.{growth.{Grow.Grow, GrowStep.GrowStep}, marks.{Mark.Mark, MarkStep.MarkStep}, opens.OpenFile.OpenFile}
-use Rattle.gated_tree.specs.declared.opens.OpenStep.{OpenStep}
-use Rattle.node_words.specs.{Nodes.{word_of, unpacked, file_in, directory_in, node_after, marked_node}, Phases.after_look}
-use Rattle.node_words.specs.declared.nodes.NodeWord.{NodeWord}
-use Rattle.gate_schedules.proofs.trees.Counts.{looks, leaves, finds_directory, finds_file, finds_target, finds_room, create_fails, remove_fails}
-use Rattle.gate_schedules.{proofs.trees.{Counts.{move_fails, grow_fails, charges_blocks}, Each.each_event}, specs.trees.Events.{Event, tree_shown}}
-use Rattle.gate_schedules.specs.trees.Events.{opens_shown, turned, MarksRemoved as MarksOne, OpensFile as OpensIt, CountsRemoval, Uncounts}
-use Rattle.gate_schedules.specs.trees.Events.{RefundsBlocks as TakesBack, FreesBlocks, CreateAdds, MoveAdds, SubtractsChild, Creates, Removes, Grows}
-use Rattle.gate_schedules.specs.trees.{Events.{Moves, Dirties, Flushes}, Steps.{tree_in, words_left, found_at, EventKeeps, MayMark}}
+use Rattle.gated_tree.specs.Calls.{CreateStepFits, OpenStepFits, RemoveStepFits, create_role, grow_role, mark_role, move_role, open_role, remove_role}
+use Rattle.gated_tree.specs.Phases.{at_create, at_grow, at_mark, at_move, at_open, at_remove, create_after, create_looked, create_looks_at}
+use Rattle.gated_tree.specs.Phases.{create_next, create_past, grow_after, grow_from, grow_next, mark_done, mark_next, move_after, move_next}
+use Rattle.gated_tree.specs.{Phases.{open_after, open_next, opens_from, remove_after, remove_next, removes_file}, Roles.{Charged, Found, Growing}}
+use Rattle.gated_tree.specs.Roles.{HasNoCharge, Loaded, MayDirty, MayRemove, NobodyReads, Refunding, Returning, Uncounting}
+use Rattle.node_words.specs.{Nodes.{directory_in, file_in, marked_node, node_after, unpacked}, Phases.after_look}
+use Rattle.gate_schedules.proofs.trees.Counts.{charges_blocks, create_fails, finds_directory, finds_file, finds_room, finds_target, grow_fails}
+use Rattle.gate_schedules.{proofs.trees.{Counts.{leaves, looks, move_fails, remove_fails}, Each.each_event}, specs.trees.Events.CountsRemoval}
+use Rattle.gate_schedules.specs.trees.Events.{CreateAdds, Creates, Dirties, Event, Flushes, FreesBlocks, Grows, MarksRemoved as MarksOne, MoveAdds}
+use Rattle.gate_schedules.specs.trees.Events.{Moves, OpensFile as OpensIt, RefundsBlocks as TakesBack, Removes, SubtractsChild, Uncounts, opens_shown}
+use Rattle.gate_schedules.specs.trees.{Events.tree_shown, Steps.{EventKeeps, MayMark, found_at, tree_in, words_left}}
 
 -- a write of what is there leaves the tree
 same_tree : (sealed bare : ℕ) (w : Words) (at : ℕ → Role) (name : WordName) → tree_in sealed bare (put w name (read w name)) at ≡ tree_in sealed bare w at

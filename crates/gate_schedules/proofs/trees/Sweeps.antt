@@ -1,15 +1,13 @@
 -- Each step of a clearing of the dirty marks and of a snapshot is a step of the tree.
-use Rattle.gate_schedules.proofs.Prelude.{Bool, Err, Ok, WordName, Words, ap, arith, eqb_tells, false, inl, inr, refl, subst, suc, sym, true, update}
-use Rattle.gate_schedules.proofs.Prelude.{update_at, ℕ, ◌+◌, ◌<◌, ◌∙◌, ◌≡◌}
-use Rattle.std.{proofs.{Common.◌-◌, lemmas.Bool.{cases_lt, lt-ltb, le-ltb}}, specs.Prelude.is_some}
-use Rattle.node_words.{proofs.Packing.packed_unpacks, specs.{Nodes.{dirty_in, unpacked}, Phases.{clear_next, clear_after}}}
-use Rattle.node_words.specs.declared.marks.ClearMarks.{ClearMarks}
-use Rattle.gated_tree.specs.{Calls.{snapshot_role, role_after, SnapshotStepFits}, Phases.{snapshot_next, snapshot_after, snapshot_locked_out}}
-use Rattle.gated_tree.specs.Roles.{Role, Out, Clearing, Reading, Bounds, TreeState, AreWithin, TreeHolds, HasNoCharge, tree_word, seen_as}
-use Rattle.gated_tree.specs.declared.snapshots.{Snapshot.Snapshot, SnapshotStep.SnapshotStep}
-use Rattle.gate_schedules.proofs.trees.{Clearings.{clears, passes, snapshot_begins, snapshot_loads}, Counts.leaves, Steps.{leaves_word, ends_free}}
-use Rattle.gate_schedules.{proofs.trees.Steps.stays_at, specs.trees.{Events.{turned, MayClean}, Steps.{tree_in, words_left, found_at, EventKeeps}}}
-use Rattle.gate_schedules.specs.trees.Steps.{NotesLoad}
+use Rattle.gate_schedules.proofs.Prelude.{AreWithin, Bool, Bounds, ClearMarks, Clearing, Err, Ok, Out, Role, Snapshot, SnapshotStep, TreeHolds}
+use Rattle.gate_schedules.proofs.Prelude.{TreeState, WordName, Words, ap, arith, cases_lt, clear_after, dirty_in, eqb_tells, false, inl, inr, is_some}
+use Rattle.gate_schedules.proofs.Prelude.{le-ltb, lt-ltb, refl, role_after, subst, suc, sym, true, turned, update, update_at, ℕ, ◌+◌, ◌-◌, ◌<◌, ◌∙◌}
+use Rattle.gate_schedules.proofs.Prelude.{◌≡◌}
+use Rattle.node_words.{proofs.Packing.packed_unpacks, specs.{Nodes.unpacked, Phases.clear_next}}
+use Rattle.gated_tree.specs.{Calls.{SnapshotStepFits, snapshot_role}, Phases.{snapshot_after, snapshot_locked_out, snapshot_next}, Roles.HasNoCharge}
+use Rattle.gated_tree.specs.Roles.{Reading, seen_as, tree_word}
+use Rattle.gate_schedules.proofs.trees.{Clearings.{clears, passes, snapshot_begins, snapshot_loads}, Counts.leaves, Steps.{ends_free, leaves_word}}
+use Rattle.gate_schedules.{proofs.trees.Steps.stays_at, specs.trees.{Events.MayClean, Steps.{EventKeeps, NotesLoad, found_at, tree_in, words_left}}}
 
 update_twice : {A : Type 0} (f : ℕ → A) (t : ℕ) (a b : A) → update (update f t a) t b ≡ update f t b
 update_twice f t a b = grind arith

@@ -1,6 +1,5 @@
 -- Steps of a freeze or a thaw as `umount` has them: taken, given back, or as it was.
-use Rattle.gate_schedules.proofs.Prelude.{Config, IsGood, Owner, View, Words, World, owns, suc, sym, update, ℕ, ◌<◌, ◌∙◌, ◌≡◌}
-use Rattle.gate_world.specs.Rules.{remounts, OwnerHolds}
+use Rattle.gate_schedules.proofs.Prelude.{Config, IsGood, Owner, OwnerHolds, View, Words, World, owns, remounts, suc, sym, update, ℕ, ◌<◌, ◌∙◌, ◌≡◌}
 use Rattle.gate_schedules.proofs.{frames.{Frames.left_alone, Owners.{locks_umount, releases_umount}}, writers.Parts.IsWriter}
 
 module _ (c : Config) (w : World) (good : IsGood c w) (t : ℕ) (lt : t < c.tasks) (v : View) (was : IsWriter (w.views t).phase)

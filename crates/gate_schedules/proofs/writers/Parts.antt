@@ -1,19 +1,18 @@
 -- What a step of a freeze or a thaw may leave: each conjunct of the invariant, and the shown state.
-use Rattle.gate_schedules.proofs.Prelude.{Action, AtLevel, AtMount, Config, Fitting, Holdings, Holds, HookAnswer, IsGood, Next, None, Ok, Option}
-use Rattle.gate_schedules.proofs.Prelude.{Owner, Phase, Reply, Some, Stages, StepKeeps, SyncAt, Tree, View, Words, World, after_step, ap, arith}
-use Rattle.gate_schedules.proofs.Prelude.{cases_Bool, common_steps, each_updated, false, held_of, inl, inr, map_next, phase_after, refl, shown}
-use Rattle.gate_schedules.proofs.Prelude.{stage_role_of, subst, sym, true≢false, update, ℕ, ◌<◌, ◌∙◌, ◌≡◌}
-use Rattle.access_model.specs.{States.{Limits, State, openers}, declared.actions.{Holders.Holders, NodeInfo.NodeInfo}}
-use Rattle.freeze_levels.specs.{Holders.holders_in, declared.{freezes.Freeze.Freeze, thaws.Thaw.Thaw}}
+use Rattle.gate_schedules.proofs.Prelude.{Action, AtLevel, AtMount, Config, DownWrite, DownWriteStep, Files, Fitting, Freeze, FreezeFits, HasFile}
+use Rattle.gate_schedules.proofs.Prelude.{Holding, Holdings, Holds, HookAnswer, IsGood, Known, Moves, Next, None, Ok, Option, Owner, OwnerHolds, Part}
+use Rattle.gate_schedules.proofs.Prelude.{Phase, Reply, Sections, Some, StageEvent, Stages, State, StepKeeps, SyncAt, Thaw, Tree, View, ViewFits}
+use Rattle.gate_schedules.proofs.Prelude.{Words, World, added_by, after_step, ap, arith, cases_Bool, common_steps, down_write_after, each_updated}
+use Rattle.gate_schedules.proofs.Prelude.{false, file_of, has_open, held_of, holders_in, inl, inr, map_next, model_limits, no_roles, node_shown}
+use Rattle.gate_schedules.proofs.Prelude.{openers, opens_in, phase_after, refl, roles_of, shown, stage_role_of, stage_roles, subst, sym, taken_by}
+use Rattle.gate_schedules.proofs.Prelude.{true≢false, update, ℕ, ◌<◌, ◌∙◌, ◌≡◌}
+use Rattle.access_model.specs.{States.Limits, declared.actions.{Holders.Holders, NodeInfo.NodeInfo}}
 use Rattle.gate_schedules.proofs.frames.{Frames.{left_alone, opens_left, view_as}, Known.{IsOwnersWork, known_after}, Stages.{IsStageEvent, shown_by}}
 use Rattle.gate_schedules.proofs.{frames.Stages.{stage_action, stage_effect, stages_after, stages_in}, levels.LevelPositions.{LevelsHold, left_world}}
 use Rattle.gate_schedules.proofs.mounts.Parts.{is_known_part, known_is}
-use Rattle.gate_world.specs.{Configs.model_limits, Fits.{FreezeFits, HasFile, file_of}, Rules.{Files, Holding, Known, Moves, OwnerHolds, Part}}
-use Rattle.gate_world.specs.{Rules.{Sections, ViewFits, stage_roles}, SameRoles.{Roles, no_roles, roles_of}, Views.{added_by, has_open, taken_by}}
-use Rattle.gate_world.specs.Worlds.{phase_action}
-use Rattle.node_words.specs.Nodes.{node_shown, opens_in}
-use Rattle.percpu_rwsem.specs.{Writers.{at_down_write, down_write_after}, declared.writers.{DownWrite.DownWrite, DownWriteStep.DownWriteStep}}
-use Rattle.freeze_laws.specs.stages.{Events.{StageEvent, action_of as stage_action_of}, Shown.{AsksOthers, ShowsStages, state_after}}
+use Rattle.gate_world.specs.{SameRoles.Roles, Worlds.phase_action}
+use Rattle.percpu_rwsem.specs.Writers.{at_down_write}
+use Rattle.freeze_laws.specs.stages.{Events.action_of as stage_action_of, Shown.{AsksOthers, ShowsStages, state_after}}
 
 -- of these roles those that no freeze and no thaw has
 abbrev pub off_writers : Roles → Roles

@@ -1,20 +1,19 @@
 -- A level is closed, where nobody is inside a section and nothing is counted there, and opened, in a bounded number of steps.
-use Rattle.gate_schedules.proofs.Prelude.{Config, IsGood, Next, None, Some, SyncAt, WordName, Words, World, ap, arith, cases_Bool, eq-eqb, eqb_tells}
-use Rattle.gate_schedules.proofs.Prelude.{found_by, inl, inr, is_frozen_whole, left, nat_lt, read, refl, subst, suc, sym, sync_role_of, total, true}
-use Rattle.gate_schedules.proofs.Prelude.{update_at, ℕ, ◌+◌, ◌<◌, ◌==◌, ◌≡◌, ◌≤◌}
-use Rattle.std.{proofs.{Common.add-one, lemmas.Bool.{ltb-true, ltb-false}}, specs.Prelude.{◌-◌, ◌*◌, ◌%◌}}
-use Rattle.cpu_words.{proofs.gate_counts.Numbers.{ahead_past, ahead_step}, specs.{Sums.{ahead, lead}, Touches.wrap_add, declared.sums.Sum.Sum}}
-use Rattle.percpu_rwsem.specs.{Graces.looked, SyncWords.{unpack, is_passed, on_enter, on_exit, on_callback}, Transitions.transition_next}
-use Rattle.percpu_rwsem.specs.{Transitions.transition_after, Writers.{down_write_next, down_write_after, at_down_write, enter_step, callback_step}}
-use Rattle.percpu_rwsem.specs.{Writers.{sections_awaited, up_write_next, up_write_after, exit_made}, declared.grace.GraceNext.GraceNext}
-use Rattle.percpu_rwsem.specs.declared.{transitions.{Transition.Transition, TransitionNext.TransitionNext}, writers.DownWrite.DownWrite}
-use Rattle.percpu_rwsem.specs.declared.writers.{DownWriteStep.DownWriteStep, UpWrite.UpWrite, UpWriteStep.UpWriteStep}
-use Rattle.freeze_laws.specs.levels.{Operations.{down_write_role, up_write_role}, Roles.{SyncRole, Past, Entered, entering, entered, closed}}
+use Rattle.gate_schedules.proofs.Prelude.{Config, DownWrite, DownWriteStep, IsGood, Next, None, RankDecreases, Some, Sum, SyncAt, Transition}
+use Rattle.gate_schedules.proofs.Prelude.{TransitionNext, UpWrite, UpWriteStep, WordName, Words, World, add-one, ap, arith, cases_Bool, closed}
+use Rattle.gate_schedules.proofs.Prelude.{down_write_after, down_write_next, eq-eqb, eqb_tells, found_by, inl, inr, is_frozen_whole, left, ltb-false}
+use Rattle.gate_schedules.proofs.Prelude.{ltb-true, nat_lt, on_exit, read, refl, subst, suc, sym, sync_role_of, total, transition_after, true, unpack}
+use Rattle.gate_schedules.proofs.Prelude.{up_write_after, up_write_next, update_at, wrap_add, ℕ, ◌+◌, ◌<◌, ◌==◌, ◌≡◌, ◌≤◌}
+use Rattle.std.specs.Prelude.{◌%◌, ◌*◌, ◌-◌}
+use Rattle.cpu_words.{proofs.gate_counts.Numbers.{ahead_past, ahead_step}, specs.Sums.{ahead, lead}}
+use Rattle.percpu_rwsem.specs.{Graces.looked, SyncWords.{is_passed, on_callback, on_enter}, Transitions.transition_next, Writers.at_down_write}
+use Rattle.percpu_rwsem.specs.{Writers.{callback_step, enter_step, exit_made, sections_awaited}, declared.grace.GraceNext.GraceNext}
+use Rattle.freeze_laws.specs.levels.{Operations.{down_write_role, up_write_role}, Roles.{Entered, Past, SyncRole, entered, entering}}
 use Rattle.gate_world.specs.{Fits.DownWriteStepFits, Rules.SyncHoldsIn}
-use Rattle.gate_schedules.proofs.{frames.Words.load_same, levels.Facts.{ExchangeFalls, exchange_falls, defined_falls, enter_defined, writer_passed}}
-use Rattle.gate_schedules.proofs.{levels.Facts.{exit_defined, block_clear, writer_called}, operations.callback.Progress.{GraceFalls, look_falls}}
-use Rattle.gate_schedules.{proofs.operations.deadlocks.RankDecreases.after_event, specs.operations.Ranks.{exchange_rank, grace_rank, up_rank}}
-use Rattle.gate_schedules.specs.operations.{Ranks.{reopens_rank, sum_rank, down_rank}, Unblocked.{NobodyInside, NothingCounted, RankDecreases}}
+use Rattle.gate_schedules.proofs.{frames.Words.load_same, levels.Facts.{ExchangeFalls, block_clear, defined_falls, enter_defined, exchange_falls}}
+use Rattle.gate_schedules.proofs.{levels.Facts.{exit_defined, writer_called, writer_passed}, operations.callback.Progress.{GraceFalls, look_falls}}
+use Rattle.gate_schedules.{proofs.operations.deadlocks.RankDecreases.after_event, specs.operations.Ranks.{down_rank, exchange_rank, grace_rank}}
+use Rattle.gate_schedules.specs.operations.{Ranks.{reopens_rank, sum_rank, up_rank}, Unblocked.{NobodyInside, NothingCounted}}
 
 -- a sum has taken one word more: what is ahead of it is as it was
 lead_on : (processors : ℕ) (count : ℕ → ℕ) (k sum : ℕ) → k < processors →

@@ -1,19 +1,15 @@
 -- A step that waits finds its blocker in the state in which it is done.
-use Rattle.std.proofs.Common.{◌≡◌, ℕ, List, [], ◌∷◌, ◌++◌, refl, sym, ap, ◌∙◌, subst, arith}
-use Rattle.std.proofs.lemmas.List.{append_assoc}
-use Rattle.std.specs.Prelude.{Option, Some, None, Result}
-use Rattle.access_model.specs.declared.{errors.GateError.GateError, replies.{Next.{Next, TheVariants.{Wait}}, Reply.Reply}}
-use Rattle.cpu_words.specs.{Hooks.HookAnswer, Touches.found_by, declared.events.Touch.Touch}
-use Rattle.gate_world.specs.{Headline.world_after, refusals.{Waits.HasCulpritAmong}, traces.TraceStates.{state_of_trace, trace_state_after, trace_state_with, TraceState}}
-use Rattle.gate_world.specs.{Work.{next_of, after_of}, Worlds.{World, found_at}}
-use Rattle.gate_world.specs.declared.entries.Entry.{Entry, TheVariants.{Begins}}
-use Rattle.gate_world.specs.declared.{config.Config.Config, operations.Op.Op, views.{Traced.Traced, View.View}, work.Phase.Phase}
-use Rattle.gate_transitions.specs.{Answers.{progress_of}, declared.steps.{Progress.TheVariants.{Waiting}, Step.{Step}}}
+use Rattle.vfs_gates.proofs.Prelude.{AreMoves, Called, Config, DealtNumbers, Entry, GateError, HookAnswer, IsPrefix, List, Next, None, Numbered, Op}
+use Rattle.vfs_gates.proofs.Prelude.{Option, Phase, Reply, Result, Some, Traced, View, Wait, World, [], after_of, ap, append_assoc, arith, next_of}
+use Rattle.vfs_gates.proofs.Prelude.{refl, state_of_trace, subst, sym, world_after, ℕ, ◌++◌, ◌∙◌, ◌∷◌, ◌≡◌}
+use Rattle.cpu_words.specs.{Touches.found_by, declared.events.Touch.Touch}
+use Rattle.gate_world.specs.{Worlds.found_at, declared.entries.Entry.TheVariants.Begins, refusals.Waits.HasCulpritAmong}
+use Rattle.gate_world.specs.traces.TraceStates.{TraceState, trace_state_after, trace_state_with}
+use Rattle.gate_transitions.specs.{Answers.progress_of, declared.steps.{Progress.TheVariants.Waiting, Step.Step}}
 use Rattle.gate_schedules.proofs.schedules.HeadlineProof.{whole_waits}
-use Rattle.gate_steps.specs.{Histories.then_begins, Seating.{DealtNumbers, IsPrefix, HasWitness, NumberMayStep, entered, world_entered}, declared.seating.Numbered.Numbered}
-use Rattle.gate_steps.specs.call_events.{Runs.{AreMoves, Called}, SeatedTasks.{SeatedTask, own_number}, Spans.{HappensAfter, IsEventDuring}}
-use Rattle.gate_steps.specs.call_events.{Stepped.{Stepped, ToldIn}, Waited.is_wait}
-use Rattle.gate_steps.proofs.call_events.{Running.course_is, Spanning.each_event}
+use Rattle.gate_steps.{proofs.call_events.{Running.course_is, Spanning.each_event}, specs.{Histories.then_begins, Seating.HasWitness}}
+use Rattle.gate_steps.specs.{Seating.{NumberMayStep, entered, world_entered}, call_events.{SeatedTasks.{SeatedTask, own_number}, Spans.HappensAfter}}
+use Rattle.gate_steps.specs.call_events.{Spans.IsEventDuring, Stepped.{Stepped, ToldIn}, Waited.is_wait}
 use Rattle.vfs_gates.specs.Blockers.{WasBlocked, WasBlockedDuring}
 
 -- what comes next is a wait

@@ -1,17 +1,12 @@
 -- A step that meets what a dropped task has left.
-use Rattle.std.proofs.Common.{◌≡◌, ℕ, List, [], ◌∷◌, sym, ap, ◌∙◌, subst}
-use Rattle.std.specs.Prelude.{Option, Some}
-use Rattle.cpu_words.specs.Hooks.{HookAnswer}
-use Rattle.gate_world.specs.{Headline.world_after, Worlds.{World, opening}}
-use Rattle.gate_world.specs.declared.{config.Config.Config, entries.Entry.Entry, operations.Op.Op, views.View.View, work.Phase.Phase}
-use Rattle.gate_schedules.specs.operations.Progress.{IsUnderWay}
+use Rattle.vfs_gates.proofs.Prelude.{Config, DealtNumbers, Entry, HookAnswer, List, Op, Option, Phase, Some, View, World, [], ap, subst, sym}
+use Rattle.vfs_gates.proofs.Prelude.{world_after, ℕ, ◌∙◌, ◌∷◌, ◌≡◌}
+use Rattle.gate_world.specs.Worlds.{opening}
+use Rattle.gate_schedules.{proofs.schedules.HeadlineProof.whole_rule, specs.operations.Progress.IsUnderWay}
 use Rattle.gate_transitions.specs.declared.steps.Step.{Step}
-use Rattle.gate_schedules.proofs.schedules.HeadlineProof.{whole_rule}
-use Rattle.gate_steps.specs.{Seating.{DealtNumbers, HasWitness}, call_events.{SeatedTasks.SeatedTask, Stepped.Stepped}}
-use Rattle.gate_steps.proofs.call_events.Moments.{run_append}
+use Rattle.gate_steps.{proofs.call_events.Moments.run_append, specs.{Seating.HasWitness, call_events.{SeatedTasks.SeatedTask, Stepped.Stepped}}}
 use Rattle.progress_laws.proofs.blocked.NeverReplies.{never_replies}
-use Rattle.vfs_gates.proofs.call_laws.Blocked.{at_it, on_begins}
-use Rattle.vfs_gates.specs.Dropped.{MeetsDropped}
+use Rattle.vfs_gates.{proofs.call_laws.Blocked.{at_it, on_begins}, specs.Dropped.MeetsDropped}
 
 module _ (c : Config) (begins : Option Op) (phase : Phase) (hook : HookAnswer) (found : ℕ) (seen left : List (List Entry)) where
   meets : (items : DealtNumbers) → HasWitness c begins phase hook items found seen left → MeetsDropped c items phase hook seen left

@@ -1,21 +1,17 @@
 -- A freeze that was granted, and waits for nobody, has found nobody: where it found somebody it would have asked whether to wait.
-use Rattle.std.proofs.Common.{◌≡◌, ℕ, List, [], ◌∷◌, ◌++◌, append-nil, refl, sym, ap, ◌∙◌, subst, inl, inr}
-use Rattle.std.specs.Prelude.{Option, Some, None, Result, Ok, Err, option_map}
-use Rattle.access_model.specs.declared.{actions.{Action.{Action}, Holder.{Holder}}, errors.GateError.{GateError}}
-use Rattle.access_model.specs.declared.replies.{Next.{Next, TheVariants.{Go, Wait, Done}}, Reply.{Reply}}
-use Rattle.cpu_words.specs.Hooks.{HookAnswer}
-use Rattle.freeze_levels.specs.Freezes.{freeze_hook}
-use Rattle.freeze_levels.specs.declared.{freezes.{FreezeStep.{FreezeStep, TheVariants.{Waits}}}, hooks.HookCall.{HookCall}}
-use Rattle.freeze_levels.specs.declared.hooks.{HookCall.TheVariants.{FreezeFs as FreezeCall, KeepWaiting as KeepWaitingCall, Sync as SyncCall}, HookKind.{TheVariants.{KeepWaiting}}}
-use Rattle.gate_steps.specs.{Seating.{DealtNumbers}, call_events.Asked.{agreed, AskedByFreeze, HasWaited, OnlyWaited}}
-use Rattle.gate_steps.specs.call_events.{Asking.{Ask, asks_of, asks_with, call_at, call_of, next_call, PerformsAsking, WereAsked}}
-use Rattle.gate_steps.specs.call_events.{Runs.{items_at, told_as, unit_of, Called}, SeatedTasks.{own_number}}
-use Rattle.gate_steps.proofs.call_events.FreezeAsks.{granted_freeze}
-use Rattle.gate_world.specs.declared.{config.Config.{Config}, operations.Op.{Op, TheVariants.{Freeze as FreezeOp}}, views.Traced.{Traced}}
-use Rattle.gate_world.specs.{declared.work.Phase.{Phase, TheVariants.{Freezes}}, traces.{TraceStates.{state_of_trace}, Traces.{actions_of}}}
-use Rattle.vfs_gates.specs.FoundNobody.{AskedBothOrNone, FoundAt, FoundNobody, FrozeAtOnce, HasFoundSomebody, WaitsInside}
-use Rattle.vfs_gates.specs.{Patience.{IsImpatient, without_patience}, TaskStates.{SeatedTask}}
-use Rattle.vfs_gates.proofs.Returning.{was_done}
+use Rattle.vfs_gates.proofs.Prelude.{Action, Called, Config, DealtNumbers, Done, Err, GateError, Go, Holder, HookAnswer, List, Next, None, Ok, Op}
+use Rattle.vfs_gates.proofs.Prelude.{Option, Phase, Reply, Result, SeatedTask, Some, Traced, Wait, [], actions_of, ap, inl, inr, refl, state_of_trace}
+use Rattle.vfs_gates.proofs.Prelude.{subst, sym, told_as, unit_of, ℕ, ◌++◌, ◌∙◌, ◌∷◌, ◌≡◌}
+use Rattle.std.{proofs.Common.append-nil, specs.Prelude.option_map}
+use Rattle.freeze_levels.specs.{Freezes.freeze_hook, declared.{freezes.FreezeStep.{FreezeStep, TheVariants.Waits}, hooks.HookCall.HookCall}}
+use Rattle.freeze_levels.specs.declared.hooks.HookCall.TheVariants.{FreezeFs as FreezeCall, KeepWaiting as KeepWaitingCall, Sync as SyncCall}
+use Rattle.freeze_levels.specs.declared.hooks.HookKind.TheVariants.{KeepWaiting}
+use Rattle.gate_steps.{proofs.call_events.FreezeAsks.granted_freeze, specs.call_events.Asked.{AskedByFreeze, HasWaited, OnlyWaited, agreed}}
+use Rattle.gate_steps.specs.call_events.{Asking.{Ask, PerformsAsking, WereAsked, asks_of, asks_with, call_at, call_of, next_call}, Runs.items_at}
+use Rattle.gate_steps.specs.call_events.SeatedTasks.{own_number}
+use Rattle.gate_world.specs.declared.{operations.Op.TheVariants.Freeze as FreezeOp, work.Phase.TheVariants.Freezes}
+use Rattle.vfs_gates.{proofs.Returning.was_done, specs.FoundNobody.{AskedBothOrNone, FoundAt, FoundNobody, FrozeAtOnce, HasFoundSomebody}}
+use Rattle.vfs_gates.specs.{FoundNobody.WaitsInside, Patience.{IsImpatient, without_patience}}
 
 -- who waits for nobody never agrees to wait
 never_agrees : (own : HookAnswer) → IsImpatient own (Ok tt) → ⊥

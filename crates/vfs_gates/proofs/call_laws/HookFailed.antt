@@ -1,16 +1,15 @@
 -- A freeze that a hook refused leaves nothing behind, as its last step is the one that answers so.
-use Rattle.std.proofs.Common.{◌≡◌, ℕ, List, [], ◌∷◌, ◌++◌, refl, sym, ap, ◌∙◌, subst, arith, lt-ltb}
-use Rattle.std.specs.Prelude.{Option, Some, None, Result, Err, Ok, if◌then◌else◌}
-use Rattle.access_model.specs.declared.{actions.Holder.{Holder}, errors.GateError.{GateError, TheVariants.{Hook}}, replies.Reply.{Reply}}
-use Rattle.gate_transitions.specs.{Answers.{idle_step, phase_step, progress_of, step_answer}, declared.steps.{Progress.TheVariants.{Done}, Step.{Step}}}
+use Rattle.vfs_gates.proofs.Prelude.{Called, Config, DealtNumbers, Entry, Err, Freeze, GateError, Holder, List, None, Ok, Option, Reply, Result}
+use Rattle.vfs_gates.proofs.Prelude.{SeatedTask, Some, Traced, World, [], ap, arith, if◌then◌else◌, own_number, refl, refusal_at, subst, sym, told_as}
+use Rattle.vfs_gates.proofs.Prelude.{unit_of, world_after, ℕ, ◌++◌, ◌∙◌, ◌∷◌, ◌≡◌}
+use Rattle.std.proofs.Common.{lt-ltb}
+use Rattle.access_model.specs.declared.errors.GateError.TheVariants.{Hook}
+use Rattle.gate_transitions.specs.{Answers.{idle_step, phase_step, progress_of, step_answer}, declared.steps.{Progress.TheVariants.Done, Step.Step}}
 use Rattle.gate_schedules.proofs.schedules.Runs.{run_more}
-use Rattle.gate_world.specs.{Headline.{world_after}, Worlds.{World, opening}}
-use Rattle.gate_world.specs.declared.{config.Config.{Config}, entries.Entry.{Entry, TheVariants.{Steps}}, operations.Op.TheVariants.{Freeze}, views.Traced.{Traced}}
-use Rattle.gate_steps.specs.{Seating.{DealtNumbers}, call_events.{Runs.{told_as, unit_of, Called, Performs}, Spans.{HasItsCauseDuring, IsCausedDuring}}}
-use Rattle.gate_steps.proofs.call_events.Caused.{call_caused_during}
-use Rattle.progress_laws.specs.Undone.{IsUndone}
-use Rattle.progress_laws.proofs.Undone.{fails_undone}
-use Rattle.vfs_gates.specs.{TaskStates.{SeatedTask, own_number, refusal_at}, Undone.{LeavesNothing}}
+use Rattle.gate_world.specs.{Worlds.opening, declared.entries.Entry.TheVariants.Steps}
+use Rattle.gate_steps.{proofs.call_events.Caused.call_caused_during, specs.call_events.{Runs.Performs, Spans.{HasItsCauseDuring, IsCausedDuring}}}
+use Rattle.progress_laws.{proofs.Undone.fails_undone, specs.Undone.IsUndone}
+use Rattle.vfs_gates.specs.Undone.{LeavesNothing}
 
 module _ (c : Config) (items : DealtNumbers) (holder : Holder) (code : ℕ) (seen gone : List (List Entry)) where
   -- the last step is the one that answers so

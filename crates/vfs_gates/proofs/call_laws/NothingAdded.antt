@@ -1,30 +1,28 @@
 -- A call that was done and added nothing found at its last step that there was nothing to do.
-use Rattle.std.proofs.Common.{◌≡◌, ℕ, suc, ◌+◌, ◌<◌, Bool, true, false, List, [], ◌∷◌, refl, sym, ap, ◌∙◌, subst, inl, inr, arith}
-use Rattle.std.proofs.lemmas.{Bool.{and_parts, cases_Bool, eq-eqb, false≢true, Decides.eqb_tells}, List.append_cancel_right}
-use Rattle.std.specs.Prelude.{◌==◌, ◌⊎◌, ◌||◌, ◌&&◌, not, Some, is_some, Result, Ok, Err}
-use Rattle.access_model.specs.{declared.{actions.Action.Action, errors.GateError.GateError}}
-use Rattle.access_model.specs.declared.replies.{Next.{Next, TheVariants.{Go, Wait, Done}}, Reply.{Reply, TheVariants.Ran}}
-use Rattle.cpu_words.specs.{Hooks.HookAnswer, Words.{Words, read}}
-use Rattle.cpu_words.specs.declared.{events.Event.Event, names.WordName.{WordName, TheVariants.{MountFlags, SbFlags, Sync}}}
-use Rattle.mount_counts.specs.{Phases.has_flag, Roles.ro_bit, declared.phases.{ChangeStep.ChangeStep}}
+use Rattle.vfs_gates.proofs.Prelude.{Action, AreMoves, Bool, Called, ChangeMount, Config, DealtNumbers, Done, Entry, Err, Event, GateError, Go}
+use Rattle.vfs_gates.proofs.Prelude.{HookAnswer, List, Next, Ok, Op, Phase, Reply, Result, SeatedTask, Some, Traced, Wait, WordName, World, []}
+use Rattle.vfs_gates.proofs.Prelude.{actions_of, after_of, ap, arith, at_snapshot, cases_Bool, eqb_tells, false, inl, inr, is_some, next_of}
+use Rattle.vfs_gates.proofs.Prelude.{own_actions, phase_after, refl, shown, state_of_trace, subst, suc, sym, true, world_after, ℕ, ◌+◌, ◌<◌, ◌==◌}
+use Rattle.vfs_gates.proofs.Prelude.{◌∙◌, ◌∷◌, ◌≡◌}
+use Rattle.std.{proofs.lemmas.{Bool.{and_parts, eq-eqb, false≢true}, List.append_cancel_right}, specs.Prelude.{not, ◌&&◌, ◌||◌, ◌⊎◌}}
+use Rattle.access_model.specs.declared.replies.Reply.TheVariants.{Ran}
+use Rattle.cpu_words.specs.{Words.{Words, read}, declared.names.WordName.TheVariants.{MountFlags, SbFlags, Sync}}
+use Rattle.mount_counts.{proofs.laws.Bits.read_only_clear, specs.{Phases.has_flag, Roles.ro_bit, declared.phases.ChangeStep.ChangeStep}}
 use Rattle.mount_counts.specs.declared.remounts.RemountStep.{RemountStep}
-use Rattle.mount_counts.proofs.laws.Bits.{read_only_clear}
 use Rattle.percpu_rwsem.specs.SyncWords.{unpack}
 use Rattle.node_words.specs.Nodes.{unpacked}
-use Rattle.gated_tree.specs.{Phases.at_snapshot, declared.{phases.TreePhase.TreePhase, snapshots.SnapshotStep.SnapshotStep}}
-use Rattle.gate_world.specs.{Beginnings.first_phase, Fits.Fits, Headline.{world_after}, Operations.first_snapshot, Owners.last_left}
-use Rattle.gate_world.specs.Rules.{IsGood, Owner, Stages, Fitting, Known, AtMount, owns, remounts}
-use Rattle.gate_world.specs.traces.{Found.{is_load, says_none_queued, none_queued, found_shared, found_sealed, found_dropped}, Traces.{actions_of, ReplyMatchesTrace}}
-use Rattle.gate_world.specs.traces.TraceStates.{state_of_trace, trace_state_after, trace_state_with, TraceState, IsEventOf, IsNext, IsTrace}
-use Rattle.gate_world.specs.{Shown.shown, Views.{actions_after, held_of, phase_after, with_hook}, Work.{next_of, after_of}, Worlds.World}
-use Rattle.gate_world.specs.declared.operations.Op.{Op, TheVariants.{ChangeMount, RemountSb, Callback, Snapshot, Thaw, Create, Close}}
-use Rattle.gate_world.specs.declared.{config.Config.Config, entries.Entry.Entry, views.{Traced.Traced}, work.Phase.Phase}
+use Rattle.gated_tree.specs.declared.{phases.TreePhase.TreePhase, snapshots.SnapshotStep.SnapshotStep}
+use Rattle.gate_world.specs.{Beginnings.first_phase, Fits.Fits, Operations.first_snapshot, Owners.last_left, Rules.{AtMount, Fitting, IsGood, Known}}
+use Rattle.gate_world.specs.{Rules.{Owner, Stages, owns, remounts}, Views.{actions_after, held_of, with_hook}}
+use Rattle.gate_world.specs.{declared.operations.Op.TheVariants.{Callback, Close, Create, RemountSb, Snapshot, Thaw}, traces.Found.found_dropped}
+use Rattle.gate_world.specs.traces.{Found.{found_sealed, found_shared, is_load, none_queued, says_none_queued}, TraceStates.{IsEventOf, IsNext}}
+use Rattle.gate_world.specs.traces.{TraceStates.{IsTrace, TraceState, trace_state_after, trace_state_with}, Traces.ReplyMatchesTrace}
 use Rattle.gate_schedules.proofs.{frames.Owners.no_remount, operations.change.Trace.change, schedules.HeadlineProof.{whole_rule, whole_snapshots}}
 use Rattle.gate_schedules.proofs.traces.{Moments.or_true, TraceInvariant.event_at}
-use Rattle.gate_steps.specs.{Seating.DealtNumbers, call_events.{Runs.{AreMoves, Called}, SeatedTasks.own_number, Spans.{HappensAfter, IsEventDuring}}}
-use Rattle.gate_steps.proofs.call_events.{Running.course_is, Spanning.last_event}
-use Rattle.vfs_gates.specs.{FoundSo.{IsSo, WasSoDuring}, Held.own_actions, TaskStates.SeatedTask}
-use Rattle.vfs_gates.proofs.{several_tasks.Enclosed.read_only_found, several_tasks.FrozenUntilThawed.load_finds, Holding.adds}
+use Rattle.gate_steps.{proofs.call_events.{Running.course_is, Spanning.last_event}, specs.call_events.{SeatedTasks.own_number, Spans.HappensAfter}}
+use Rattle.gate_steps.specs.call_events.Spans.{IsEventDuring}
+use Rattle.vfs_gates.{proofs.{Holding.adds, several_tasks.{Enclosed.read_only_found, FrozenUntilThawed.load_finds}}, specs.FoundSo.IsSo}
+use Rattle.vfs_gates.specs.FoundSo.{WasSoDuring}
 
 -- What is kept of a trace: it holds at the beginning, and each step keeps it.
 module _ (At : List Traced → Phase → List Action → Type 0) (c : Config) (t : ℕ) (op : Op) where

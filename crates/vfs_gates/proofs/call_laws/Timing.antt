@@ -1,20 +1,15 @@
 -- Whole calls in the order of time.
-use Rattle.std.proofs.Common.{◌≡◌, ℕ, suc, ◌≤◌, refl, sym, ap, ◌∙◌, subst, arith}
-use Rattle.std.specs.Prelude.{Bool, Option, Some, None, Result, Ok, List, [], ◌∷◌, ◌++◌, length}
-use mathlib.Core.Option.{some}
-use lib.ListN.{get_elem?}
-use Rattle.access_model.specs.{Histories.{Done, own_part}, declared.{actions.Action.{Action}, errors.GateError.{GateError}}}
-use Rattle.access_model.specs.declared.replies.Reply.{Reply}
+use Rattle.vfs_gates.proofs.Prelude.{Action, AreMoves, Called, Config, DealtNumbers, GateError, None, Numbered, Ok, Op, Option, Reply, Result}
+use Rattle.vfs_gates.proofs.Prelude.{SeatedTask, Some, StaySeen, Traced, View, actions_since, actions_so_far, ap, arith, call_effect, get_elem?}
+use Rattle.vfs_gates.proofs.Prelude.{own_number, own_part, own_view, ran_items, refl, some, state_of_trace, subst, suc, sym, ℕ, ◌∙◌, ◌≡◌, ◌≤◌}
+use Rattle.std.specs.Prelude.{Bool, List, [], length, ◌++◌, ◌∷◌}
+use Rattle.access_model.specs.Histories.{Done}
 use Rattle.gated_tree.specs.declared.trees.TreeWords.{TreeWords}
-use Rattle.gate_world.specs.{traces.{TraceStates.{state_of_trace}, Snapshots.{last_snapshot}}, Headline.{actions_so_far, actions_since}}
-use Rattle.gate_world.specs.declared.{config.Config.{Config}, operations.Op.{Op, TheVariants.{Snapshot as SnapshotOp}}}
-use Rattle.gate_world.specs.declared.views.{Snapshot.{Snapshot as Noted}, Traced.{Traced}, View.{View}}
-use Rattle.gate_steps.specs.{Seating.{DealtNumbers, done_by}, declared.seating.Numbered.{Numbered}, call_events.Grown.{StaySeen}}
-use Rattle.gate_steps.specs.call_events.Runs.{completed_by, ran_items, ran_snapshot, AreMoves, Called}
-use Rattle.gate_steps.specs.call_events.Spans.{AreInOrder, IsTreeDuring, TakesEffect}
-use Rattle.gate_steps.proofs.call_events.{Caused.tree_during, Effects.{call_effect, in_order}}
-use Rattle.vfs_gates.specs.{Handed.{ComesAfter}, TaskStates.{SeatedTask, own_number, own_view, spare_of}}
-use Rattle.vfs_gates.proofs.{Seeing.same_own, Taking.replied_one}
+use Rattle.gate_world.specs.declared.{operations.Op.TheVariants.Snapshot as SnapshotOp, views.Snapshot.Snapshot as Noted}
+use Rattle.gate_world.specs.traces.Snapshots.{last_snapshot}
+use Rattle.gate_steps.{proofs.call_events.{Caused.tree_during, Effects.in_order}, specs.{Seating.done_by, call_events.Runs.completed_by}}
+use Rattle.gate_steps.specs.call_events.{Runs.ran_snapshot, Spans.{AreInOrder, IsTreeDuring, TakesEffect}}
+use Rattle.vfs_gates.{proofs.{Seeing.same_own, Taking.replied_one}, specs.{Handed.ComesAfter, TaskStates.spare_of}}
 
 -- calls of one configuration, of which the later one has seen what the earlier one left
 pub calls_in_order : (one two : Op) (old left begins ends : SeatedTask) (answer reply : Result Reply GateError)

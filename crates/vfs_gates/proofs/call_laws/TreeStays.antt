@@ -1,19 +1,14 @@
 -- What a holder has frozen stays, tree and all, until it is thawed.
-use Rattle.std.proofs.Common.{◌≡◌, ℕ, ◌<◌, Bool, true, List, [], ◌∷◌, ◌++◌, refl, sym, ap, ◌∙◌, subst, inl, inr}
-use Rattle.std.proofs.lemmas.{Bool.Decides.eqb_tells, List.append_cancel_right}
-use Rattle.std.specs.Prelude.{if◌then◌else◌, Result, Ok}
-use mathlib.Core.Option.{some}
-use lib.ListN.{get_elem?}
-use Rattle.access_model.specs.{Histories.{Done, end_of, IsLegal, own_part}, Holders.{held_by, with_holder}, Laws.{IsFrozenStill, NeverLeaves}, States.State}
-use Rattle.access_model.specs.declared.actions.{Action.{Action, TheVariants.{Hold}}, Holder.{Holder, TheVariants.{Kernel, User}}, Holders.Holders}
-use Rattle.access_model.specs.declared.{errors.GateError.GateError, replies.Reply.Reply}
-use Rattle.access_model.proofs.Frozen.{frozen_still}
-use Rattle.gate_world.specs.{Configs.{model_limits}, Headline.{actions_so_far, actions_since}, Shown.shown}
-use Rattle.gate_world.specs.declared.{config.Config.Config, entries.Entry.Entry, operations.Op.{Op, TheVariants.{Freeze}}, views.View.View}
-use Rattle.gate_steps.specs.{Seating.{DealtNumbers, HaveHistory, IsPrefix}, call_events.{Grown.{HasSeen, StaySeen}, Runs.Called}}
-use Rattle.gate_steps.proofs.call_events.{Grown.{after_more, call_stays_seen, only, stays_seen_on}, Moments.{actions_append, part_more}}
-use Rattle.vfs_gates.specs.{Ended.EndedWith, Frozen.{holders_of, NeverThaws}, Held.own_actions, Meetings.HasDone, TaskStates.{SeatedTask, own_number, own_view}}
-use Rattle.vfs_gates.proofs.{several_tasks.Enclosed.done_there, several_tasks.FrozenUntilThawed.{OnlyThawsBy, by_lists, held_so, only_behind}, Holding.{adds, stays}}
+use Rattle.vfs_gates.proofs.Prelude.{Action, Bool, Called, Config, DealtNumbers, Entry, Freeze, GateError, HasSeen, HaveHistory, Holder, IsLegal}
+use Rattle.vfs_gates.proofs.Prelude.{IsPrefix, List, Ok, Op, Reply, Result, SeatedTask, State, StaySeen, View, [], actions_append, actions_since}
+use Rattle.vfs_gates.proofs.Prelude.{actions_so_far, after_more, ap, end_of, eqb_tells, get_elem?, if◌then◌else◌, inl, inr, model_limits, only}
+use Rattle.vfs_gates.proofs.Prelude.{own_actions, own_number, own_part, own_view, refl, shown, some, subst, sym, true, ℕ, ◌++◌, ◌<◌, ◌∙◌, ◌∷◌, ◌≡◌}
+use Rattle.std.proofs.lemmas.List.{append_cancel_right}
+use Rattle.access_model.{proofs.Frozen.frozen_still, specs.{Histories.Done, Holders.{held_by, with_holder}, Laws.{IsFrozenStill, NeverLeaves}}}
+use Rattle.access_model.specs.declared.actions.{Action.TheVariants.Hold, Holder.TheVariants.{Kernel, User}, Holders.Holders}
+use Rattle.gate_steps.proofs.call_events.{Grown.{call_stays_seen, stays_seen_on}, Moments.part_more}
+use Rattle.vfs_gates.proofs.{Holding.{adds, stays}, several_tasks.{Enclosed.done_there, FrozenUntilThawed.{OnlyThawsBy, by_lists, held_so}}}
+use Rattle.vfs_gates.{proofs.several_tasks.FrozenUntilThawed.only_behind, specs.{Ended.EndedWith, Frozen.{NeverThaws, holders_of}, Meetings.HasDone}}
 
 -- by a history in which only one number leaves, and that one doesn't, nobody leaves
 never_leaves : (h : Holder) (n : ℕ) (log : List Done) → OnlyThawsBy h n log → NeverThaws h (own_part n log) → NeverLeaves h log

@@ -1,18 +1,15 @@
 -- The words of gates that are closed.
-use Rattle.std.proofs.Common.{◌≡◌, ℕ, ◌*◌, ◌%◌, ◌<◌, List, [], ◌∷◌, refl, inl, inr, ap, sym, ◌∙◌, arith, ◌≤◌, Bool, false, ne_eqb}
-use Rattle.std.proofs.lemmas.Bool.{cases_lt, Decides.{eqb_tells}}
-use Rattle.std.specs.Prelude.{if◌then◌else◌, None, slice_index}
-use Rattle.finite_sums.specs.Sums.{total}
-use Rattle.finite_sums.proofs.Totals.{total_same, total_none}
-use Rattle.cpu_words.specs.declared.names.WordName.TheVariants.{Umount, Remount, Removed, MountFlags, MountCount, Section, LevelCount, Used, Node, Kids}
-use Rattle.cpu_words.specs.Names.{place, stride}
+use Rattle.vfs_gates.proofs.Prelude.{Action, Bool, Config, IsLegal, Limits, List, None, [], ap, arith, eqb_tells, false, if◌then◌else◌, inl, inr}
+use Rattle.vfs_gates.proofs.Prelude.{model_limits, own_part, refl, shown, sym, ℕ, ◌<◌, ◌∙◌, ◌∷◌, ◌≡◌, ◌≤◌}
+use Rattle.std.{proofs.{Common.{ne_eqb, ◌%◌, ◌*◌}, lemmas.Bool.cases_lt}, specs.Prelude.slice_index}
+use Rattle.finite_sums.{proofs.Totals.{total_none, total_same}, specs.Sums.total}
+use Rattle.cpu_words.specs.{Names.{place, stride}, declared.names.WordName.TheVariants.{Kids, LevelCount, MountCount, MountFlags, Node, Remount}}
+use Rattle.cpu_words.specs.declared.names.WordName.TheVariants.{Removed, Section, Umount, Used}
 use Rattle.mount_counts.specs.Roles.{hold_bit}
-use Rattle.gate_world.specs.{declared.config.Config.{Config}, Configs.{model_limits}, Views.{has_open}, Rules.{Tree, Files}, Shown.{shown}}
-use Rattle.access_model.specs.{declared.actions.Action.{Action}, Histories.{Done, IsLegal, own_part, opens_of}}
-use Rattle.access_model.specs.States.{Limits, is_removed, one_if, openers, most_tasks}
-use Rattle.node_words.specs.Nodes.{IsPacked, node_shown, opens_in, removed_in}
-use Rattle.node_words.proofs.Words.{removed_shown}
-use Rattle.gate_steps.proofs.call_events.{Snapshots.{sound_as}, Schedule.{idle_sums}, Rests.{at_rest, no_hold as hold_is_clear}}
+use Rattle.gate_world.specs.{Rules.{Files, Tree}, Views.has_open}
+use Rattle.access_model.specs.{Histories.{Done, opens_of}, States.{is_removed, most_tasks, one_if, openers}}
+use Rattle.node_words.{proofs.Words.removed_shown, specs.Nodes.{IsPacked, node_shown, opens_in, removed_in}}
+use Rattle.gate_steps.proofs.call_events.{Rests.{at_rest, no_hold as hold_is_clear}, Schedule.idle_sums, Snapshots.sound_as}
 use Rattle.vfs_gates.specs.Ended.{Ended, LeavesSoundTree}
 
 -- a number past the last task's has done nothing

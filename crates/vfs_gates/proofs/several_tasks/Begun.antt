@@ -1,18 +1,10 @@
 -- A call begins in a state in which its task's numbers stand as they did.
-use Rattle.std.proofs.Common.{◌≡◌, ℕ, zero, suc, List, [], ◌∷◌, ◌++◌, refl, sym, ap, ◌∙◌, subst, arith}
-use Rattle.std.proofs.lemmas.List.{append_assoc}
-use Rattle.std.specs.Prelude.{Option, Some, None, Result}
-use mathlib.Core.Option.{some}
-use lib.ListN.{get_elem?}
-use Rattle.access_model.specs.declared.{errors.GateError.{GateError}, replies.{Next.{Next, TheVariants.{Go, Wait, Done}}, Reply.{Reply}}}
-use Rattle.cpu_words.specs.Hooks.{HookAnswer}
-use Rattle.gate_world.specs.declared.entries.Entry.{Entry, TheVariants.{Begins, Steps}}
-use Rattle.gate_world.specs.declared.{config.Config.{Config}, operations.Op.{Op}, views.Traced.{Traced}, work.Phase.{Phase}}
-use Rattle.gate_world.specs.traces.TraceStates.{state_of_trace}
-use Rattle.gate_steps.specs.Histories.{then_begins, then_steps}
-use Rattle.gate_steps.specs.{Seating.{DealtNumbers, HaveHistory, IsPrefix, HasWitness, StepWitness}, declared.seating.Numbered.{Numbered}}
-use Rattle.gate_steps.specs.call_events.{Grown.{StaySeen}, Runs.{IsNextMove, AreMoves, Called}, SeatedTasks.{SeatedTask, own_number}}
-use Rattle.gate_steps.proofs.call_events.Grown.{next_on, only, stays_seen_on}
+use Rattle.vfs_gates.proofs.Prelude.{AreMoves, Called, Config, DealtNumbers, Done, Entry, GateError, Go, HaveHistory, HookAnswer, IsPrefix, List}
+use Rattle.vfs_gates.proofs.Prelude.{Next, None, Numbered, Op, Option, Phase, Reply, Result, Some, StaySeen, Traced, Wait, [], ap, append_assoc}
+use Rattle.vfs_gates.proofs.Prelude.{arith, get_elem?, only, refl, some, state_of_trace, subst, suc, sym, zero, ℕ, ◌++◌, ◌∙◌, ◌∷◌, ◌≡◌}
+use Rattle.gate_world.specs.declared.entries.Entry.TheVariants.{Begins, Steps}
+use Rattle.gate_steps.{proofs.call_events.Grown.{next_on, stays_seen_on}, specs.{Histories.{then_begins, then_steps}, Seating.HasWitness}}
+use Rattle.gate_steps.specs.{Seating.StepWitness, call_events.{Runs.IsNextMove, SeatedTasks.{SeatedTask, own_number}}}
 use Rattle.vfs_gates.specs.Meetings.{BeginsIn}
 
 -- a step's schedule goes on from the one before it

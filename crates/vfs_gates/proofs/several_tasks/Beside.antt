@@ -1,19 +1,14 @@
 -- What tasks that meet know of each other's calls.
-use Rattle.std.proofs.Common.{◌≡◌, ℕ, suc, ◌+◌, ◌<◌, ◌≤◌, List, [], ◌∷◌, ◌++◌, length, refl, sym, ap, ◌∙◌, subst, arith}
-use Rattle.std.specs.Prelude.{Bool, true, Result, Ok, Err, IfErr}
-use mathlib.Core.Option.{some}
-use lib.ListN.{get_elem?}
+use Rattle.vfs_gates.proofs.Prelude.{Action, ChangeMount, Config, DealtNumbers, Entry, Err, GateError, Grant, HasSeen, HaveHistory, List, Numbered}
+use Rattle.vfs_gates.proofs.Prelude.{Ok, Op, Reply, Result, SeatedTask, StaySeen, WantWrite, [], ap, arith, get_elem?, length, own_actions}
+use Rattle.vfs_gates.proofs.Prelude.{own_number, own_view, refl, some, subst, suc, sym, ℕ, ◌++◌, ◌+◌, ◌<◌, ◌∙◌, ◌∷◌, ◌≡◌, ◌≤◌}
+use Rattle.std.specs.Prelude.{Bool, IfErr, true}
 use Rattle.finite_sums.proofs.Totals.{update_at}
-use Rattle.access_model.specs.Histories.{mounts_of}
-use Rattle.access_model.specs.declared.actions.{Action.TheVariants.{Grant}, Gate.TheVariants.{Level, Mount}}
-use Rattle.access_model.specs.declared.{actions.Action.{Action}, errors.GateError.{GateError, TheVariants.{Busy}}, replies.Reply.{Reply}}
-use Rattle.gate_world.specs.Views.{held_at}
-use Rattle.gate_world.specs.declared.{config.Config.{Config}, entries.Entry.{Entry}, operations.Op.{Op, TheVariants.{ChangeMount, RemountSb, WantWrite}}}
-use Rattle.gate_steps.specs.{Seating.{DealtNumbers, HaveHistory, numbered}, declared.seating.Numbered.{Numbered}}
-use Rattle.gate_steps.specs.call_events.{Grown.{HasSeen, StaySeen}, Runs.{Performs}}
-use Rattle.gate_steps.proofs.call_events.Grown.{both_stay_seen, same_stays_seen, stays_seen_on}
-use Rattle.vfs_gates.specs.{Held.{Rests, own_actions}, Meetings.{Encloses, HasDone, HoldsAt, Meets}, TaskStates.{SeatedTask, own_number, own_view}}
-use Rattle.vfs_gates.proofs.{Holding.{adds}, several_tasks.Keeping.{change_refused, remount_busy}, Resting.{change_busy}, Returning.{was_done}}
+use Rattle.access_model.specs.{Histories.mounts_of, declared.{actions.Gate.TheVariants.{Level, Mount}, errors.GateError.TheVariants.Busy}}
+use Rattle.gate_world.specs.{Views.held_at, declared.operations.Op.TheVariants.RemountSb}
+use Rattle.gate_steps.{proofs.call_events.Grown.{both_stay_seen, same_stays_seen, stays_seen_on}, specs.{Seating.numbered, call_events.Runs.Performs}}
+use Rattle.vfs_gates.proofs.{Holding.adds, Resting.change_busy, Returning.was_done, several_tasks.Keeping.{change_refused, remount_busy}}
+use Rattle.vfs_gates.specs.{Held.Rests, Meetings.{Encloses, HasDone, HoldsAt, Meets}}
 
 -- what either had seen, both have seen
 pub met_stays : (one two first second : SeatedTask) → Meets one two first second →

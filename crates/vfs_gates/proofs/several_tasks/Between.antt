@@ -1,21 +1,15 @@
 -- What two tasks that have all numbers know of two calls around which they meet.
-use Rattle.std.proofs.Common.{◌≡◌, ℕ, zero, suc, ◌+◌, ◌<◌, ◌≤◌, Bool, true, false, List, [], ◌∷◌, ◌++◌, length, refl, sym, ap, ◌∙◌, subst, inl, inr, arith}
+use Rattle.vfs_gates.proofs.Prelude.{Action, Bool, Called, Config, DealtNumbers, Entry, GateError, HaveHistory, IsLegal, List, Numbered, Ok, Op}
+use Rattle.vfs_gates.proofs.Prelude.{Reply, Result, SeatedTask, StaySeen, Traced, View, World, [], actions_of, ap, arith, end_of, false, get_elem?}
+use Rattle.vfs_gates.proofs.Prelude.{inl, inr, length, model_limits, own_part, ran_items, refl, some, state_of_trace, subst, suc, sym, true, zero, ℕ}
+use Rattle.vfs_gates.proofs.Prelude.{◌++◌, ◌+◌, ◌<◌, ◌∙◌, ◌∷◌, ◌≡◌, ◌≤◌}
 use Rattle.std.proofs.lemmas.List.{append-nil}
-use Rattle.std.specs.Prelude.{Result, Ok}
-use mathlib.Core.Option.{some, some-injective, some-ne-none}
-use lib.ListN.{get_elem?}
-use Rattle.access_model.specs.{Histories.{Done, end_of, IsLegal, own_part}}
-use Rattle.access_model.specs.declared.{actions.Action.{Action}, errors.GateError.{GateError}, replies.Reply.{Reply}}
-use Rattle.gate_world.specs.{Configs.{model_limits}, Worlds.{World}}
-use Rattle.gate_world.specs.declared.entries.Entry.{Entry}
-use Rattle.gate_world.specs.declared.{config.Config.Config, operations.Op.{Op}, views.{Traced.Traced, View.View}}
-use Rattle.gate_world.specs.traces.{TraceStates.state_of_trace, Traces.{actions_of}}
-use Rattle.gate_steps.specs.{declared.seating.Numbered.{Numbered}, Seating.{DealtNumbers, HaveHistory, HaveViews, numbered, times, view_in}}
-use Rattle.gate_steps.specs.call_events.{Grown.{StaySeen}, Runs.{ran_items, Called}, SeatedTasks.{own_number}}
-use Rattle.gate_steps.proofs.call_events.Giving.{view_in-at}
-use Rattle.gate_steps.proofs.call_events.Grown.{same_stays_seen}
-use Rattle.vfs_gates.specs.{Meetings.{HaveAll, IsWritable, Meets, NoneDone, NoneIs, NoneSince, Seals}, TaskStates.{SeatedTask}}
-use Rattle.vfs_gates.proofs.{several_tasks.Beside.{met_stays}, several_tasks.FrozenOut.{stays_writable}, several_tasks.Keeping.{NoneOfThese}, several_tasks.Shut.{by_parts}}
+use mathlib.Core.Option.{some-injective, some-ne-none}
+use Rattle.access_model.specs.Histories.{Done}
+use Rattle.gate_steps.{proofs.call_events.{Giving.view_in-at, Grown.same_stays_seen}, specs.Seating.{HaveViews, numbered, times, view_in}}
+use Rattle.gate_steps.specs.call_events.SeatedTasks.{own_number}
+use Rattle.vfs_gates.{proofs.several_tasks.{Beside.met_stays, FrozenOut.stays_writable, Keeping.NoneOfThese, Shut.by_parts}, specs.Meetings.HaveAll}
+use Rattle.vfs_gates.specs.Meetings.{IsWritable, Meets, NoneDone, NoneIs, NoneSince, Seals}
 
 -- the same numbers later, each with actions added of which none is such a one
 abbrev pub AreLater : (Action → Type 0) → DealtNumbers → DealtNumbers → Type 0

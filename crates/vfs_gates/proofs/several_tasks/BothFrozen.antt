@@ -1,16 +1,18 @@
 -- What two tasks that have all numbers know of a freeze that one of them was granted.
-use Rattle.std.proofs.Common.{◌≡◌, ℕ, ◌<◌, ◌≤◌, Bool, true, false, List, [], ◌∷◌, ◌++◌, refl, ap, subst, sym, inl, inr, lt-ltb, arith}
-use Rattle.std.proofs.lemmas.Bool.{cases_Bool}
-use Rattle.std.specs.Prelude.{Result, Ok, Err, None, IfErr, if◌then◌else◌}
-use Rattle.access_model.specs.declared.actions.{Action.{Action, TheVariants.{Clean, Grant, Hold, Pass, Stage as StageAction}}, Gate.{Gate}, Holder.{Holder}}
-use Rattle.access_model.specs.declared.{errors.GateError.{GateError, TheVariants.{Again}}, replies.Reply.{Reply}}
-use Rattle.cpu_words.specs.declared.{events.Touch.{Touch, TheVariants.{And}}, names.WordName.{WordName, TheVariants.{Node}}}
-use Rattle.gate_world.specs.declared.{operations.Op.{Op, TheVariants.{Freeze, Start, WantWrite}}, views.Traced.{Traced}}
-use Rattle.gate_world.specs.traces.{Found.{clean_found, cleans, found_complete, found_sealed}, Traces.{actions_of, IsHonestAnswer}}
+use Rattle.vfs_gates.proofs.Prelude.{Action, Bool, Err, Freeze, GateError, Grant, Holder, List, None, Ok, Op, Reply, Result, SeatedTask, Traced}
+use Rattle.vfs_gates.proofs.Prelude.{WantWrite, WordName, [], actions_of, ap, arith, cases_Bool, false, if◌then◌else◌, inl, inr, refl, refusal_at}
+use Rattle.vfs_gates.proofs.Prelude.{subst, sym, told_as, true, unit_of, ℕ, ◌++◌, ◌<◌, ◌∷◌, ◌≡◌, ◌≤◌}
+use Rattle.std.{proofs.Common.lt-ltb, specs.Prelude.IfErr}
+use Rattle.access_model.specs.declared.actions.{Action.TheVariants.{Clean, Hold, Pass, Stage as StageAction}, Gate.Gate}
+use Rattle.access_model.specs.declared.errors.GateError.TheVariants.{Again}
+use Rattle.cpu_words.specs.declared.{events.Touch.{TheVariants.And, Touch}, names.WordName.TheVariants.Node}
+use Rattle.gate_world.specs.{declared.operations.Op.TheVariants.Start, traces.Found.{clean_found, cleans, found_complete, found_sealed}}
+use Rattle.gate_world.specs.traces.Traces.{IsHonestAnswer}
 use Rattle.mount_counts.specs.Phases.{has_flag}
-use Rattle.gate_steps.specs.call_events.Runs.{told_as, unit_of, Performs}
-use Rattle.vfs_gates.specs.{Held.{Rests}, Meetings.{HaveAll, Meets, NoneDone, NoneIs, Seals, Thaws}, TaskStates.{SeatedTask, refusal_at}}
-use Rattle.vfs_gates.proofs.{several_tasks.Between.{around_both, writable_there}, several_tasks.GrantedFreeze.{none_started_later, none_written_later}, Returning.{was_done}}
+use Rattle.gate_steps.specs.call_events.Runs.{Performs}
+use Rattle.vfs_gates.proofs.{Returning.was_done, several_tasks.{Between.{around_both, writable_there}, GrantedFreeze.none_started_later}}
+use Rattle.vfs_gates.{proofs.several_tasks.GrantedFreeze.none_written_later, specs.{Held.Rests, Meetings.{HaveAll, Meets, NoneDone, NoneIs, Seals}}}
+use Rattle.vfs_gates.specs.Meetings.{Thaws}
 
 -- a kind of actions of which a freeze that was granted adds none
 module _ (Is : Action → Type 0) (holds : (h : Holder) → Is (Hold h) → ⊥) (stages : (n : ℕ) → Is (StageAction n) → ⊥)

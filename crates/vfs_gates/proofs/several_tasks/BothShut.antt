@@ -1,14 +1,12 @@
 -- What two tasks that have all numbers know of a mount that one of them has made read-only.
-use Rattle.std.proofs.Common.{◌≡◌, ℕ, ◌<◌, Bool, true, List, ◌++◌, refl, sym, ap, subst, inl, inr, lt-ltb, arith}
-use Rattle.std.proofs.lemmas.Bool.{cases_Bool}
-use Rattle.std.specs.Prelude.{Result, Ok, Err, None, IfErr}
-use Rattle.access_model.specs.declared.{actions.Action.{TheVariants.{MountRo}}, errors.GateError.{GateError, TheVariants.{ReadOnly}}}
-use Rattle.access_model.specs.declared.replies.Reply.{Reply}
-use Rattle.gate_world.specs.declared.{operations.Op.{Op, TheVariants.{ChangeMount, Want, WantWrite}}, views.{Traced.Traced}}
-use Rattle.gate_world.specs.traces.{Found.{found_read_only}, Traces.{actions_of, IsHonestAnswer}}
-use Rattle.gate_steps.specs.call_events.{Runs.{told_as, unit_of, Performs}}
-use Rattle.vfs_gates.specs.{Held.{Rests}, Meetings.{HaveAll, Meets, NoneIs, Reopens, TakesMount}, TaskStates.{SeatedTask, refusal_at}}
-use Rattle.vfs_gates.proofs.{several_tasks.Between.{around_both}, Returning.{was_done}, several_tasks.Shut.{none_admitted}}
+use Rattle.vfs_gates.proofs.Prelude.{Bool, ChangeMount, Err, GateError, List, None, Ok, Op, Reply, Result, SeatedTask, Traced, WantWrite, actions_of}
+use Rattle.vfs_gates.proofs.Prelude.{ap, arith, cases_Bool, inl, inr, refl, refusal_at, subst, sym, told_as, true, unit_of, ℕ, ◌++◌, ◌<◌, ◌≡◌}
+use Rattle.std.{proofs.Common.lt-ltb, specs.Prelude.IfErr}
+use Rattle.access_model.specs.declared.{actions.Action.TheVariants.MountRo, errors.GateError.TheVariants.ReadOnly}
+use Rattle.gate_world.specs.{declared.operations.Op.TheVariants.Want, traces.{Found.found_read_only, Traces.IsHonestAnswer}}
+use Rattle.gate_steps.specs.call_events.Runs.{Performs}
+use Rattle.vfs_gates.{proofs.{Returning.was_done, several_tasks.{Between.around_both, Shut.none_admitted}}, specs.{Held.Rests, Meetings.HaveAll}}
+use Rattle.vfs_gates.specs.Meetings.{Meets, NoneIs, Reopens, TakesMount}
 
 -- a change to read-only, and an operation that takes an access, make no mount writable
 no_reopening : (m : ℕ) → Reopens m (MountRo m) → ⊥

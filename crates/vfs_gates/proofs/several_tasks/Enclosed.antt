@@ -1,31 +1,25 @@
 -- What stands the same before a call and after it stands so at each moment of the call.
-use Rattle.std.proofs.Common.{◌≡◌, ℕ, ◌+◌, ◌-◌, ◌<◌, ◌≤◌, Bool, true, false, List, [], ◌∷◌, ◌++◌, length, refl, sym, ap, ◌∙◌, subst, inl, inr, ⊎_elim, arith}
-use Rattle.std.proofs.lemmas.{Bool.{and_parts, cases_Bool, false≢true, eq-eqb, Decides.eqb_tells}, List.{append_assoc, append_cancel_right, append-nil}}
-use Rattle.std.specs.Prelude.{◌==◌, ◌⊎◌, ◌&&◌, ◌||◌, not, if◌then◌else◌, Result, Ok, Some}
-use mathlib.Core.{Logic.{dite}, Option.{some}}
+use Rattle.vfs_gates.proofs.Prelude.{Action, AreMoves, Bool, Called, ChangeMount, Config, DealtNumbers, Entry, Event, Grant, HasSeen, HaveHistory}
+use Rattle.vfs_gates.proofs.Prelude.{IsLegal, IsPrefix, IsWithin, Limits, List, Ok, Op, Reply, Result, SeatedTask, Some, State, Traced, View}
+use Rattle.vfs_gates.proofs.Prelude.{WordName, World, [], actions_append, actions_of, actions_since, actions_so_far, after_more, ap, append_assoc}
+use Rattle.vfs_gates.proofs.Prelude.{arith, call_effect, cases_Bool, end_of, eqb_tells, false, get_elem?, if◌then◌else◌, inl, inr, length}
+use Rattle.vfs_gates.proofs.Prelude.{model_limits, next_of, only, own_part, refl, shown, some, state_of_trace, subst, sym, true, world_after, ℕ, ◌++◌}
+use Rattle.vfs_gates.proofs.Prelude.{◌+◌, ◌<◌, ◌==◌, ◌∙◌, ◌∷◌, ◌≡◌, ◌≤◌}
+use Rattle.std.proofs.{Common.{⊎_elim, ◌-◌}, lemmas.{Bool.{and_parts, eq-eqb, false≢true}, List.{append-nil, append_cancel_right}}}
+use Rattle.std.specs.Prelude.{not, ◌&&◌, ◌||◌, ◌⊎◌}
+use mathlib.Core.Logic.{dite}
 use native.Mathlib.Decide.{ℕ_discrete}
-use lib.ListN.{get_elem?}
-use Rattle.finite_sums.specs.Sums.{update}
-use Rattle.finite_sums.proofs.Totals.{update_at, update_off}
-use Rattle.access_model.specs.{Actions.{IsAllowed, mounts_after}, Histories.{Done, end_of, IsLegal, own_part, mounts_of}, Laws.{IsReadOnly}, States.{Limits, State}}
-use Rattle.access_model.specs.declared.actions.{Action.{Action, TheVariants.{Grant, Return, MountRo, SbRo}}, Gate.TheVariants.{Mount}}
-use Rattle.access_model.specs.declared.replies.{Reply.Reply}
-use Rattle.access_model.proofs.Lists.{follows}
-use Rattle.cpu_words.specs.Words.{Words, read}
-use Rattle.cpu_words.specs.declared.{events.Event.Event, names.WordName.{WordName, TheVariants.{MountFlags, Remount, SbFlags}}}
-use Rattle.mount_counts.specs.{Phases.{has_flag}, Roles.{ro_bit}}
-use Rattle.mount_counts.proofs.laws.Bits.{read_only_set}
-use Rattle.gate_world.specs.{Configs.{IsWithin, model_limits}, Headline.{world_after, actions_so_far, actions_since, IsOneRun}, Shown.shown}
-use Rattle.gate_world.specs.{Rules.{IsGood, Owner, Stages, AtMount}, Worlds.{World}, Work.{next_of}}
-use Rattle.gate_world.specs.traces.{Found.{is_load, says_read_only, found_read_only, some_event}, TraceStates.state_of_trace, Traces.{actions_of}}
-use Rattle.gate_world.specs.declared.entries.Entry.{Entry, TheVariants.{Begins, Steps}}
-use Rattle.gate_world.specs.declared.{config.Config.Config, operations.Op.{Op, TheVariants.{ChangeMount}}, views.{Traced.Traced, View.View}}
-use Rattle.gate_schedules.proofs.{schedules.HeadlineProof.{whole_nobody, whole_rule, whole_run}, traces.Moments.{or_true}}
-use Rattle.gate_steps.specs.{Seating.{DealtNumbers, HaveHistory, IsPrefix, numbered}, call_events.SeatedTasks.{own_number}}
-use Rattle.gate_steps.specs.call_events.{Grown.{HasSeen}, Runs.{AreMoves, Called}, Spans.{GoesOnFromSeen, IsEventDuring, TakesEffect}}
-use Rattle.gate_steps.proofs.call_events.{Effects.call_effect, Grown.{after_more, only}, Moments.{actions_append, part_more}, Spanning.each_event}
-use Rattle.vfs_gates.specs.{Meetings.{Encloses, HasDone}, TaskStates.{SeatedTask}}
-use Rattle.vfs_gates.proofs.several_tasks.FrozenUntilThawed.{in_between, load_finds, some_of, SomeSays}
+use Rattle.finite_sums.{proofs.Totals.{update_at, update_off}, specs.Sums.update}
+use Rattle.access_model.{proofs.Lists.follows, specs.{Actions.{IsAllowed, mounts_after}, Histories.{Done, mounts_of}, Laws.IsReadOnly}}
+use Rattle.access_model.specs.declared.actions.{Action.TheVariants.{MountRo, Return, SbRo}, Gate.TheVariants.Mount}
+use Rattle.cpu_words.specs.{Words.{Words, read}, declared.names.WordName.TheVariants.{MountFlags, Remount, SbFlags}}
+use Rattle.mount_counts.{proofs.laws.Bits.read_only_set, specs.{Phases.has_flag, Roles.ro_bit}}
+use Rattle.gate_world.specs.{Headline.IsOneRun, Rules.{AtMount, IsGood, Owner, Stages}, declared.entries.Entry.TheVariants.{Begins, Steps}}
+use Rattle.gate_world.specs.traces.Found.{found_read_only, is_load, says_read_only, some_event}
+use Rattle.gate_schedules.proofs.{schedules.HeadlineProof.{whole_nobody, whole_rule, whole_run}, traces.Moments.or_true}
+use Rattle.gate_steps.{proofs.call_events.{Moments.part_more, Spanning.each_event}, specs.{Seating.numbered, call_events.SeatedTasks.own_number}}
+use Rattle.gate_steps.specs.call_events.Spans.{GoesOnFromSeen, IsEventDuring, TakesEffect}
+use Rattle.vfs_gates.{proofs.several_tasks.FrozenUntilThawed.{SomeSays, in_between, load_finds, some_of}, specs.Meetings.{Encloses, HasDone}}
 
 -- a list that an earlier and a later schedule leave a number is that of each in between
 pub stood : (c : Config) (n : ℕ) (a b d : List Entry) (list : List Action) → IsPrefix a b → IsPrefix b d →

@@ -1,23 +1,20 @@
 -- A freeze is busy only beside another: what the task finds whose own list has none.
-use Rattle.std.proofs.Common.{◌≡◌, ℕ, ◌<◌, Bool, true, false, List, [], ◌∷◌, ◌++◌, refl, sym, ap, ◌∙◌, subst, inl, inr}
-use Rattle.std.proofs.lemmas.{Bool.{and_parts, false≢true, Decides.eqb_tells}}
-use Rattle.std.specs.Prelude.{◌==◌, ◌&&◌, ◌⊎◌, not, if◌then◌else◌, Err}
-use lib.ListN.{get_elem?}
-use Rattle.access_model.specs.{Actions.{after_action}, Histories.{Done, end_of, IsLegal, own_part}, Holders.{held_by, with_holder}, States.{Limits, State}}
-use Rattle.access_model.specs.declared.actions.{Action.{Action, TheVariants.{Hold, Leave, Stage}}, Holder.{Holder}}
-use Rattle.access_model.specs.declared.errors.GateError.TheVariants.{Busy}
-use Rattle.cpu_words.specs.{Words.{Words, read}, declared.{events.Event.Event, names.WordName.{WordName, TheVariants.{Stage as StageWord, Holders as HoldersWord}}}}
+use Rattle.vfs_gates.proofs.Prelude.{Action, AreMoves, Bool, Called, Config, DealtNumbers, Entry, Err, Event, Freeze, HasSeen, Holder, IsLegal}
+use Rattle.vfs_gates.proofs.Prelude.{IsPrefix, IsWithin, Limits, List, SeatedTask, State, StaySeen, Traced, WordName, [], actions_append}
+use Rattle.vfs_gates.proofs.Prelude.{actions_since, actions_so_far, after_more, ap, end_of, eqb_tells, false, get_elem?, if◌then◌else◌, inl, inr}
+use Rattle.vfs_gates.proofs.Prelude.{model_limits, next_of, own_actions, own_number, own_part, refl, shown, subst, sym, true, world_after, ℕ, ◌++◌}
+use Rattle.vfs_gates.proofs.Prelude.{◌<◌, ◌==◌, ◌∙◌, ◌∷◌, ◌≡◌}
+use Rattle.std.{proofs.lemmas.Bool.{and_parts, false≢true}, specs.Prelude.{not, ◌&&◌, ◌⊎◌}}
+use Rattle.access_model.specs.{Actions.after_action, Histories.Done, Holders.{held_by, with_holder}, declared.actions.Action.TheVariants.Hold}
+use Rattle.access_model.specs.declared.{actions.Action.TheVariants.{Leave, Stage}, errors.GateError.TheVariants.Busy}
+use Rattle.cpu_words.specs.{Words.{Words, read}, declared.names.WordName.TheVariants.{Holders as HoldersWord, Stage as StageWord}}
 use Rattle.freeze_levels.specs.Holders.{holders_in}
-use Rattle.gate_world.specs.{Configs.{IsWithin, model_limits}, Headline.{world_after, actions_so_far, actions_since, IsOneRun}, Shown.shown, Work.{next_of}}
-use Rattle.gate_world.specs.traces.{Found.{is_load, says_held, says_moving}, Traces.{IsHonestAnswer}}
-use Rattle.gate_world.specs.declared.entries.Entry.{Entry, TheVariants.{Steps}}
-use Rattle.gate_world.specs.declared.{config.Config.Config, operations.Op.TheVariants.{Freeze}, views.Traced.Traced}
+use Rattle.gate_world.specs.{Headline.IsOneRun, declared.entries.Entry.TheVariants.Steps, traces.Found.{is_load, says_held, says_moving}}
+use Rattle.gate_world.specs.traces.Traces.{IsHonestAnswer}
 use Rattle.gate_schedules.proofs.schedules.HeadlineProof.{whole_run}
-use Rattle.gate_steps.specs.{Seating.{DealtNumbers, IsPrefix}, call_events.{Grown.{HasSeen, StaySeen}, Runs.{AreMoves, Called}, Spans.IsEventDuring}}
-use Rattle.gate_steps.proofs.call_events.{Grown.{after_more}, Moments.{actions_append}, Spanning.each_event}
-use Rattle.vfs_gates.specs.{Ended.EndedWith, Frozen.{IsBesideFreezes, MayFreeze, NeverFreezes, holders_of, stage_of}, Held.own_actions}
-use Rattle.vfs_gates.specs.TaskStates.{SeatedTask, own_number}
-use Rattle.vfs_gates.proofs.several_tasks.FrozenUntilThawed.{SomeSays, list_during, load_finds, some_of}
+use Rattle.gate_steps.{proofs.call_events.Spanning.each_event, specs.call_events.Spans.IsEventDuring}
+use Rattle.vfs_gates.{proofs.several_tasks.FrozenUntilThawed.{SomeSays, list_during, load_finds, some_of}, specs.Ended.EndedWith}
+use Rattle.vfs_gates.specs.Frozen.{IsBesideFreezes, MayFreeze, NeverFreezes, holders_of, stage_of}
 
 -- of a history: each action of a freeze or a thaw is of this number
 abbrev OnlyFreezesBy : ℕ → List Done → Type 0

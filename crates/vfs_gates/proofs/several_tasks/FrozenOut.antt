@@ -1,26 +1,20 @@
 -- While a holder's freeze stands nobody goes inside.
-use Rattle.std.proofs.Common.{◌≡◌, ℕ, ◌+◌, ◌<◌, ◌≤◌, Bool, true, false, List, [], ◌∷◌, ◌++◌, length, refl, sym, ap, ◌∙◌, subst, inl, inr, arith}
-use Rattle.std.proofs.lemmas.{Bool.{both_ways, false≢true}, List.{append_assoc, append-nil}}
-use Rattle.std.specs.Prelude.{◌==◌, Result, Ok}
-use mathlib.Core.Option.{some}
-use lib.ListN.{get_elem?}
+use Rattle.vfs_gates.proofs.Prelude.{Action, Bool, Called, Config, DealtNumbers, Entry, Freeze, Grant, HasSeen, HaveHistory, Holder, IsLegal}
+use Rattle.vfs_gates.proofs.Prelude.{IsPrefix, IsWithin, Limits, List, Ok, Op, Reply, Result, SeatedTask, State, StaySeen, Traced, WantWrite, []}
+use Rattle.vfs_gates.proofs.Prelude.{actions_append, actions_of, actions_since, actions_so_far, after_more, ap, append_assoc, arith, call_effect}
+use Rattle.vfs_gates.proofs.Prelude.{end_of, false, get_elem?, inl, inr, length, model_limits, only, own_part, refl, shown, some, state_of_trace}
+use Rattle.vfs_gates.proofs.Prelude.{subst, sym, true, ℕ, ◌++◌, ◌+◌, ◌<◌, ◌==◌, ◌∙◌, ◌∷◌, ◌≡◌, ◌≤◌}
+use Rattle.std.proofs.lemmas.{Bool.{both_ways, false≢true}, List.append-nil}
 use Rattle.finite_sums.proofs.Totals.{update_at}
-use Rattle.access_model.specs.{Actions.{IsAllowed, after_action}, Histories.{Done, end_of, IsLegal, own_part, levels_of}, Holders.{held_by, with_holder}}
-use Rattle.access_model.specs.{Laws.{IsFrozenFor, IsFrozenStill, NeverLeaves}, States.{Limits, State}}
-use Rattle.access_model.specs.declared.actions.{Action.{Action, TheVariants.{Grant, Hold, SbRo, SbRw}}, Gate.{Gate, TheVariants.{Mount, Level}}}
-use Rattle.access_model.specs.declared.actions.{Holder.{Holder, TheVariants.{Kernel, User}}, Holders.Holders}
-use Rattle.access_model.specs.declared.replies.{Reply.Reply}
-use Rattle.access_model.proofs.{Closed.closed, Frozen.{frozen_shut, frozen_still}, Lists.{follows}}
-use Rattle.gate_world.specs.{Configs.{IsWithin, model_limits}, Headline.{actions_so_far, actions_since}, Shown.{shown}}
-use Rattle.gate_world.specs.traces.{TraceStates.state_of_trace, Traces.{actions_of}}
-use Rattle.gate_world.specs.declared.{config.Config.Config, entries.Entry.{Entry}, views.Traced.{Traced}}
-use Rattle.gate_world.specs.declared.operations.Op.{Op, TheVariants.{Freeze, Start, WantWrite}}
+use Rattle.access_model.{proofs.{Closed.closed, Frozen.{frozen_shut, frozen_still}, Lists.follows}, specs.Actions.{IsAllowed, after_action}}
+use Rattle.access_model.specs.{Histories.{Done, levels_of}, Holders.{held_by, with_holder}, Laws.{IsFrozenFor, IsFrozenStill, NeverLeaves}}
+use Rattle.access_model.specs.declared.actions.{Action.TheVariants.{Hold, SbRo, SbRw}, Gate.{Gate, TheVariants.{Level, Mount}}}
+use Rattle.access_model.specs.declared.actions.{Holder.TheVariants.{Kernel, User}, Holders.Holders}
+use Rattle.gate_world.specs.declared.operations.Op.TheVariants.{Start}
 use Rattle.gate_schedules.proofs.schedules.HeadlineProof.{whole_run}
-use Rattle.gate_steps.specs.{Seating.{DealtNumbers, HaveHistory, IsPrefix}, call_events.SeatedTasks.{own_number}}
-use Rattle.gate_steps.specs.call_events.{Grown.{HasSeen, StaySeen}, Runs.{Called}, Spans.{TakesEffect}}
-use Rattle.gate_steps.proofs.call_events.{Effects.call_effect, Grown.{after_more, only}, Moments.{actions_append, part_more}}
-use Rattle.vfs_gates.specs.{Meetings.{Encloses, IsWritable, NoneIs, NoneSince, Seals, Thaws}, TaskStates.{SeatedTask}}
-use Rattle.vfs_gates.proofs.{several_tasks.Keeping.{NoneOfThese}, several_tasks.Shut.{legal_at, none_between, none_earlier, none_later, none_within, splits_at}}
+use Rattle.gate_steps.{proofs.call_events.Moments.part_more, specs.call_events.{SeatedTasks.own_number, Spans.TakesEffect}}
+use Rattle.vfs_gates.proofs.several_tasks.{Keeping.NoneOfThese, Shut.{legal_at, none_between, none_earlier, none_later, none_within, splits_at}}
+use Rattle.vfs_gates.specs.Meetings.{Encloses, IsWritable, NoneIs, NoneSince, Seals, Thaws}
 
 pub never_leaves : (h : Holder) (log : List Done) → NoneOfThese (Thaws h) log → NeverLeaves h log
 never_leaves h [] none = tt

@@ -1,29 +1,23 @@
 -- A freeze stands until somebody thaws: what the task that has frozen finds.
-use Rattle.std.proofs.Common.{◌≡◌, ℕ, ◌<◌, ◌≤◌, Bool, true, false, List, [], ◌∷◌, ◌++◌, length, refl, sym, ap, ◌∙◌, subst, inl, inr, arith}
-use Rattle.std.proofs.lemmas.{Bool.{and_parts, cases_Bool, false≢true, Decides.eqb_tells}, List.{append_assoc, append_cancel_right}}
-use Rattle.std.specs.Prelude.{◌==◌, ◌||◌, ◌⊎◌, not, if◌then◌else◌, Result, Err}
-use mathlib.Core.Option.{some}
-use lib.ListN.{get_elem?}
-use Rattle.access_model.specs.{Actions.{after_action}, Histories.{Done, end_of, IsLegal, own_part}, Holders.{held_by, with_holder}}
-use Rattle.access_model.specs.{Laws.{IsFrozenFor}, States.{Limits, State}}
-use Rattle.access_model.specs.declared.actions.{Action.{Action, TheVariants.{Hold, Leave}}, Holder.{Holder, TheVariants.{Kernel, User}}, Holders.Holders}
-use Rattle.access_model.specs.declared.errors.GateError.{GateError, TheVariants.Invalid}
-use Rattle.access_model.specs.declared.replies.{Next.TheVariants.Done as Ends, Reply.Reply}
-use Rattle.access_model.proofs.{Frozen.frozen_shut, Held.stays_frozen}
-use Rattle.cpu_words.specs.{Touches.{event_of, found_by}, Words.{Words, read}}
-use Rattle.cpu_words.specs.declared.{events.{Event.Event, Touch.{Touch, TheVariants.Load}}, names.WordName.{WordName, TheVariants.{Stage, Holders as HoldersWord}}}
+use Rattle.vfs_gates.proofs.Prelude.{Action, AreMoves, Bool, Called, Config, DealtNumbers, Entry, Err, Event, GateError, HasSeen, HaveHistory, Holder}
+use Rattle.vfs_gates.proofs.Prelude.{IsLegal, IsPrefix, IsWithin, Limits, List, Numbered, Op, Reply, Result, SeatedTask, State, StaySeen, Traced}
+use Rattle.vfs_gates.proofs.Prelude.{View, WordName, [], actions_append, actions_of, actions_since, actions_so_far, after_more, ap, append_assoc}
+use Rattle.vfs_gates.proofs.Prelude.{arith, cases_Bool, end_of, eqb_tells, false, get_elem?, if◌then◌else◌, inl, inr, length, model_limits, next_of}
+use Rattle.vfs_gates.proofs.Prelude.{only, own_actions, own_number, own_part, own_view, ran_items, refl, shown, some, state_of_trace, subst, sym}
+use Rattle.vfs_gates.proofs.Prelude.{true, world_after, ℕ, ◌++◌, ◌<◌, ◌==◌, ◌∙◌, ◌∷◌, ◌≡◌, ◌≤◌}
+use Rattle.std.{proofs.lemmas.{Bool.{and_parts, false≢true}, List.append_cancel_right}, specs.Prelude.{not, ◌||◌, ◌⊎◌}}
+use Rattle.access_model.{proofs.{Frozen.frozen_shut, Held.stays_frozen}, specs.{Actions.after_action, Histories.Done, Holders.{held_by, with_holder}}}
+use Rattle.access_model.specs.{Laws.IsFrozenFor, declared.actions.{Action.TheVariants.{Hold, Leave}, Holder.TheVariants.{Kernel, User}}}
+use Rattle.access_model.specs.declared.{actions.Holders.Holders, errors.GateError.TheVariants.Invalid, replies.Next.TheVariants.Done as Ends}
+use Rattle.cpu_words.specs.{Touches.{event_of, found_by}, Words.{Words, read}, declared.events.Touch.{TheVariants.Load, Touch}}
+use Rattle.cpu_words.specs.declared.names.WordName.TheVariants.{Holders as HoldersWord, Stage}
 use Rattle.freeze_levels.specs.Holders.{holders_in}
 use Rattle.gated_tree.specs.Refusals.{finds_thawed, loads_stage}
-use Rattle.gate_world.specs.{Configs.{IsWithin, model_limits}, Headline.{world_after, actions_so_far, actions_since, IsOneRun}, Shown.shown}
-use Rattle.gate_world.specs.traces.{Found.{is_load, says_incomplete, says_unheld, some_event}, TraceStates.state_of_trace, Traces.{actions_of, IsHonestAnswer}}
-use Rattle.gate_world.specs.{Work.{next_of}, declared.entries.Entry.{Entry, TheVariants.{Begins, Steps}}}
-use Rattle.gate_world.specs.declared.{config.Config.Config, operations.Op.{Op, TheVariants.{Snapshot, Thaw}}, views.{Traced.Traced, View.View}}
+use Rattle.gate_world.specs.{Headline.IsOneRun, declared.{entries.Entry.TheVariants.{Begins, Steps}, operations.Op.TheVariants.{Snapshot, Thaw}}}
+use Rattle.gate_world.specs.traces.{Found.{is_load, says_incomplete, says_unheld, some_event}, Traces.IsHonestAnswer}
 use Rattle.gate_schedules.proofs.schedules.HeadlineProof.{whole_run}
-use Rattle.gate_steps.specs.{Seating.{DealtNumbers, HaveHistory, IsPrefix}, declared.seating.Numbered.{Numbered}}
-use Rattle.gate_steps.specs.call_events.{Grown.{HasSeen, StaySeen}, Runs.{ran_items, AreMoves, Called}, Spans.IsEventDuring}
-use Rattle.gate_steps.proofs.call_events.{Grown.{after_more, only}, Moments.{actions_append, part_more}, Spanning.each_event}
-use Rattle.vfs_gates.specs.{Ended.EndedWith, Frozen.{holders_of, NeverThaws, NeedsFreeze}, Held.own_actions, TaskStates.{SeatedTask, own_number, own_view}}
-use Rattle.vfs_gates.proofs.Holding.{adds, no_move, stays}
+use Rattle.gate_steps.{proofs.call_events.{Moments.part_more, Spanning.each_event}, specs.call_events.Spans.IsEventDuring}
+use Rattle.vfs_gates.{proofs.Holding.{adds, no_move, stays}, specs.{Ended.EndedWith, Frozen.{NeedsFreeze, NeverThaws, holders_of}}}
 
 -- of a history: each action by which this holder leaves is of this number
 abbrev pub OnlyThawsBy : Holder → ℕ → List Done → Type 0

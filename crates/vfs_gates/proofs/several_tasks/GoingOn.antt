@@ -1,12 +1,8 @@
 -- An operation under way goes on while its task sees more.
-use Rattle.std.proofs.Common.{◌≡◌, List, [], ◌∷◌, refl, sym, ap, ◌∙◌, subst}
-use Rattle.std.specs.Prelude.{Some, None}
-use Rattle.gate_world.specs.{Views.{phase_after}, traces.TraceStates.{IsTrace, state_of_trace}}
-use Rattle.gate_world.specs.declared.{config.Config.{Config}, entries.Entry.{Entry}, operations.Op.{Op}, views.Traced.{Traced}}
-use Rattle.gate_steps.specs.call_events.{Grown.{StaySeen}, Runs.{begins_at, items_at, AreMovesSoFar, OpUnderWay}}
-use Rattle.gate_steps.specs.Seating.{DealtNumbers}
-use Rattle.gate_steps.proofs.call_events.Grown.{stays_seen_on}
-use Rattle.vfs_gates.specs.TaskStates.{SeatedTask, own_number}
+use Rattle.vfs_gates.proofs.Prelude.{Config, DealtNumbers, Entry, List, None, Op, SeatedTask, Some, StaySeen, Traced, [], ap, own_number, phase_after}
+use Rattle.vfs_gates.proofs.Prelude.{refl, state_of_trace, subst, sym, ◌∙◌, ◌∷◌, ◌≡◌}
+use Rattle.gate_world.specs.traces.TraceStates.{IsTrace}
+use Rattle.gate_steps.{proofs.call_events.Grown.stays_seen_on, specs.call_events.Runs.{AreMovesSoFar, OpUnderWay, begins_at, items_at}}
 
 -- after its first step
 moves_still : (c : Config) (op : Op) (items : DealtNumbers) (seen : List (List Entry)) (trace : List Traced) (now later : List (List Entry)) →

@@ -1,25 +1,19 @@
 -- A freeze that was granted keeps everybody out until its holder thaws.
-use Rattle.std.proofs.Common.{◌≡◌, ℕ, Bool, true, false, List, [], ◌∷◌, ◌++◌, refl, sym, ap, ◌∙◌, subst}
-use Rattle.std.proofs.lemmas.List.{append_assoc, append-nil}
-use Rattle.std.specs.Prelude.{Result, Ok}
-use mathlib.Core.Option.{some}
-use lib.ListN.{get_elem?}
-use Rattle.access_model.specs.{Actions.{after_action}, Histories.{Done, end_of, IsLegal, own_part}, Holders.{held_by, with_holder}, States.{Limits, State}}
-use Rattle.access_model.specs.declared.actions.{Action.{Action, TheVariants.{Grant, Hold}}, Gate.{Gate, TheVariants.{Mount, Level}}}
-use Rattle.access_model.specs.declared.actions.{Holder.{Holder, TheVariants.{Kernel, User}}, Holders.Holders}
-use Rattle.access_model.specs.declared.replies.{Reply.Reply}
-use Rattle.access_model.proofs.{Frozen.{frozen_still}}
-use Rattle.gate_world.specs.{Configs.{IsWithin, model_limits}, Headline.{actions_so_far, actions_since}, Shown.{shown}}
-use Rattle.gate_world.specs.traces.{TraceStates.state_of_trace, Traces.{actions_of}}
-use Rattle.gate_world.specs.declared.{config.Config.Config, entries.Entry.{Entry}}
-use Rattle.gate_world.specs.declared.operations.Op.{Op, TheVariants.{Freeze, Start, WantWrite}}
+use Rattle.vfs_gates.proofs.Prelude.{Action, Bool, Called, Config, DealtNumbers, Entry, Freeze, Grant, HasSeen, HaveHistory, Holder, IsLegal}
+use Rattle.vfs_gates.proofs.Prelude.{IsPrefix, IsWithin, Limits, List, Ok, Op, Reply, Result, SeatedTask, State, StaySeen, WantWrite, []}
+use Rattle.vfs_gates.proofs.Prelude.{actions_append, actions_of, actions_since, actions_so_far, after_more, ap, append_assoc, call_effect, end_of}
+use Rattle.vfs_gates.proofs.Prelude.{false, get_elem?, model_limits, only, own_part, refl, shown, some, state_of_trace, subst, sym, true, ℕ, ◌++◌}
+use Rattle.vfs_gates.proofs.Prelude.{◌∙◌, ◌∷◌, ◌≡◌}
+use Rattle.std.proofs.lemmas.List.{append-nil}
+use Rattle.access_model.{proofs.Frozen.frozen_still, specs.{Actions.after_action, Histories.Done, Holders.{held_by, with_holder}}}
+use Rattle.access_model.specs.declared.actions.{Action.TheVariants.Hold, Gate.{Gate, TheVariants.{Level, Mount}}, Holder.TheVariants.{Kernel, User}}
+use Rattle.access_model.specs.declared.actions.Holders.{Holders}
+use Rattle.gate_world.specs.declared.operations.Op.TheVariants.{Start}
 use Rattle.gate_schedules.proofs.schedules.HeadlineProof.{whole_run}
-use Rattle.gate_steps.specs.{Seating.{DealtNumbers, HaveHistory, IsPrefix}, call_events.SeatedTasks.{own_number}}
-use Rattle.gate_steps.specs.call_events.{Grown.{HasSeen, StaySeen}, Runs.{Called}, Spans.{TakesEffect}}
-use Rattle.gate_steps.proofs.call_events.{Effects.call_effect, Grown.{after_more, only}, Moments.{actions_append}}
-use Rattle.vfs_gates.specs.{Meetings.{IsWritable, NoneSince, Seals, Thaws}, TaskStates.{SeatedTask}}
+use Rattle.gate_steps.specs.call_events.{SeatedTasks.own_number, Spans.TakesEffect}
 use Rattle.vfs_gates.proofs.several_tasks.FrozenOut.{GrantsFrozen, all_closed, grants_frozen, never_leaves, no_start, no_write, stays_writable}
-use Rattle.vfs_gates.proofs.{several_tasks.Keeping.{NoneOfThese}, several_tasks.Shut.{none_between, none_later, none_within, splits_at}}
+use Rattle.vfs_gates.{proofs.several_tasks.{Keeping.NoneOfThese, Shut.{none_between, none_later, none_within, splits_at}}, specs.Meetings.IsWritable}
+use Rattle.vfs_gates.specs.Meetings.{NoneSince, Seals, Thaws}
 
 -- a freeze that was granted has added its holder last
 abbrev first_dropped : List Action → List Action

@@ -1,14 +1,10 @@
 -- A holder that sent word of its access, and was sent word of a change before it did more.
-use Rattle.std.proofs.Common.{◌≡◌, ℕ, ◌≤◌, List, [], ◌∷◌, length, refl, sym, ap, ◌∙◌, subst, arith}
-use Rattle.std.specs.Prelude.{Bool, true, Result, Ok}
-use Rattle.access_model.specs.declared.{actions.Action.{Action}, errors.GateError.{GateError}, replies.Reply.{Reply}}
+use Rattle.vfs_gates.proofs.Prelude.{Action, Called, ChangeMount, Config, DealtNumbers, Entry, GateError, HaveHistory, List, Ok, Op, Reply, Result}
+use Rattle.vfs_gates.proofs.Prelude.{SeatedTask, StaySeen, [], ap, arith, length, own_number, own_view, refl, subst, sym, ℕ, ◌∙◌, ◌∷◌, ◌≡◌, ◌≤◌}
+use Rattle.std.specs.Prelude.{Bool, true}
 use Rattle.gate_world.specs.Views.{held_at}
-use Rattle.gate_world.specs.declared.{config.Config.{Config}, entries.Entry.{Entry}, operations.Op.{Op, TheVariants.{ChangeMount}}}
-use Rattle.gate_steps.specs.Seating.{DealtNumbers, HaveHistory}
-use Rattle.gate_steps.specs.call_events.{Grown.{StaySeen}, Runs.{Called}}
 use Rattle.gate_steps.proofs.call_events.Grown.{stays_seen_on}
-use Rattle.vfs_gates.specs.{Meetings.{BeginsIn, Encloses, HasDone, HoldsAt}, TaskStates.{SeatedTask, own_number, own_view}}
-use Rattle.vfs_gates.proofs.{several_tasks.Begun.{call_begins}, several_tasks.Keeping.{change_refused}}
+use Rattle.vfs_gates.{proofs.several_tasks.{Begun.call_begins, Keeping.change_refused}, specs.Meetings.{BeginsIn, Encloses, HasDone, HoldsAt}}
 
 -- who holds an access has it by its own number's list
 own_done : (m : ℕ) (items : DealtNumbers) → 1 ≤ held_at (own_view items) m → HasDone (own_number items) (own_view items).actions items

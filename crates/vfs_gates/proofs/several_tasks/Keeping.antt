@@ -1,26 +1,21 @@
 -- A task that holds an access at a mount keeps it writable.
-use Rattle.std.proofs.Common.{◌≡◌, ℕ, suc, ◌+◌, ◌<◌, ◌≤◌, Bool, true, false, List, [], ◌∷◌, ◌++◌, length, refl, sym, ap, ◌∙◌, subst, inl, inr, ⊎_elim, arith, length-append}
-use Rattle.std.proofs.lemmas.{Bool.{and_parts, cases_Bool, false≢true, Decides.eqb_tells}, List.{append_assoc, append-nil}}
-use Rattle.std.specs.Prelude.{◌==◌, ◌⊎◌, ◌&&◌, if◌then◌else◌, Result, Ok, Err, Some}
-use mathlib.Core.{Option.{some}}
-use lib.ListN.{get_elem?}
-use Rattle.access_model.specs.{Actions.{IsAllowed}, Histories.{Done, end_of, IsLegal, own_part, mounts_of}, Laws.{IsReadOnly}, States.{Limits, State}}
-use Rattle.access_model.specs.declared.actions.Action.{Action, TheVariants.{MountRo, SbRo, SbRw}}
-use Rattle.access_model.specs.declared.{errors.GateError.{GateError, TheVariants.{Busy, Hook}}, replies.Reply.Reply}
-use Rattle.access_model.proofs.Lists.{follows}
-use Rattle.cpu_words.specs.Words.{Words, read}
-use Rattle.cpu_words.specs.declared.{events.Event.Event, names.WordName.{WordName, TheVariants.SbFlags}}
-use Rattle.gate_world.specs.{Configs.{IsWithin, model_limits}, Headline.{world_after, actions_so_far, actions_since, IsOneRun}, Shown.shown, Work.{next_of}}
-use Rattle.gate_world.specs.traces.{Found.{is_load, says_read_only, says_sealed, found_read_only, found_sealed, cleans}, TraceStates.state_of_trace}
-use Rattle.gate_world.specs.declared.entries.Entry.{Entry, TheVariants.{Begins, Steps}}
-use Rattle.gate_world.specs.declared.{config.Config.Config, operations.Op.{Op, TheVariants.{ChangeMount, RemountSb}}, views.{Traced.Traced, View.View}}
+use Rattle.vfs_gates.proofs.Prelude.{Action, AreMoves, Bool, Called, ChangeMount, Config, DealtNumbers, Entry, Err, Event, GateError, HasSeen}
+use Rattle.vfs_gates.proofs.Prelude.{HaveHistory, IsLegal, IsPrefix, IsWithin, Limits, List, Ok, Op, Reply, Result, SeatedTask, Some, State, Traced}
+use Rattle.vfs_gates.proofs.Prelude.{View, WordName, [], actions_append, actions_since, actions_so_far, after_more, ap, append_assoc, arith}
+use Rattle.vfs_gates.proofs.Prelude.{call_effect, cases_Bool, end_of, eqb_tells, false, get_elem?, if◌then◌else◌, inl, inr, length, model_limits}
+use Rattle.vfs_gates.proofs.Prelude.{next_of, only, own_part, refl, shown, some, state_of_trace, subst, suc, sym, true, world_after, ℕ, ◌++◌, ◌+◌}
+use Rattle.vfs_gates.proofs.Prelude.{◌<◌, ◌==◌, ◌∙◌, ◌∷◌, ◌≡◌, ◌≤◌}
+use Rattle.std.{proofs.{Common.{length-append, ⊎_elim}, lemmas.{Bool.{and_parts, false≢true}, List.append-nil}}, specs.Prelude.{◌&&◌, ◌⊎◌}}
+use Rattle.access_model.{proofs.Lists.follows, specs.{Actions.IsAllowed, Histories.{Done, mounts_of}, Laws.IsReadOnly}}
+use Rattle.access_model.specs.declared.{actions.Action.TheVariants.{MountRo, SbRo, SbRw}, errors.GateError.TheVariants.{Busy, Hook}}
+use Rattle.cpu_words.specs.{Words.{Words, read}, declared.names.WordName.TheVariants.SbFlags}
+use Rattle.gate_world.specs.{Headline.IsOneRun, declared.{entries.Entry.TheVariants.{Begins, Steps}, operations.Op.TheVariants.RemountSb}}
+use Rattle.gate_world.specs.traces.Found.{cleans, found_read_only, found_sealed, is_load, says_read_only, says_sealed}
 use Rattle.gate_schedules.proofs.schedules.HeadlineProof.{whole_rule, whole_run}
-use Rattle.gate_steps.specs.{Seating.{DealtNumbers, HaveHistory, IsPrefix}, call_events.SeatedTasks.{own_number}}
-use Rattle.gate_steps.specs.call_events.{Grown.{HasSeen}, Runs.{AreMoves, Called}, Spans.{GoesOnFromSeen, IsEventDuring, TakesEffect}}
-use Rattle.gate_steps.proofs.call_events.{Effects.call_effect, Grown.{after_more, only}, Moments.{actions_append, part_more}, Spanning.each_event}
-use Rattle.vfs_gates.specs.{Meetings.{Encloses, HasDone, NoneIs, Shuts}, TaskStates.{SeatedTask}}
-use Rattle.vfs_gates.proofs.several_tasks.FrozenUntilThawed.{load_finds, some_of, SomeSays}
-use Rattle.vfs_gates.proofs.several_tasks.Enclosed.{stood, done_there, granted_there, not_read_only, mount_there, read_only_found}
+use Rattle.gate_steps.{proofs.call_events.{Moments.part_more, Spanning.each_event}, specs.call_events.{SeatedTasks.own_number, Spans.GoesOnFromSeen}}
+use Rattle.gate_steps.specs.call_events.Spans.{IsEventDuring, TakesEffect}
+use Rattle.vfs_gates.proofs.several_tasks.Enclosed.{done_there, granted_there, mount_there, not_read_only, read_only_found, stood}
+use Rattle.vfs_gates.{proofs.several_tasks.FrozenUntilThawed.{SomeSays, load_finds, some_of}, specs.Meetings.{Encloses, HasDone, NoneIs, Shuts}}
 
 -- none of these actions, of whatever task, is such a one
 abbrev pub NoneOfThese : (Action → Type 0) → List Done → Type 0

@@ -1,15 +1,12 @@
 -- A number's list goes with it, when tasks are split and joined.
-use Rattle.std.proofs.Common.{◌≡◌, ℕ, zero, suc, ◌≤◌, List, [], ◌∷◌, ◌++◌, refl, sym, ap, ◌∙◌, subst, inl, inr, arith}
-use Rattle.std.specs.Prelude.{◌⊎◌, ◌==◌, cond}
-use Rattle.std.proofs.lemmas.Bool.{Decides.eqb_tells}
-use mathlib.Core.Option.{some, some-injective, some-ne-none}
-use lib.ListN.{get_elem?}
-use Rattle.access_model.specs.declared.actions.Action.{Action}
-use Rattle.gate_world.specs.declared.{entries.Entry.{Entry}, views.View.{View}}
-use Rattle.gate_steps.specs.{declared.seating.Numbered.{Numbered}, Seating.{DealtNumbers, HaveHistory, HaveViews, given_of, kept_of, numbered, renewed, times, view_in, without}}
-use Rattle.gate_steps.proofs.{Dealing.{times-at}, Giving.{at_behind, view_in-at}}
+use Rattle.vfs_gates.proofs.Prelude.{Action, DealtNumbers, Entry, HaveHistory, List, Numbered, SeatedTask, View, [], ap, arith, eqb_tells, get_elem?}
+use Rattle.vfs_gates.proofs.Prelude.{inl, inr, refl, some, subst, suc, sym, zero, ℕ, ◌++◌, ◌==◌, ◌∙◌, ◌∷◌, ◌≡◌, ◌≤◌}
+use Rattle.std.specs.Prelude.{cond, ◌⊎◌}
+use mathlib.Core.Option.{some-injective, some-ne-none}
+use Rattle.gate_steps.{proofs.{Dealing.times-at, Giving.{at_behind, view_in-at}}, specs.Seating.{HaveViews, given_of, kept_of, numbered, renewed}}
+use Rattle.gate_steps.specs.Seating.{times, view_in, without}
 use Rattle.atomic_table.proofs.Lists.{at_longer}
-use Rattle.vfs_gates.specs.{Meetings.{HasDone}, Parts.{SplitOf}, TaskStates.{SeatedTask}}
+use Rattle.vfs_gates.specs.{Meetings.HasDone, Parts.SplitOf}
 
 -- of two tasks' numbers after a join
 pub joined_first : (n : ℕ) (list : List Action) (items others : DealtNumbers) → HasDone n list items → HasDone n list (items ++ others)

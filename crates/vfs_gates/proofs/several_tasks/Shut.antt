@@ -1,29 +1,25 @@
 -- A mount that is read-only, and that nobody makes writable, admits nobody.
-use Rattle.std.proofs.Common.{◌≡◌, ℕ, suc, ◌+◌, ◌<◌, ◌≤◌, Bool, true, false, List, [], ◌∷◌, ◌++◌, length, refl, sym, ap, ◌∙◌, subst, inl, inr, ⊎_elim, arith}
-use Rattle.std.proofs.lemmas.{Bool.{and_parts, both_ways, cases_Bool, false≢true, Decides.eqb_tells}, List.{append_assoc, append_cancel_left, append_cancel_right, append-nil}}
-use Rattle.std.specs.Prelude.{◌==◌, ◌⊎◌, ◌&&◌, if◌then◌else◌, Result, Ok, Some}
-use mathlib.Core.{Logic.{dite}, Option.{some}}
+use Rattle.vfs_gates.proofs.Prelude.{Action, AreMoves, Bool, Called, ChangeMount, Config, DealtNumbers, Entry, Event, Grant, HasSeen, HaveHistory}
+use Rattle.vfs_gates.proofs.Prelude.{IsLegal, IsPrefix, IsWithin, Limits, List, Ok, Op, Reply, Result, SeatedTask, Some, State, StaySeen, Traced}
+use Rattle.vfs_gates.proofs.Prelude.{View, WantWrite, World, [], actions_append, actions_of, actions_since, actions_so_far, after_more, ap}
+use Rattle.vfs_gates.proofs.Prelude.{append_assoc, arith, call_effect, cases_Bool, end_of, eqb_tells, false, get_elem?, if◌then◌else◌, inl, inr}
+use Rattle.vfs_gates.proofs.Prelude.{length, model_limits, next_of, only, own_part, refl, shown, some, state_of_trace, subst, suc, sym, true}
+use Rattle.vfs_gates.proofs.Prelude.{world_after, ℕ, ◌++◌, ◌+◌, ◌<◌, ◌==◌, ◌∙◌, ◌∷◌, ◌≡◌, ◌≤◌}
+use Rattle.std.proofs.{Common.⊎_elim, lemmas.{Bool.{and_parts, both_ways, false≢true}, List.{append-nil, append_cancel_left, append_cancel_right}}}
+use Rattle.std.specs.Prelude.{◌&&◌, ◌⊎◌}
+use mathlib.Core.Logic.{dite}
 use native.Mathlib.Decide.{ℕ_discrete}
-use lib.ListN.{get_elem?}
-use Rattle.finite_sums.specs.Sums.{update}
-use Rattle.finite_sums.proofs.Totals.{update_at, update_off}
-use Rattle.access_model.specs.{Actions.{IsAllowed, after_action}, Histories.{Done, end_of, IsLegal, own_part}, Laws.{IsReadOnly}, States.{Limits, State}}
-use Rattle.access_model.specs.declared.actions.{Action.{Action, TheVariants.{Grant, MountRo, MountRw, SbRo, SbRw}}, Gate.TheVariants.{Mount, Level}}
-use Rattle.access_model.specs.declared.replies.{Reply.Reply}
+use Rattle.finite_sums.{proofs.Totals.{update_at, update_off}, specs.Sums.update}
+use Rattle.access_model.specs.{Actions.{IsAllowed, after_action}, Histories.Done, Laws.IsReadOnly, declared.actions.Action.TheVariants.MountRo}
+use Rattle.access_model.specs.declared.actions.{Action.TheVariants.{MountRw, SbRo, SbRw}, Gate.TheVariants.{Level, Mount}}
 use Rattle.cpu_words.specs.Words.{Words, read}
-use Rattle.cpu_words.specs.declared.events.Event.{Event}
-use Rattle.gate_world.specs.{Configs.{IsWithin, model_limits}, Headline.{world_after, actions_so_far, actions_since, IsOneRun}, Shown.shown, Work.{next_of}}
-use Rattle.gate_world.specs.Worlds.{World}
-use Rattle.gate_world.specs.traces.{Found.{is_load, says_read_only, found_read_only}, TraceStates.state_of_trace, Traces.{actions_of}}
-use Rattle.gate_world.specs.declared.entries.Entry.{Entry, TheVariants.{Begins, Steps}}
-use Rattle.gate_world.specs.declared.{config.Config.Config, operations.Op.{Op, TheVariants.{ChangeMount, Want, WantWrite}}, views.{Traced.Traced, View.View}}
+use Rattle.gate_world.specs.{Headline.IsOneRun, declared.{entries.Entry.TheVariants.{Begins, Steps}, operations.Op.TheVariants.Want}}
+use Rattle.gate_world.specs.traces.Found.{found_read_only, is_load, says_read_only}
 use Rattle.gate_schedules.proofs.schedules.HeadlineProof.{whole_rule, whole_run}
-use Rattle.gate_steps.specs.{Seating.{DealtNumbers, HaveHistory, IsPrefix}, call_events.SeatedTasks.{own_number}}
-use Rattle.gate_steps.specs.call_events.{Grown.{HasSeen, StaySeen}, Runs.{AreMoves, Called}, Spans.{GoesOnFromSeen, IsEventDuring, TakesEffect}}
-use Rattle.gate_steps.proofs.call_events.{Effects.call_effect, Grown.{after_more, only}, Moments.{actions_append, part_more}, Spanning.each_event}
-use Rattle.vfs_gates.specs.{Meetings.{NoneIs, NoneSince, Reopens, TakesMount}, TaskStates.{SeatedTask}}
-use Rattle.vfs_gates.proofs.several_tasks.FrozenUntilThawed.{load_finds, some_of, SomeSays}
-use Rattle.vfs_gates.proofs.{several_tasks.Enclosed.{read_only_found}, several_tasks.Keeping.{NoneOfThese, none_own}}
+use Rattle.gate_steps.{proofs.call_events.{Moments.part_more, Spanning.each_event}, specs.call_events.{SeatedTasks.own_number, Spans.GoesOnFromSeen}}
+use Rattle.gate_steps.specs.call_events.Spans.{IsEventDuring, TakesEffect}
+use Rattle.vfs_gates.proofs.several_tasks.{Enclosed.read_only_found, FrozenUntilThawed.{SomeSays, load_finds, some_of}, Keeping.NoneOfThese}
+use Rattle.vfs_gates.{proofs.several_tasks.Keeping.none_own, specs.Meetings.{NoneIs, NoneSince, Reopens, TakesMount}}
 
 -- an action that doesn't make a mount writable leaves it read-only
 module _ (l : Limits) (s : State) (t m : ℕ) where

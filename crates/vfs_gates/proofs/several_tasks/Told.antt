@@ -1,14 +1,11 @@
 -- A call comes after all that its task was told.
-use Rattle.std.proofs.Common.{◌≡◌, ℕ, ◌≤◌, List, [], ◌∷◌, ◌++◌, length, refl, sym, ap, ◌∙◌, subst, arith}
-use Rattle.std.specs.Prelude.{Result}
-use lib.ListN.{get_elem?}
-use Rattle.access_model.specs.{Histories.{own_part}, declared.{actions.Action.{Action}, errors.GateError.{GateError}, replies.Reply.{Reply}}}
-use Rattle.gate_world.specs.{traces.{TraceStates.{state_of_trace}}, Headline.{actions_so_far, actions_since}}
-use Rattle.gate_world.specs.declared.{config.Config.{Config}, entries.Entry.{Entry}, operations.Op.{Op}, views.{Traced.{Traced}, View.{View}}}
-use Rattle.gate_steps.specs.{Seating.{DealtNumbers, HaveHistory, IsPrefix}, call_events.{Grown.{HasSeen, StaySeen}, Runs.{ran_items, Called}, Spans.{TakesEffect}}}
-use Rattle.gate_steps.proofs.call_events.{Effects.{call_effect}, Grown.{after_more, same_stays_seen, stays_seen_on}, Moments.{actions_append, part_more}}
-use Rattle.vfs_gates.specs.{Held.{own_actions}, Meetings.{ComesAfterList, HasDone, SawList}, TaskStates.{SeatedTask, own_number, own_view}}
-use Rattle.vfs_gates.proofs.{several_tasks.Enclosed.{done_there}, several_tasks.FrozenUntilThawed.{some_number, some_ran}}
+use Rattle.vfs_gates.proofs.Prelude.{Action, Called, Config, DealtNumbers, Entry, GateError, HasSeen, HaveHistory, IsPrefix, List, Op, Reply, Result}
+use Rattle.vfs_gates.proofs.Prelude.{SeatedTask, StaySeen, Traced, View, [], actions_append, actions_since, actions_so_far, after_more, ap, arith}
+use Rattle.vfs_gates.proofs.Prelude.{call_effect, get_elem?, length, own_actions, own_number, own_part, own_view, ran_items, refl, state_of_trace}
+use Rattle.vfs_gates.proofs.Prelude.{subst, sym, ℕ, ◌++◌, ◌∙◌, ◌∷◌, ◌≡◌, ◌≤◌}
+use Rattle.gate_steps.{proofs.call_events.{Grown.{same_stays_seen, stays_seen_on}, Moments.part_more}, specs.call_events.Spans.TakesEffect}
+use Rattle.vfs_gates.{proofs.several_tasks.{Enclosed.done_there, FrozenUntilThawed.{some_number, some_ran}}, specs.Meetings.{ComesAfterList, HasDone}}
+use Rattle.vfs_gates.specs.Meetings.{SawList}
 
 -- what a task's own number has done after an operation
 ran_list : (c : Config) (op : Op) (trace : List Traced) (items : DealtNumbers) → 1 ≤ length items →

@@ -1,12 +1,12 @@
 -- All that is proved of a callback.
-use Rattle.gate_schedules.proofs.Prelude.{Action, Config, Fits, Fitting, List, Next, Op, Option, Phase, Some, World, after_step, arith, found_at}
-use Rattle.gate_schedules.proofs.Prelude.{held_after, held_of, map_next, phase_after, refl, subst, sym, ℕ, ◌∷◌, ◌≤◌}
+use Rattle.gate_schedules.proofs.Prelude.{Action, ActionFits, Callback, CauseOf, Config, Fits, Fitting, List, Next, Op, Option, Phase, Some, World}
+use Rattle.gate_schedules.proofs.Prelude.{after_step, arith, found_at, held_after, held_of, map_next, no_roles, phase_after, refl, subst, sym, ℕ, ◌∷◌}
+use Rattle.gate_schedules.proofs.Prelude.{◌≤◌}
 use Rattle.gate_schedules.proofs.frames.{Frames.sync_none, OperationLaws.{OpLaws, PhaseLaws, word_among}, Snapshots.completes_none}
 use Rattle.gate_schedules.proofs.operations.callback.{Events.callback_keeps, Trace.{CallbackAt, callback_inductive}}
 use Rattle.gate_schedules.proofs.operations.readers.{Fits.{callback_acts_none, callback_goes, callback_there, level_there}, Runs.callback_runs}
 use Rattle.gate_schedules.proofs.{operations.readers.Waits.callback_waits, traces.TraceInvariant.traces_tell}
-use Rattle.gate_world.specs.{Fits.ActionFits, SameRoles.no_roles, refusals.KeptCauses.CauseOf}
-use Rattle.percpu_rwsem.specs.{Callbacks.callback_after, declared.callbacks.Callback.Callback}
+use Rattle.percpu_rwsem.specs.Callbacks.{callback_after}
 
 -- what comes after a step of a callback has no cause
 callback_cause : (c : Config) (t : ℕ) (w : World) (earlier : List World) (n : Next Callback) →

@@ -1,16 +1,16 @@
 -- A callback runs out where nobody is inside a section.
-use Rattle.gate_schedules.proofs.Prelude.{Config, Fits, Fitting, IsGood, None, Phase, PhaseFits, SyncAt, WordName, Words, World, ap, arith, eq-eqb}
-use Rattle.gate_schedules.proofs.Prelude.{found_at, found_by, held_of, is_frozen_whole, left, read, refl, subst, sym, sync_role_of, update_at}
-use Rattle.gate_schedules.proofs.Prelude.{words_after, ℕ, ◌+◌, ◌<◌, ◌==◌, ◌∙◌, ◌≡◌, ◌≤◌}
+use Rattle.gate_schedules.proofs.Prelude.{Callback, Config, Fits, Fitting, IsGood, IsUnblocked, None, Phase, PhaseEnds, PhaseFits, RankDecreases}
+use Rattle.gate_schedules.proofs.Prelude.{SyncAt, Transition, TransitionNext, WordName, Words, World, ap, arith, eq-eqb, found_at, found_by, held_of}
+use Rattle.gate_schedules.proofs.Prelude.{is_frozen_whole, left, rank, read, refl, subst, sym, sync_role_of, transition_after, update_at, words_after}
+use Rattle.gate_schedules.proofs.Prelude.{ℕ, ◌+◌, ◌<◌, ◌==◌, ◌∙◌, ◌≡◌, ◌≤◌}
 use Rattle.gate_schedules.proofs.{frames.Words.load_same, levels.Facts.{ExchangeFalls, callback_called, defined_falls, exchange_falls}}
 use Rattle.gate_schedules.{proofs.operations.deadlocks.RankDecreases.{after_event, falls_as}, specs.operations.Ranks.{callback_rank, exchange_rank}}
-use Rattle.gate_schedules.specs.operations.{Ranks.{grace_rank, rank}, Unblocked.{RankDecreases, IsUnblocked, NobodyInside, PhaseEnds}}
+use Rattle.gate_schedules.specs.operations.{Ranks.grace_rank, Unblocked.NobodyInside}
 use Rattle.gate_world.specs.{Fits.GraceFits, Roles.sync_role_if, Rules.SyncHoldsIn}
 use Rattle.freeze_laws.specs.levels.{Operations.callback_role, Roles.{Ready, claimed as has_claimed}}
 use Rattle.percpu_rwsem.specs.{Callbacks.{callback_after, callback_looked, callback_next, called_back, claimed}, Graces.looked, SyncWords.on_callback}
-use Rattle.percpu_rwsem.specs.{SyncWords.on_claim, Transitions.{transition_after, transition_next}, declared.callbacks.Callback.Callback}
-use Rattle.percpu_rwsem.specs.declared.{callbacks.CallbackStep.CallbackStep, grace.{Grace.Grace, GraceNext.GraceNext}}
-use Rattle.percpu_rwsem.specs.declared.transitions.{Transition.Transition, TransitionNext.TransitionNext}
+use Rattle.percpu_rwsem.specs.{SyncWords.on_claim, Transitions.transition_next, declared.{callbacks.CallbackStep.CallbackStep, grace.Grace.Grace}}
+use Rattle.percpu_rwsem.specs.declared.grace.GraceNext.{GraceNext}
 use Rattle.std.specs.Prelude.{◌%◌}
 
 -- what comes after a look at a section word that is even

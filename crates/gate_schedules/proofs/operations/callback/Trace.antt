@@ -1,6 +1,6 @@
 -- Traces of a callback.
-use Rattle.gate_schedules.proofs.Prelude.{Action, Config, List, Op, Phase, Traced, [], arith, common_steps, ℕ, ◌≡◌}
-use Rattle.percpu_rwsem.specs.declared.callbacks.{Callback.Callback, CallbackStep.CallbackStep}
+use Rattle.gate_schedules.proofs.Prelude.{Action, Callback, Config, List, Op, Phase, Traced, [], arith, common_steps, ℕ, ◌≡◌}
+use Rattle.percpu_rwsem.specs.declared.callbacks.CallbackStep.{CallbackStep}
 use Rattle.gate_world.specs.traces.Found.{transitions_made}
 use Rattle.gate_schedules.proofs.traces.TraceInvariant.{IsInductive}
 

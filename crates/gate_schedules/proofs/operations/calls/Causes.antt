@@ -1,10 +1,8 @@
 -- The causes of the refusals of the calls at the tree, along an execution: a snapshot keeps one, as a thaw does, and no other call does.
-use Rattle.gate_schedules.proofs.Prelude.{Config, HookAnswer, List, Next, Option, Phase, Some, TreePhase, World, after_of, arith, common_steps}
-use Rattle.gate_schedules.proofs.Prelude.{found_at, map_next, phase_after, ℕ, ◌∷◌, ◌≡◌}
-use Rattle.node_words.specs.Phases.{clear_after}
-use Rattle.gated_tree.specs.Phases.{create_after, remove_after, grow_after, move_after, mark_after, open_after, at_snapshot}
-use Rattle.gated_tree.specs.declared.snapshots.{Snapshot.Snapshot, SnapshotStep.SnapshotStep}
-use Rattle.gate_world.specs.refusals.KeptCauses.{TreeCause, CauseOf}
+use Rattle.gate_schedules.proofs.Prelude.{CauseOf, Config, HookAnswer, List, Next, Option, Phase, Snapshot, SnapshotStep, Some, TreePhase, World}
+use Rattle.gate_schedules.proofs.Prelude.{after_of, arith, clear_after, common_steps, found_at, map_next, mark_after, phase_after, ℕ, ◌∷◌, ◌≡◌}
+use Rattle.gated_tree.specs.Phases.{at_snapshot, create_after, grow_after, move_after, open_after, remove_after}
+use Rattle.gate_world.specs.refusals.KeptCauses.{TreeCause}
 
 -- so it is of each call at the tree
 pub tree_stays : (c : Config) (t : ℕ) (w next : World) (earlier : List World) (x : TreePhase) →

@@ -1,7 +1,8 @@
 -- Traces of a create.
-use Rattle.gate_schedules.proofs.Prelude.{Action, Config, IsWithin, List, Op, Phase, Traced, TreePhase, [], arith, common_steps, false, ℕ, ◌+◌, ◌<◌}
+use Rattle.gate_schedules.proofs.Prelude.{Action, Config, Create, CreateStep, IsWithin, List, Op, Phase, Traced, TreePhase, [], arith, common_steps}
+use Rattle.gate_schedules.proofs.Prelude.{false, ℕ, ◌+◌, ◌<◌}
 use Rattle.access_model.specs.declared.actions.Kind.{Kind}
-use Rattle.gated_tree.specs.{Phases.at_create, declared.changes.{Create.Create, CreateStep.CreateStep}}
+use Rattle.gated_tree.specs.Phases.{at_create}
 use Rattle.gate_schedules.proofs.{operations.calls.Trace.CallAt, traces.TraceInvariant.{TraceLaws, traces_given_reads}}
 use Rattle.gate_schedules.specs.trees.Ends.{CreateKnows}
 use Rattle.gate_world.specs.Operations.{first_create}

@@ -1,6 +1,5 @@
 -- The action of each step of a call at the tree can be done.
-use Rattle.gate_schedules.proofs.Prelude.{Config, Holdings, HookAnswer, IsWithin, Phase, PhaseFits, TreePhase, after_of, arith, ℕ}
-use Rattle.gate_world.specs.Fits.{ActionFits}
+use Rattle.gate_schedules.proofs.Prelude.{ActionFits, Config, Holdings, HookAnswer, IsWithin, Phase, PhaseFits, TreePhase, after_of, arith, ℕ}
 
 module _ (held : Holdings) where
   pub tree_acts : (c : Config) → IsWithin c → (t : ℕ) (x : TreePhase) (found : ℕ) (hook : HookAnswer) →

@@ -1,6 +1,6 @@
 -- Traces of a grow.
-use Rattle.gate_schedules.proofs.Prelude.{Action, Config, List, Op, Phase, Traced, TreePhase, [], arith, common_steps, false, ℕ}
-use Rattle.gated_tree.specs.{Phases.at_grow, declared.growth.{Grow.Grow, GrowStep.GrowStep}}
+use Rattle.gate_schedules.proofs.Prelude.{Action, Config, Grow, GrowStep, List, Op, Phase, Traced, TreePhase, [], arith, common_steps, false, ℕ}
+use Rattle.gated_tree.specs.Phases.{at_grow}
 use Rattle.gate_schedules.{proofs.{operations.calls.Trace.CallAt, traces.TraceInvariant.{TraceLaws, traces_given_reads}}, specs.trees.Ends.GrowKnows}
 use Rattle.gate_world.specs.Operations.{first_grow}
 

@@ -1,6 +1,6 @@
 -- Traces of a move.
-use Rattle.gate_schedules.proofs.Prelude.{Action, Config, List, Op, Phase, Traced, TreePhase, arith, common_steps, false, ℕ}
-use Rattle.gated_tree.specs.{Phases.at_move, declared.changes.{MoveStep.MoveStep, MoveTo.MoveTo}}
+use Rattle.gate_schedules.proofs.Prelude.{Action, Config, List, MoveStep, MoveTo, Op, Phase, Traced, TreePhase, arith, common_steps, false, ℕ}
+use Rattle.gated_tree.specs.Phases.{at_move}
 use Rattle.gate_schedules.{proofs.{operations.calls.Trace.CallAt, traces.TraceInvariant.{TraceLaws, traces_given_reads}}, specs.trees.Ends.MoveKnows}
 use Rattle.gate_schedules.specs.trees.Ends.{move_added}
 use Rattle.gate_world.specs.Operations.{first_move}

@@ -1,15 +1,13 @@
 -- A call at the tree that its next step refuses for what a node is: the step loads that node, and the shown state has it so.
-use Rattle.gate_schedules.proofs.Prelude.{Config, Err, GateError, HookAnswer, List, Next, Option, Phase, Reply, Result, Some, TreePhase, World}
-use Rattle.gate_schedules.proofs.Prelude.{after_of, arith, common_steps, found_at, if◌then◌else◌, map_next, nat_lt, refl, shown, ℕ, ◌==◌, ◌∷◌, ◌≡◌}
-use Rattle.std.specs.Prelude.{◌+◌, Bool, true, false}
-use Rattle.gated_tree.specs.{Calls.{IsMoveAnswer, MoveStepFits}, Phases.{create_after, create_looked, remove_after, grow_after, move_after}}
-use Rattle.gated_tree.specs.Phases.{mark_after, open_after, at_open, at_create, at_remove, at_grow, at_move, at_mark}
-use Rattle.gated_tree.specs.declared.changes.{Create.Create, CreateStep.CreateStep, MoveStep.MoveStep, MoveTo.MoveTo, Remove.Remove}
-use Rattle.gated_tree.specs.declared.{changes.RemoveStep.RemoveStep, growth.{Grow.Grow, GrowStep.GrowStep}, marks.{Mark.Mark, MarkStep.MarkStep}}
-use Rattle.gated_tree.specs.declared.opens.{OpenFile.OpenFile, OpenStep.OpenStep}
-use Rattle.node_words.specs.{Nodes.{word_of, unpacked, file_in, directory_in, node_after, node_shown}, Phases.{clear_after, after_look, clears_at}}
-use Rattle.node_words.specs.declared.{marks.ClearMarks.ClearMarks, nodes.NodeWord.NodeWord}
-use Rattle.gate_world.specs.refusals.Causes.{TellsOf, CallRefused, tree_sees}
+use Rattle.gate_schedules.proofs.Prelude.{ClearMarks, Config, Create, CreateStep, Err, GateError, Grow, GrowStep, HookAnswer, List, Mark, MarkStep}
+use Rattle.gate_schedules.proofs.Prelude.{MoveStep, MoveTo, Next, NodeWord, OpenFile, OpenStep, Option, Phase, Remove, RemoveStep, Reply, Result}
+use Rattle.gate_schedules.proofs.Prelude.{Some, TreePhase, World, after_of, arith, clear_after, common_steps, found_at, if◌then◌else◌, map_next}
+use Rattle.gate_schedules.proofs.Prelude.{mark_after, nat_lt, node_shown, refl, shown, word_of, ℕ, ◌==◌, ◌∷◌, ◌≡◌}
+use Rattle.std.specs.Prelude.{Bool, false, true, ◌+◌}
+use Rattle.gated_tree.specs.{Calls.{IsMoveAnswer, MoveStepFits}, Phases.{at_create, at_grow, at_mark, at_move, at_open, at_remove, create_after}}
+use Rattle.gated_tree.specs.Phases.{create_looked, grow_after, move_after, open_after, remove_after}
+use Rattle.node_words.specs.{Nodes.{directory_in, file_in, node_after, unpacked}, Phases.{after_look, clears_at}}
+use Rattle.gate_world.specs.refusals.Causes.{CallRefused, TellsOf, tree_sees}
 
 pub some_is : {A : Type 0} (a b : A) → Some a ≡ Some b → a ≡ b
 some_is a b e = cc

@@ -1,8 +1,8 @@
 -- All that is proved of each step of a call at the tree.
 use Rattle.gate_schedules.proofs.Prelude.{Config, Fits, Fitting, Phase, TreePhase, after_step, held_of, subst}
-use Rattle.gate_schedules.proofs.{frames.{Agreeing.access_agrees, OperationLaws.PhaseLaws}, operations.calls.Causes.{tree_stays, tree_own}}
-use Rattle.gate_schedules.proofs.operations.calls.{Events.{call_step, call_completes}, Fits.tree_acts, Waits.tree_waits, Words.tree_there}
-use Rattle.gate_schedules.proofs.trees.worlds.{Events.tree_run, Parts.{call_goes, call_at}}
+use Rattle.gate_schedules.proofs.{frames.{Agreeing.access_agrees, OperationLaws.PhaseLaws}, operations.calls.Causes.{tree_own, tree_stays}}
+use Rattle.gate_schedules.proofs.operations.calls.{Events.{call_completes, call_step}, Fits.tree_acts, Waits.tree_waits, Words.tree_there}
+use Rattle.gate_schedules.proofs.trees.worlds.{Events.tree_run, Parts.{call_at, call_goes}}
 
 pub tree_phase_keeps : (c : Config) (x : TreePhase) → PhaseLaws c (Phase.Trees x)
 tree_phase_keeps c x = record {

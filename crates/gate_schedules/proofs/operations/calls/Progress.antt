@@ -1,16 +1,15 @@
 -- The calls at the tree run out, a snapshot where it finds `umount` free.
-use Rattle.gate_schedules.proofs.Prelude.{Config, HookAnswer, Phase, TreePhase, Words, arith, common_steps, found_at, found_by, read, words_after, ℕ}
+use Rattle.gate_schedules.proofs.Prelude.{ClearMarks, Config, Create, CreateStep, Grow, GrowStep, HookAnswer, IsUnblocked, Mark, MarkStep, MoveStep}
+use Rattle.gate_schedules.proofs.Prelude.{MoveTo, OpenFile, OpenStep, Phase, PhaseEnds, RankDecreases, Remove, RemoveStep, Snapshot, SnapshotStep}
+use Rattle.gate_schedules.proofs.Prelude.{TreePhase, Words, arith, clear_after, common_steps, found_at, found_by, mark_after, rank, read, words_after}
+use Rattle.gate_schedules.proofs.Prelude.{ℕ}
 use Rattle.std.specs.Prelude.{◌-◌}
-use Rattle.node_words.specs.{Phases.clear_after, declared.marks.ClearMarks.ClearMarks}
-use Rattle.gated_tree.specs.Phases.{next as tree_next, after as tree_after, create_next, create_after, remove_next, remove_after, grow_next}
-use Rattle.gated_tree.specs.Phases.{grow_after, move_next, move_after, mark_next, mark_after, open_next, open_after, snapshot_next, snapshot_after}
-use Rattle.gated_tree.specs.declared.changes.{Create.Create, CreateStep.CreateStep, MoveStep.MoveStep, MoveTo.MoveTo, Remove.Remove}
-use Rattle.gated_tree.specs.declared.{changes.RemoveStep.RemoveStep, growth.{Grow.Grow, GrowStep.GrowStep}, marks.{Mark.Mark, MarkStep.MarkStep}}
-use Rattle.gated_tree.specs.declared.{opens.{OpenFile.OpenFile, OpenStep.OpenStep}, snapshots.{Snapshot.Snapshot, SnapshotStep.SnapshotStep}}
-use Rattle.gate_world.specs.traces.TraceStates.{WordIsValid, ReadIsValid, OpenReadIsValid}
-use Rattle.gate_schedules.{proofs.{frames.ValidWords.events_may_be, operations.deadlocks.RankDecreases.falls_as}, specs.operations.Ranks.rank}
-use Rattle.gate_schedules.specs.operations.Ranks.{create_rank, remove_rank, grow_rank, move_rank, mark_rank, open_rank, snapshot_rank, tree_rank}
-use Rattle.gate_schedules.specs.operations.Unblocked.{IsUnblocked, SnapshotIsUnblocked, TreeIsUnblocked, RankDecreases, PhaseEnds}
+use Rattle.gated_tree.specs.Phases.{after as tree_after, create_after, create_next, grow_after, grow_next, mark_next, move_after, move_next}
+use Rattle.gated_tree.specs.Phases.{next as tree_next, open_after, open_next, remove_after, remove_next, snapshot_after, snapshot_next}
+use Rattle.gate_world.specs.traces.TraceStates.{OpenReadIsValid, ReadIsValid, WordIsValid}
+use Rattle.gate_schedules.{proofs.{frames.ValidWords.events_may_be, operations.deadlocks.RankDecreases.falls_as}, specs.operations.Ranks.create_rank}
+use Rattle.gate_schedules.specs.operations.Ranks.{grow_rank, mark_rank, move_rank, open_rank, remove_rank, snapshot_rank, tree_rank}
+use Rattle.gate_schedules.specs.operations.Unblocked.{SnapshotIsUnblocked, TreeIsUnblocked}
 
 module _ (w : Words) where
   module _ (c : Create) where

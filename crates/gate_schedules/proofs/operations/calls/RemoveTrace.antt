@@ -1,6 +1,6 @@
 -- Traces of a remove.
-use Rattle.gate_schedules.proofs.Prelude.{Action, Config, List, Op, Phase, Traced, TreePhase, arith, common_steps, false, ℕ}
-use Rattle.gated_tree.specs.{Phases.at_remove, declared.changes.{Remove.Remove, RemoveStep.RemoveStep}}
+use Rattle.gate_schedules.proofs.Prelude.{Action, Config, List, Op, Phase, Remove, RemoveStep, Traced, TreePhase, arith, common_steps, false, ℕ}
+use Rattle.gated_tree.specs.Phases.{at_remove}
 use Rattle.gate_schedules.proofs.{operations.calls.Trace.CallAt, traces.TraceInvariant.{TraceLaws, traces_given_reads}}
 use Rattle.gate_schedules.specs.trees.Ends.{RemoveKnows, remove_added}
 use Rattle.gate_world.specs.Operations.{first_remove}

@@ -1,7 +1,5 @@
 -- What the trace of a call at the tree says at a phase, whichever call it is.
-use Rattle.gate_schedules.proofs.Prelude.{Action, Bool, List, Phase, Traced, TreePhase, false, ℕ, ◌≡◌, ◌≤◌}
-use Rattle.std.specs.Prelude.{length}
-use Rattle.cpu_words.specs.declared.events.Event.{Event}
+use Rattle.gate_schedules.proofs.Prelude.{Action, Bool, Event, List, Phase, Traced, TreePhase, false, length, ℕ, ◌≡◌, ◌≤◌}
 use Rattle.gate_world.specs.traces.Found.{SeenIn}
 
 -- A kind of call: its steps and what it is at each, as a phase of the tree; what it knows and has added there, what its trace says

@@ -1,18 +1,16 @@
 -- Of the calls at the tree only a snapshot waits, and only where another task has `umount`; each is refused only for its cause.
-use Rattle.gate_schedules.proofs.Prelude.{Config, Err, GateError, HookAnswer, IsGood, List, Next, Ok, Option, Phase, PhaseFits, Some, TreePhase}
-use Rattle.gate_schedules.proofs.Prelude.{World, after_of, ap, arith, common_steps, eqb_tells, found_at, held_of, if◌then◌else◌, inl, inr, map_next}
-use Rattle.gate_schedules.proofs.Prelude.{owns, shown, ℕ, ◌<◌, ◌==◌, ◌∷◌, ◌≡◌}
-use Rattle.std.specs.Prelude.{Bool, true, false, is_some}
-use Rattle.node_words.specs.{Nodes.{unpacked, node_after}, Phases.{clear_after, clears_at}, declared.marks.ClearMarks.ClearMarks}
-use Rattle.gated_tree.specs.Phases.{create_after, remove_after, grow_after, move_after, mark_after, open_after, snapshot_locked_out, at_snapshot}
-use Rattle.gated_tree.specs.{Phases.node_step, declared.changes.{Create.Create, CreateStep.CreateStep, MoveStep.MoveStep, MoveTo.MoveTo}}
-use Rattle.gated_tree.specs.declared.{changes.{Remove.Remove, RemoveStep.RemoveStep}, growth.{Grow.Grow, GrowStep.GrowStep}, marks.Mark.Mark}
-use Rattle.gated_tree.specs.declared.{marks.MarkStep.MarkStep, opens.{OpenFile.OpenFile, OpenStep.OpenStep}, snapshots.Snapshot.Snapshot}
-use Rattle.gated_tree.specs.declared.snapshots.SnapshotStep.{SnapshotStep}
-use Rattle.gate_world.specs.refusals.{Causes.{CallRefused, TreeRefused, IsTaken, TellsOf, tree_sees}, KeptCauses.{SnapshotCause, TreeCause}}
-use Rattle.gate_world.specs.refusals.Waits.{HasReason, HasCulprit}
-use Rattle.gate_schedules.proofs.{frames.Owners.umount_taken, operations.calls.NodeCauses.{is_of_node, call_refused, create_node, remove_node}}
-use Rattle.gate_schedules.proofs.operations.calls.NodeCauses.{grow_node, move_node, mark_node, open_node, clear_node}
+use Rattle.gate_schedules.proofs.Prelude.{ClearMarks, Config, Create, CreateStep, Err, GateError, Grow, GrowStep, HasReason, HookAnswer, IsGood, List}
+use Rattle.gate_schedules.proofs.Prelude.{Mark, MarkStep, MoveStep, MoveTo, Next, Ok, OpenFile, OpenStep, Option, Phase, PhaseFits, Remove}
+use Rattle.gate_schedules.proofs.Prelude.{RemoveStep, Snapshot, SnapshotStep, Some, TreePhase, World, after_of, ap, arith, clear_after, common_steps}
+use Rattle.gate_schedules.proofs.Prelude.{eqb_tells, found_at, held_of, if◌then◌else◌, inl, inr, is_some, map_next, mark_after, owns, shown, ℕ, ◌<◌}
+use Rattle.gate_schedules.proofs.Prelude.{◌==◌, ◌∷◌, ◌≡◌}
+use Rattle.std.specs.Prelude.{Bool, false, true}
+use Rattle.node_words.specs.{Nodes.{node_after, unpacked}, Phases.clears_at}
+use Rattle.gated_tree.specs.Phases.{at_snapshot, create_after, grow_after, move_after, node_step, open_after, remove_after, snapshot_locked_out}
+use Rattle.gate_world.specs.refusals.{Causes.{CallRefused, IsTaken, TellsOf, TreeRefused, tree_sees}, KeptCauses.{SnapshotCause, TreeCause}}
+use Rattle.gate_world.specs.refusals.Waits.{HasCulprit}
+use Rattle.gate_schedules.proofs.{frames.Owners.umount_taken, operations.calls.NodeCauses.{call_refused, clear_node, create_node, grow_node}}
+use Rattle.gate_schedules.proofs.operations.calls.NodeCauses.{is_of_node, mark_node, move_node, open_node, remove_node}
 
 -- what comes is no wait
 abbrev IsNoWait : {P : Type 0} → Next P → Type 0

@@ -1,6 +1,5 @@
 -- The words of the steps of the calls at the tree: each is one that is kept.
-use Rattle.gate_schedules.proofs.Prelude.{Config, HookAnswer, TreePhase, arith, tree_bounds, ℕ}
-use Rattle.cpu_words.specs.Names.{IsWord}
+use Rattle.gate_schedules.proofs.Prelude.{Config, HookAnswer, IsWord, TreePhase, arith, tree_bounds, ℕ}
 use Rattle.gated_tree.specs.{Calls.TreePhaseFits, Phases.next as tree_next}
 use Rattle.gate_schedules.proofs.frames.OperationLaws.{extents_touched}
 

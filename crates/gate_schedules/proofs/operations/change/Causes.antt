@@ -1,14 +1,11 @@
 -- The causes of a change's refusals, along an execution.
-use Rattle.gate_schedules.proofs.Prelude.{Bool, Config, Err, GateError, HookAnswer, IsGood, List, None, Phase, Reply, Result, Some, World, after_of}
-use Rattle.gate_schedules.proofs.Prelude.{ap, arith, cases_Bool, eqb_tells, found_at, inl, inr, nat_lt, phase_after, suc, true, words_after, ℕ, ◌+◌}
-use Rattle.gate_schedules.proofs.Prelude.{◌<◌, ◌∷◌, ◌≡◌}
-use Rattle.std.proofs.lemmas.Bool.{ltb-false}
-use Rattle.cpu_words.specs.{Touches.wrap_add, declared.sums.Sum.Sum}
-use Rattle.mount_counts.specs.{Phases.step_between, declared.phases.ChangeStep.ChangeStep}
-use Rattle.gate_world.specs.{Fits.SumFits, Operations.holds_none, Views.holds_level, refusals.Causes.{all_counted, words_read}}
-use Rattle.gate_world.specs.refusals.KeptCauses.{ChangeCause, CauseOf, AnswerCause}
-use Rattle.gate_schedules.proofs.{frames.Words.load_same, mounts.{Loads.fits_now, SumCauses.{counted_stays, sum_starts, sum_stays, sum_takes}}}
-use Rattle.gate_schedules.proofs.{mounts.SumCauses.sum_ends, operations.change.Loads.change}
+use Rattle.gate_schedules.proofs.Prelude.{Bool, CauseOf, ChangeStep, Config, Err, GateError, HookAnswer, IsGood, List, None, Phase, Reply, Result}
+use Rattle.gate_schedules.proofs.Prelude.{Some, Sum, World, after_of, ap, arith, cases_Bool, eqb_tells, found_at, holds_level, inl, inr, ltb-false}
+use Rattle.gate_schedules.proofs.Prelude.{nat_lt, phase_after, suc, true, words_after, wrap_add, ℕ, ◌+◌, ◌<◌, ◌∷◌, ◌≡◌}
+use Rattle.mount_counts.specs.Phases.{step_between}
+use Rattle.gate_world.specs.{Fits.SumFits, Operations.holds_none, refusals.{Causes.{all_counted, words_read}, KeptCauses.{AnswerCause, ChangeCause}}}
+use Rattle.gate_schedules.proofs.{frames.Words.load_same, mounts.{Loads.fits_now, SumCauses.{counted_stays, sum_ends, sum_starts, sum_stays}}}
+use Rattle.gate_schedules.proofs.{mounts.SumCauses.sum_takes, operations.change.Loads.change}
 
 -- a task whose view another transition leaves alone
 module _ (c : Config) (t : ℕ) (w next : World) (earlier : List World) where

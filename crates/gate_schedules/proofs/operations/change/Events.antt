@@ -1,9 +1,8 @@
 -- Each step of a change, as one law.
-use Rattle.gate_schedules.proofs.Prelude.{Bool, Config, HookAnswer, IsGood, IsWithin, Phase, Some, StepKeeps, World, ℕ, ◌<◌, ◌≡◌}
-use Rattle.mount_counts.specs.declared.phases.ChangeStep.{ChangeStep}
+use Rattle.gate_schedules.proofs.Prelude.{Bool, ChangeStep, Config, HookAnswer, IsGood, IsWithin, Phase, Some, StepKeeps, World, ℕ, ◌<◌, ◌≡◌}
 use Rattle.gate_world.specs.Rules.{GateStepKeeps}
-use Rattle.gate_schedules.proofs.{mounts.Parts.whole_step, operations.change.{Loads.{change, loads_flags, loads_superblock}, Steps.clears_read_only}}
-use Rattle.gate_schedules.proofs.operations.change.Steps.{sets_hold, sets_read_only, clears_hold, sums, releases, locks}
+use Rattle.gate_schedules.proofs.{mounts.Parts.whole_step, operations.change.{Loads.{change, loads_flags, loads_superblock}, Steps.clears_hold}}
+use Rattle.gate_schedules.proofs.operations.change.Steps.{clears_read_only, locks, releases, sets_hold, sets_read_only, sums}
 
 change_gates : (c : Config) → IsWithin c → (w : World) → IsGood c w → (t : ℕ) → t < c.tasks → (hook : HookAnswer) →
     (m : ℕ) (ro wait : Bool) (task processors : ℕ) (s : ChangeStep) →

@@ -1,11 +1,10 @@
 -- Loads of a change that has not set HOLD: of the present state, under the lock.
-use Rattle.gate_schedules.proofs.Prelude.{Bool, Config, HookAnswer, IsGood, MountPhase, Next, Option, Phase, Some, WordName, World, ap, cases_Bool}
-use Rattle.gate_schedules.proofs.Prelude.{false, inl, inr, refl, shown, sym, true, ℕ, ◌<◌, ◌==◌, ◌∙◌, ◌≡◌}
+use Rattle.gate_schedules.proofs.Prelude.{Bool, ChangeStep, Config, HookAnswer, IsGood, MountPhase, Next, Option, Phase, Some, WordName, World, ap}
+use Rattle.gate_schedules.proofs.Prelude.{cases_Bool, false, has_flag, holds_level, inl, inr, refl, role_of, shown, sym, true, ℕ, ◌<◌, ◌==◌, ◌∙◌, ◌≡◌}
 use Rattle.std.specs.Prelude.{not}
-use Rattle.mount_counts.specs.{Phases.{has_flag, step_between}, Roles.Out, declared.phases.ChangeStep.ChangeStep}
-use Rattle.gate_world.specs.{Fits.SumFits, Operations.holds_none, Roles.{change_role, role_if, change_owns}, Rules.{role_of, GateStepKeeps}}
-use Rattle.gate_world.specs.{Rules.GatesHold, Views.holds_level}
-use Rattle.gate_schedules.proofs.{frames.Frames.{role_on, role_off, role_none}, mounts.Loads.{as_owner, after_load, still_load, fits_now}}
+use Rattle.mount_counts.specs.{Phases.step_between, Roles.Out}
+use Rattle.gate_world.specs.{Fits.SumFits, Operations.holds_none, Roles.{change_owns, change_role, role_if}, Rules.{GateStepKeeps, GatesHold}}
+use Rattle.gate_schedules.proofs.{frames.Frames.{role_none, role_off, role_on}, mounts.Loads.{after_load, as_owner, fits_now, still_load}}
 
 abbrev pub change : ℕ → Bool → Bool → ℕ → ℕ → ChangeStep → MountPhase
 change m ro wait task processors step =

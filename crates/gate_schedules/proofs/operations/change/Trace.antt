@@ -1,12 +1,9 @@
 -- Traces of a change of a mount's read-only flag.
-use Rattle.gate_schedules.proofs.Prelude.{Action, Bool, Config, Err, GateError, HookAnswer, IsWithin, List, MountPhase, Op, Phase, Reply, Result}
-use Rattle.gate_schedules.proofs.Prelude.{Traced, [], arith, cases_Bool, eq-eqb, eqb_tells, false, inl, inr, nat_lt, refl, subst, suc, sym, true, ℕ}
-use Rattle.gate_schedules.proofs.Prelude.{◌+◌, ◌<◌, ◌∙◌, ◌∷◌, ◌≡◌, ◌≤◌}
-use Rattle.std.{proofs.{Common.add-one, lemmas.Bool.{ltb-true, ltb-false}}, specs.Prelude.length}
-use Rattle.cpu_words.specs.{Touches.wrap_add, declared.sums.Sum.Sum}
-use Rattle.mount_counts.specs.declared.phases.ChangeStep.{ChangeStep}
-use Rattle.gate_world.specs.{Views.with_hook, traces.Found.{found_read_only, counts_loaded, sum_loaded, IsEachCount, each_event, finds_taken}}
-use Rattle.gate_world.specs.traces.Traces.{actions_of, IsHonestAnswer, most_events, IsShort}
+use Rattle.gate_schedules.proofs.Prelude.{Action, Bool, ChangeStep, Config, Err, GateError, HookAnswer, IsWithin, List, MountPhase, Op, Phase, Reply}
+use Rattle.gate_schedules.proofs.Prelude.{Result, Sum, Traced, [], add-one, arith, cases_Bool, eq-eqb, eqb_tells, false, inl, inr, length, ltb-false}
+use Rattle.gate_schedules.proofs.Prelude.{ltb-true, nat_lt, refl, subst, suc, sym, true, with_hook, wrap_add, ℕ, ◌+◌, ◌<◌, ◌∙◌, ◌∷◌, ◌≡◌, ◌≤◌}
+use Rattle.gate_world.specs.traces.{Found.{IsEachCount, counts_loaded, each_event, finds_taken, found_read_only, sum_loaded}, Traces.IsHonestAnswer}
+use Rattle.gate_world.specs.traces.Traces.{IsShort, actions_of, most_events}
 use Rattle.gate_schedules.proofs.{operations.remount.Trace.sum_more, traces.TraceInvariant.{InvariantAfterStep, IsInductive, event_at}}
 
 abbrev pub change : Config → ℕ → ℕ → Bool → Bool → ChangeStep → Phase

@@ -1,9 +1,8 @@
 -- A change waits only where another task has `umount`, and is refused only for its cause.
-use Rattle.gate_schedules.proofs.Prelude.{Bool, Config, Err, GateError, HookAnswer, IsGood, List, Ok, Phase, World, after_of, ap, cases_Bool}
-use Rattle.gate_schedules.proofs.Prelude.{eqb_tells, false, found_at, inl, inr, owns, true, ℕ, ◌<◌, ◌∷◌, ◌≡◌}
-use Rattle.mount_counts.specs.{Phases.has_flag, declared.phases.ChangeStep.ChangeStep}
-use Rattle.gate_world.specs.refusals.{Causes.IsTaken, KeptCauses.ChangeCause, Waits.HasReason}
-use Rattle.gate_schedules.proofs.{frames.Owners.umount_taken, operations.change.Loads.{change, IsAt}}
+use Rattle.gate_schedules.proofs.Prelude.{Bool, ChangeStep, Config, Err, GateError, HasReason, HookAnswer, IsGood, List, Ok, Phase, World, after_of}
+use Rattle.gate_schedules.proofs.Prelude.{ap, cases_Bool, eqb_tells, false, found_at, has_flag, inl, inr, owns, true, ℕ, ◌<◌, ◌∷◌, ◌≡◌}
+use Rattle.gate_world.specs.refusals.{Causes.IsTaken, KeptCauses.ChangeCause}
+use Rattle.gate_schedules.proofs.{frames.Owners.umount_taken, operations.change.Loads.{IsAt, change}}
 
 module _ (c : Config) (w : World) (earlier : List World) (good : IsGood c w) (t : ℕ) (lt : t < c.tasks)
     (m : ℕ) (ro : Bool) (task processors : ℕ) (hook : HookAnswer) where

@@ -1,9 +1,8 @@
 -- The causes and the waits of a close: those of a down-read of level 3, where it is a last one.
-use Rattle.gate_schedules.proofs.Prelude.{Config, DownRead, GateError, List, Next, Option, Phase, Result, World, arith, map_next, phase_after, ℕ, ◌∷◌}
-use Rattle.gate_schedules.proofs.Prelude.{◌≡◌}
-use Rattle.node_words.specs.{Phases.after_look, declared.nodes.NodeWord.NodeWord}
-use Rattle.composite_ops.specs.{declared.file_closes.phases.{ClosePhase.ClosePhase, Closing.Closing}, file_closes.Phases.{then_frees, closed_from}}
-use Rattle.gate_world.specs.refusals.KeptCauses.{CauseOf}
+use Rattle.gate_schedules.proofs.Prelude.{CauseOf, ClosePhase, Config, DownRead, GateError, List, Next, NodeWord, Option, Phase, Result, World, arith}
+use Rattle.gate_schedules.proofs.Prelude.{map_next, phase_after, ℕ, ◌∷◌, ◌≡◌}
+use Rattle.node_words.specs.Phases.{after_look}
+use Rattle.composite_ops.specs.{declared.file_closes.phases.Closing.Closing, file_closes.Phases.{closed_from, then_frees}}
 use Rattle.gate_schedules.proofs.operations.readers.Causes.{AsksNext, HasNextCause}
 
 module _ (c : Config) (t : ℕ) (w next : World) (earlier : List World) (file p : ℕ) (node : NodeWord) where

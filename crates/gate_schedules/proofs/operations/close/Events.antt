@@ -1,21 +1,19 @@
 -- A close at the tree: each of its steps there is one of the tree's, and nobody is in the way of a last close inside level 3.
-use Rattle.gate_schedules.proofs.Prelude.{Bool, Config, Err, GateError, IsGood, IsWithin, List, None, Ok, Option, Phase, Result, Some, Stages, Traced}
-use Rattle.gate_schedules.proofs.Prelude.{Tree, WordName, Words, World, ap, arith, cases_Bool, eqb_tells, false, if◌then◌else◌, inl, inr, refl, subst}
-use Rattle.gate_schedules.proofs.Prelude.{sym, total, tree_bounds, tree_role_of, true, update, ℕ, ◌<◌, ◌==◌, ◌∙◌, ◌≡◌, ◌≤◌}
-use Rattle.std.{proofs.lemmas.Bool.true≢false, specs.Prelude.◌&&◌}
-use Rattle.finite_sums.proofs.Totals.{total_at, total_updated, update_off}
-use Rattle.access_model.specs.States.{one_if, is_removed, most_tasks, openers}
-use Rattle.gate_schedules.proofs.{frames.Openers.most_tasks_is, trees.{Counts.finds_last, Each.each_event, Laws.role_says, Steps.leaves_word}}
-use Rattle.gate_schedules.{proofs.trees.{Steps.{as_event, stays_at}, worlds.{Holders.level_thawed, Trees.nobody_reads}}, specs.trees.Events.turned}
-use Rattle.gate_schedules.specs.trees.{Events.{ClosesFile, FreesFile, DropsBlocks, Uncounts}, Steps.{tree_in, EventKeeps}}
-use Rattle.node_words.{proofs.Words.{word_opens, word_shows}, specs.{Nodes.{word_of, any_file_in, opens_in, node_shown, info_of}, Phases.after_look}}
-use Rattle.node_words.specs.declared.nodes.NodeWord.{NodeWord}
-use Rattle.gated_tree.specs.{Calls.role_after, Roles.{Role, Out, Freeing, Dropped, Uncounting, frees, removal, Bounds, TreeState, AreWithin}}
-use Rattle.gated_tree.specs.Roles.{TreeHolds, RoleHolds, NobodyReads, NobodyElseFrees, IsLastOpen}
-use Rattle.composite_ops.specs.{declared.file_closes.phases.{ClosePhase.ClosePhase, Closing.Closing}, file_closes.Phases.{next, after, enters}}
-use Rattle.composite_ops.specs.file_closes.Phases.{closed_from}
-use Rattle.gate_world.specs.{Fits.{MayLower, HasFile, file_of}, Roles.close_tree_role, Rules.Files, Trees.{tree_of, tree_roles, is_bare_at}}
-use Rattle.gate_world.specs.Views.{has_open, holds_level}
+use Rattle.gate_schedules.proofs.Prelude.{AreWithin, Bool, Bounds, ClosePhase, Config, Err, Files, GateError, HasFile, IsGood, IsWithin, List}
+use Rattle.gate_schedules.proofs.Prelude.{NodeWord, None, Ok, Option, Out, Phase, Result, Role, RoleHolds, Some, Stages, Traced, Tree, TreeHolds}
+use Rattle.gate_schedules.proofs.Prelude.{TreeState, WordName, Words, World, ap, arith, cases_Bool, eqb_tells, false, file_of, has_open, holds_level}
+use Rattle.gate_schedules.proofs.Prelude.{if◌then◌else◌, inl, inr, is_bare_at, is_removed, node_shown, one_if, openers, opens_in, refl, removal}
+use Rattle.gate_schedules.proofs.Prelude.{role_after, subst, sym, total, total_at, total_updated, tree_bounds, tree_of, tree_role_of, tree_roles}
+use Rattle.gate_schedules.proofs.Prelude.{true, turned, update, update_off, word_of, ℕ, ◌&&◌, ◌<◌, ◌==◌, ◌∙◌, ◌≡◌, ◌≤◌}
+use Rattle.std.proofs.lemmas.Bool.{true≢false}
+use Rattle.access_model.specs.States.{most_tasks}
+use Rattle.gate_schedules.proofs.{frames.Openers.most_tasks_is, trees.{Counts.finds_last, Each.each_event, Laws.role_says, Steps.as_event}}
+use Rattle.gate_schedules.proofs.trees.{Steps.{leaves_word, stays_at}, worlds.{Holders.level_thawed, Trees.nobody_reads}}
+use Rattle.gate_schedules.specs.trees.{Events.{ClosesFile, DropsBlocks, FreesFile, Uncounts}, Steps.{EventKeeps, tree_in}}
+use Rattle.node_words.{proofs.Words.{word_opens, word_shows}, specs.{Nodes.{any_file_in, info_of}, Phases.after_look}}
+use Rattle.gated_tree.specs.Roles.{Dropped, Freeing, IsLastOpen, NobodyElseFrees, NobodyReads, Uncounting, frees}
+use Rattle.composite_ops.specs.{declared.file_closes.phases.Closing.Closing, file_closes.Phases.{after, closed_from, enters, next}}
+use Rattle.gate_world.specs.{Fits.MayLower, Roles.close_tree_role}
 
 -- each step of a close on a word of the tree, where its task holds what it may
 module _ (c : Bounds) (within : AreWithin c) (sealed bare : ℕ) (w : Words) (at : ℕ → Role) (good : TreeHolds c (tree_in sealed bare w at))

@@ -1,11 +1,8 @@
 -- What fits after a step of a close.
-use Rattle.gate_schedules.proofs.Prelude.{Config, DownRead, Fits, Holdings, HookAnswer, IsWithin, Phase, arith, common_steps, held_after, map_next}
-use Rattle.gate_schedules.proofs.Prelude.{phase_after, ℕ, ◌<◌, ◌≤◌}
-use Rattle.cpu_words.specs.Names.{IsWord}
-use Rattle.node_words.specs.declared.nodes.NodeWord.{NodeWord}
-use Rattle.percpu_rwsem.specs.Readers.{down_read_after}
-use Rattle.composite_ops.specs.{declared.file_closes.phases.ClosePhase.ClosePhase, file_closes.Phases.{next, after, then_frees}}
-use Rattle.gate_world.specs.{Fits.{CloseFits, ActionFits}, Holdings.Agree}
+use Rattle.gate_schedules.proofs.Prelude.{ActionFits, ClosePhase, Config, DownRead, Fits, Holdings, HookAnswer, IsWithin, IsWord, NodeWord, Phase}
+use Rattle.gate_schedules.proofs.Prelude.{arith, common_steps, down_read_after, held_after, map_next, phase_after, ℕ, ◌<◌, ◌≤◌}
+use Rattle.composite_ops.specs.file_closes.Phases.{after, next, then_frees}
+use Rattle.gate_world.specs.{Fits.CloseFits, Holdings.Agree}
 use Rattle.gate_schedules.proofs.frames.OperationLaws.{extents_touched}
 
 pub enters_fits : (c : Config) (t : ℕ) (held : Holdings) (file : ℕ) (node : NodeWord) (r : DownRead) (found : ℕ) →

@@ -1,19 +1,17 @@
 -- All that is proved of a close, from what is proved of its steps at the tree and at level 3.
-use Rattle.gate_schedules.proofs.Prelude.{Config, DownRead, HookAnswer, IsGood, IsWithin, List, Next, Ok, Phase, Reply, Some, StepKeeps, SyncStep}
-use Rattle.gate_schedules.proofs.Prelude.{World, after_step, ap, arith, cases_Bool, common_steps, found_at, held_of, inl, inr, level_in, map_next}
-use Rattle.gate_schedules.proofs.Prelude.{phase_after, refl, sync_role_of, ℕ, ◌<◌, ◌==◌, ◌∙◌, ◌∷◌, ◌≡◌, ◌≤◌}
-use Rattle.node_words.specs.Nodes.{any_file_in, word_of}
-use Rattle.percpu_rwsem.specs.Readers.{down_read_after}
-use Rattle.freeze_laws.specs.levels.Roles.{closed}
-use Rattle.composite_ops.specs.{declared.file_closes.phases.ClosePhase.ClosePhase, file_closes.Phases.{after, then_frees, leaves_on}}
-use Rattle.gate_world.specs.{Fits.CloseFits, SameRoles.{rephased, SameRolesOffTree}, Worlds.value_at, refusals.Causes.asks_level}
-use Rattle.gate_world.specs.{refusals.{KeptCauses.CauseOf, Waits.HasReason}, traces.TraceStates.CloseReadIsValid}
+use Rattle.gate_schedules.proofs.Prelude.{CauseOf, ClosePhase, Config, DownRead, HasReason, HookAnswer, IsGood, IsWithin, List, Next, Ok, Phase}
+use Rattle.gate_schedules.proofs.Prelude.{Reply, Some, StepKeeps, SyncStep, World, after_step, ap, arith, cases_Bool, closed, common_steps}
+use Rattle.gate_schedules.proofs.Prelude.{down_read_after, found_at, held_of, inl, inr, level_in, map_next, phase_after, refl, sync_role_of, value_at}
+use Rattle.gate_schedules.proofs.Prelude.{word_of, ℕ, ◌<◌, ◌==◌, ◌∙◌, ◌∷◌, ◌≡◌, ◌≤◌}
+use Rattle.node_words.specs.Nodes.{any_file_in}
+use Rattle.composite_ops.specs.file_closes.Phases.{after, leaves_on, then_frees}
+use Rattle.gate_world.specs.{Fits.CloseFits, SameRoles.{SameRolesOffTree, rephased}, refusals.Causes.asks_level, traces.TraceStates.CloseReadIsValid}
 use Rattle.gate_schedules.proofs.frames.{OperationLaws.PhaseLaws, Snapshots.completes_none, ValidWords.events_may_be}
-use Rattle.gate_schedules.proofs.operations.close.{Causes.{enters_asks, enters_cause, looked_cause}, Fits.{close_goes, close_there, close_acts}}
-use Rattle.gate_schedules.proofs.operations.close.{Fits.close_agrees, LevelEvents.{close_fits_now, enters_level, leaves_level, beside_reads}}
-use Rattle.gate_schedules.proofs.operations.close.{LevelEvents.{beside_ends, beside_runs, beside_enters}, Parts.{loads_file, lowers_count}}
-use Rattle.gate_schedules.proofs.operations.{close.Parts.{frees_node, refunds_blocks, uncounts, close_run}, readers.Causes.read_own}
-use Rattle.gate_schedules.proofs.operations.readers.{Causes.read_not_closed, Laws.{read_phase, end_phase}}
+use Rattle.gate_schedules.proofs.operations.close.{Causes.{enters_asks, enters_cause, looked_cause}, Fits.{close_acts, close_agrees, close_goes}}
+use Rattle.gate_schedules.proofs.operations.close.{Fits.close_there, LevelEvents.{beside_ends, beside_enters, beside_reads, beside_runs}}
+use Rattle.gate_schedules.proofs.operations.close.{LevelEvents.{close_fits_now, enters_level, leaves_level}, Parts.{close_run, frees_node}}
+use Rattle.gate_schedules.proofs.operations.{close.Parts.{loads_file, lowers_count, refunds_blocks, uncounts}, readers.Causes.read_not_closed}
+use Rattle.gate_schedules.proofs.operations.readers.{Causes.read_own, Laws.{end_phase, read_phase}}
 
 -- each step keeps the invariant, and moves the shown state by its action or not at all
 pub close_keeps : (c : Config) → IsWithin c → (w : World) → IsGood c w → (t : ℕ) → t < c.tasks → (hook : HookAnswer) → (x : ClosePhase) →

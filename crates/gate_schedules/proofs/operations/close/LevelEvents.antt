@@ -1,20 +1,18 @@
 -- The steps of a close at level 3: the law of each is that of the level's own step, but for the tree and the open files, which the step
 -- leaves alone.
-use Rattle.gate_schedules.proofs.Prelude.{Action, Bool, Config, DownRead, Fits, Fitting, Holdings, Holds, HookAnswer, IsGood, IsWithin, List, Next}
-use Rattle.gate_schedules.proofs.Prelude.{Ok, Option, Phase, Reply, Some, StepKeeps, SyncStep, Traced, Tree, View, Words, World, after_of, ap, arith}
-use Rattle.gate_schedules.proofs.Prelude.{each_updated, found_at, held_after, held_of, inl, inr, level_in, map_next, phase_after, read, refl, shown}
-use Rattle.gate_schedules.proofs.Prelude.{subst, sym, tree_bounds, tree_role_of, true, update, update_at, words_after, ℕ, ◌<◌, ◌∙◌, ◌≡◌}
-use Rattle.access_model.specs.States.{openers}
-use Rattle.composite_ops.specs.{declared.file_closes.phases.ClosePhase.ClosePhase, file_closes.Phases.{leaves_on, then_frees}}
-use Rattle.gate_schedules.proofs.frames.{Accesses.holdings_of_after, Frames.{left_alone, opens_left}, SameRolesOffTree.{roles_off_tree, made}}
-use Rattle.gate_schedules.proofs.frames.SameRolesOffTree.{made_keeps_off_tree, made_runs_off_tree, rephased_off_tree}
-use Rattle.gate_schedules.proofs.{operations.{close.Fits.enters_fits, readers.Laws.{end_phase, read_phase}}, trees.Counts.leaves}
-use Rattle.gate_schedules.proofs.trees.worlds.Trees.{tree_holds}
-use Rattle.gate_world.specs.{Fits.{CloseFits, HasFile, file_of}, Rules.{Files, Moves, SameWords}, SameRoles.{SameRolesOffTree, at_phase, rephased}}
-use Rattle.gate_world.specs.{Trees.{tree_of, tree_roles}, Views.{has_open, view_with}, Work.next_of}
-use Rattle.node_words.specs.{Nodes.opens_in, declared.nodes.NodeWord.NodeWord}
-use Rattle.gated_tree.specs.Roles.{Freeing, Out as OffTree, TreeHolds, charge, child_charge, removal}
-use Rattle.percpu_rwsem.specs.{Readers.{at_down_read, down_read_after}, declared.readers.DownReadStep.DownReadStep}
+use Rattle.gate_schedules.proofs.Prelude.{Action, Bool, ClosePhase, Config, DownRead, DownReadStep, Files, Fits, Fitting, HasFile, Holdings, Holds}
+use Rattle.gate_schedules.proofs.Prelude.{HookAnswer, IsGood, IsWithin, List, Moves, Next, NodeWord, Ok, Option, Phase, Reply, Some, StepKeeps}
+use Rattle.gate_schedules.proofs.Prelude.{SyncStep, Traced, Tree, TreeHolds, View, Words, World, after_of, ap, arith, down_read_after, each_updated}
+use Rattle.gate_schedules.proofs.Prelude.{file_of, found_at, has_open, held_after, held_of, inl, inr, level_in, map_next, next_of, openers, opens_in}
+use Rattle.gate_schedules.proofs.Prelude.{phase_after, read, refl, removal, shown, subst, sym, tree_bounds, tree_of, tree_role_of, tree_roles, true}
+use Rattle.gate_schedules.proofs.Prelude.{update, update_at, view_with, words_after, ℕ, ◌<◌, ◌∙◌, ◌≡◌}
+use Rattle.composite_ops.specs.file_closes.Phases.{leaves_on, then_frees}
+use Rattle.gate_schedules.proofs.frames.{Accesses.holdings_of_after, Frames.{left_alone, opens_left}, SameRolesOffTree.{made, made_keeps_off_tree}}
+use Rattle.gate_schedules.proofs.{frames.SameRolesOffTree.{made_runs_off_tree, rephased_off_tree, roles_off_tree}, operations.close.Fits.enters_fits}
+use Rattle.gate_schedules.proofs.{operations.readers.Laws.{end_phase, read_phase}, trees.{Counts.leaves, worlds.Trees.tree_holds}}
+use Rattle.gate_world.specs.{Fits.CloseFits, Rules.SameWords, SameRoles.{SameRolesOffTree, at_phase, rephased}}
+use Rattle.gated_tree.specs.Roles.{Freeing, Out as OffTree, charge, child_charge}
+use Rattle.percpu_rwsem.specs.Readers.{at_down_read}
 use Rattle.std.proofs.Common.{◌⊎◌}
 
 -- what comes after a step at level 3 is beside what comes in its own operation

@@ -1,6 +1,5 @@
 -- The closing of a level leaves the words that others are blocked by, and ends only by passing the level.
-use Rattle.gate_schedules.proofs.Prelude.{Action, Next, Option, Some, arith, ℕ, ◌≡◌}
-use Rattle.percpu_rwsem.specs.{Writers.down_write_after, declared.writers.{DownWrite.DownWrite, DownWriteStep.DownWriteStep}}
+use Rattle.gate_schedules.proofs.Prelude.{Action, DownWrite, DownWriteStep, Next, Option, Some, arith, down_write_after, ℕ, ◌≡◌}
 
 -- what comes after a step of the closing of a level is at that level, or it has passed the level
 abbrev pub StaysAtLevel : DownWrite → Next DownWrite → Option Action → Type 0

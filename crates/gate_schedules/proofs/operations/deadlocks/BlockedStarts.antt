@@ -1,8 +1,8 @@
 -- A start or a last close that is blocked stays so by its own steps, which leave the words that others are blocked by.
-use Rattle.gate_schedules.proofs.Prelude.{DownRead, Next, Words, arith, false, found_by, read, true, ◌≡◌}
-use Rattle.access_model.specs.declared.replies.Next.TheVariants.{Go, Wait, Done}
-use Rattle.percpu_rwsem.specs.{Readers.{down_read_next, down_read_after, step_found}, SyncWords.unpack, declared.readers.DownReadStep.DownReadStep}
-use Rattle.percpu_rwsem.specs.declared.readers.DownReadStep.TheVariants.{CountsUpSlow}
+use Rattle.gate_schedules.proofs.Prelude.{Done, DownRead, DownReadStep, Go, Next, Words, arith, down_read_after, down_read_next, false, found_by}
+use Rattle.gate_schedules.proofs.Prelude.{read, true, unpack, ◌≡◌}
+use Rattle.access_model.specs.declared.replies.Next.TheVariants.{Wait}
+use Rattle.percpu_rwsem.specs.{Readers.step_found, declared.readers.DownReadStep.TheVariants.CountsUpSlow}
 use Rattle.gate_schedules.specs.operations.Progress.{is_admitted}
 
 -- what comes after a step of a start that is blocked is that start, which waits and isn't admitted

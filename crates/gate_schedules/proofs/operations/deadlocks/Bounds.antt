@@ -1,12 +1,10 @@
 -- The rank of a phase that fits is small.
-use Rattle.gate_schedules.proofs.Prelude.{Bool, Config, Holdings, IsWithin, Phase, PhaseFits, TreePhase, Words, ap, arith, false, inl, inr, refl, suc}
-use Rattle.gate_schedules.proofs.Prelude.{sym, true, zero, ℕ, ◌+◌, ◌<◌, ◌∙◌, ◌≡◌, ◌≤◌}
-use Rattle.std.{proofs.{Common.◌*◌, Math.Nat.{suc-mul, zero-mul, le-max_left, le-max_right}, lemmas.Bool.cases_lt}, specs.Prelude.◌-◌}
-use Rattle.gated_tree.specs.declared.snapshots.SnapshotStep.{SnapshotStep}
-use Rattle.mount_counts.specs.declared.remounts.RemountStep.{RemountStep}
+use Rattle.gate_schedules.proofs.Prelude.{Bool, Config, Holdings, IsWithin, Phase, PhaseFits, RemountStep, SnapshotStep, TreePhase, Words, ap, arith}
+use Rattle.gate_schedules.proofs.Prelude.{cases_lt, false, inl, inr, rank, refl, suc, sym, true, zero, ℕ, ◌+◌, ◌<◌, ◌∙◌, ◌≡◌, ◌≤◌}
+use Rattle.std.{proofs.{Common.◌*◌, Math.Nat.{le-max_left, le-max_right, suc-mul, zero-mul}}, specs.Prelude.◌-◌}
 use Rattle.gate_world.specs.Remounts.{RemountFits}
-use Rattle.gate_schedules.{proofs.operations.remount.Progress.{loop_step, size_small}, specs.operations.Ranks.{rank, loop_rank, remount_rank}}
-use Rattle.gate_schedules.specs.operations.Ranks.{snapshot_rank, most_in_loop, most_beside, most_alone, most_settled}
+use Rattle.gate_schedules.{proofs.operations.remount.Progress.{loop_step, size_small}, specs.operations.Ranks.{loop_rank, most_alone, most_beside}}
+use Rattle.gate_schedules.specs.operations.Ranks.{most_in_loop, most_settled, remount_rank, snapshot_rank}
 
 loop_mono : (p a b : ℕ) → a ≤ b → loop_rank p a ≤ loop_rank p b
 loop_mono p a zero le = let e : a ≡ 0 = omega (arith, le) in omega (arith, ap (loop_rank p) e)

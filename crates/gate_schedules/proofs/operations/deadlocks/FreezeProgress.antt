@@ -1,25 +1,23 @@
 -- A freeze that no idle task keeps, and a callback, have a reply near, whoever is inside a section.
-use Rattle.gate_schedules.proofs.Prelude.{Bool, Config, FreezeStep, HookAnswer, IsGood, IsWithin, MountPhase, None, Option, Owner, Phase, PhaseFits}
-use Rattle.gate_schedules.proofs.Prelude.{Some, Stages, TreePhase, View, Words, World, after_step, ap, arith, cases_Bool, each_updated, eqb_tells}
-use Rattle.gate_schedules.proofs.Prelude.{false, held_of, inl, inr, inside, nat_lt, owns, refl, stage_role_of, subst, suc, sym, total, true}
-use Rattle.gate_schedules.proofs.Prelude.{true≢false, update, zero, ℕ, ◌<◌, ◌∙◌, ◌≡◌, ◌≤◌}
-use Rattle.gate_world.specs.{Fits.{FreezeFits, ReadStepFits}, Operations.holds_none_from, Roles.{freeze_owns, freeze_stage_role, place_of}}
-use Rattle.gate_world.specs.{Rules.{Sections, stage_roles}, Views.{holds_level, view_after}, Worlds.value_at}
+use Rattle.gate_schedules.proofs.Prelude.{Bool, Callback, ClosePhase, Config, DownReadStep, EventsKeepRule, Freeze, FreezeFits, FreezeStep, Freezing}
+use Rattle.gate_schedules.proofs.Prelude.{HookAnswer, IsGood, IsWithin, KnowsStage, MountPhase, None, Option, Owner, Phase, PhaseEnds, PhaseFits}
+use Rattle.gate_schedules.proofs.Prelude.{Sections, Some, Stages, TreePhase, View, Words, World, WritePhase, after_step, ap, arith, cases_Bool}
+use Rattle.gate_schedules.proofs.Prelude.{cases_lt, each_updated, eqb_tells, false, freeze_stage_role, held_of, holds_level, inl, inr, inside}
+use Rattle.gate_schedules.proofs.Prelude.{is_some, nat_lt, owns, refl, stage_role_of, stage_roles, subst, suc, sym, total, total_at, total_updated}
+use Rattle.gate_schedules.proofs.Prelude.{true, true≢false, update, update_off, value_at, view_after, zero, ℕ, ◌<◌, ◌∙◌, ◌≡◌, ◌≤◌, ◌⊎◌}
+use Rattle.gate_world.specs.{Fits.ReadStepFits, Operations.holds_none_from, Roles.{freeze_owns, place_of}}
 use Rattle.gate_schedules.proofs.{frames.ByPhase.freeze_owner, operations.deadlocks.Bounds.{alone_settled, beside_settled}}
 use Rattle.gate_schedules.proofs.operations.deadlocks.{RankDecreases.no_further, SectionExit.{StaysBeside, all_leave, all_within, inside_le}}
 use Rattle.gate_schedules.proofs.operations.deadlocks.{SectionExit.phase_beside, WhoCanStep.{HasOwner, OwnerFreezes, beside_goes, fits_at, free_goes}}
 use Rattle.gate_schedules.proofs.operations.deadlocks.WhoCanStep.{has_owner, hold_clear, holds_below, holds_not_none, nothing_counted, open_above}
-use Rattle.gate_schedules.{proofs.operations.deadlocks.WhoCanStep.owner_free, specs.operations.Progress.{EventsKeepRule, IsHeldIdle, HeldLevelAhead}}
-use Rattle.gate_schedules.specs.operations.{Progress.{ReplyWithin, next_level}, Ranks.{most_alone, most_beside, most_settled}}
-use Rattle.gate_schedules.specs.operations.Unblocked.{FreezeIsUnblocked, FreezeLocksFree, NobodyInside, PhaseEnds}
+use Rattle.gate_schedules.{proofs.operations.deadlocks.WhoCanStep.owner_free, specs.operations.Progress.{HeldLevelAhead, IsHeldIdle, ReplyWithin}}
+use Rattle.gate_schedules.specs.operations.{Progress.next_level, Ranks.{most_alone, most_beside, most_settled}, Unblocked.FreezeIsUnblocked}
+use Rattle.gate_schedules.specs.operations.Unblocked.{FreezeLocksFree, NobodyInside}
 use Rattle.access_model.specs.declared.actions.Holder.{Holder}
-use Rattle.composite_ops.specs.declared.{file_closes.phases.ClosePhase.ClosePhase, write_access.phases.WritePhase.WritePhase}
-use Rattle.finite_sums.proofs.Totals.{total_at, total_bound, total_updated, update_off}
-use Rattle.freeze_levels.specs.declared.freezes.Freeze.{Freeze}
-use Rattle.freeze_laws.{proofs.stages.Facts.other_zero, specs.{levels.Operations.down_read_inside, stages.Roles.{Before, Freezing, HasPassed}}}
-use Rattle.freeze_laws.specs.stages.Roles.{KnowsStage, Place, freezes, owns as stage_owns, under_way}
-use Rattle.percpu_rwsem.specs.declared.{callbacks.Callback.Callback, readers.DownReadStep.DownReadStep}
-use Rattle.std.{proofs.lemmas.Bool.cases_lt, specs.Prelude.{is_some, ◌*◌, ◌+◌, ◌-◌, ◌⊎◌}}
+use Rattle.finite_sums.proofs.Totals.{total_bound}
+use Rattle.freeze_laws.{proofs.stages.Facts.other_zero, specs.{levels.Operations.down_read_inside, stages.Roles.{Before, HasPassed, Place, freezes}}}
+use Rattle.freeze_laws.specs.stages.Roles.{owns as stage_owns, under_way}
+use Rattle.std.specs.Prelude.{◌*◌, ◌+◌, ◌-◌}
 
 -- one of the two for each number below a bound: the first for some, or the second for all
 pub search_below : (n : ℕ) (P Q : ℕ → Type 0) → ((i : ℕ) → i < n → P i ⊎ Q i) → ((i : ℕ) × (i < n) × P i) ⊎ ((i : ℕ) → i < n → Q i)

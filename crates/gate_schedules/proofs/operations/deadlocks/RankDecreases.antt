@@ -1,11 +1,10 @@
 -- A phase whose way is free runs out: each of its steps lowers its rank and leaves its way free, so alone it comes to its reply.
-use Rattle.gate_schedules.proofs.Prelude.{Config, HookAnswer, IsGood, IsWithin, Next, Phase, Some, Touch, View, WordName, Words, World, [], after_of}
-use Rattle.gate_schedules.proofs.Prelude.{after_step, ap, arith, found_at, inl, inr, left, map_next, phase_after, put, read, suc, update_at, zero, ℕ}
-use Rattle.gate_schedules.proofs.Prelude.{◌<◌, ◌≡◌, ◌≤◌}
-use Rattle.std.{proofs.lemmas.Bool.lt-ltb, specs.Prelude.◌⊎◌}
-use Rattle.gate_world.specs.{Views.view_after_with_others, Worlds.{step_of, value_at, happens}, declared.entries.Entry.TheVariants.Steps}
-use Rattle.gate_schedules.specs.operations.{Progress.{EventsKeepRule, HasReply, ReplyWithin}, Ranks.rank, Unblocked.{IsUnblocked, RankDecreases}}
-use Rattle.gate_schedules.specs.operations.Unblocked.{PhaseEnds}
+use Rattle.gate_schedules.proofs.Prelude.{Config, EventsKeepRule, HookAnswer, IsGood, IsUnblocked, IsWithin, Next, Phase, PhaseEnds, RankDecreases}
+use Rattle.gate_schedules.proofs.Prelude.{Some, Touch, View, WordName, Words, World, [], after_of, after_step, ap, arith, found_at, happens, inl, inr}
+use Rattle.gate_schedules.proofs.Prelude.{left, lt-ltb, map_next, phase_after, put, rank, read, step_of, suc, update_at, value_at, zero, ℕ, ◌<◌, ◌≡◌}
+use Rattle.gate_schedules.proofs.Prelude.{◌≤◌, ◌⊎◌}
+use Rattle.gate_world.specs.{Views.view_after_with_others, declared.entries.Entry.TheVariants.Steps}
+use Rattle.gate_schedules.specs.operations.Progress.{HasReply, ReplyWithin}
 
 -- the words after a step of this word and touch
 abbrev pub after_event : Words → WordName × Touch → Words

@@ -1,22 +1,18 @@
 -- Who can move: a task whose way is free, who has HOLD set at a mount, and an owner of `umount` that is no freeze; and what the invariant says of who
 -- holds a level.
-use Rattle.gate_schedules.proofs.Prelude.{AtLevel, AtMount, Bool, Config, Fits, Fitting, IsGood, IsWithin, None, Option, Owner, Phase, PhaseFits}
-use Rattle.gate_schedules.proofs.Prelude.{Some, SyncAt, Words, World, ap, arith, cases_Bool, common_steps, false, held_of, inl, inr, inside}
-use Rattle.gate_schedules.proofs.Prelude.{is_frozen_whole, nat_lt, owns, refl, subst, suc, sym, sync_role_of, total, true, true≢false, ℕ, ◌<◌, ◌∙◌}
-use Rattle.gate_schedules.proofs.Prelude.{◌≡◌, ◌≤◌}
-use Rattle.gate_world.specs.{Levels.{at_level, level_role_of}, Operations.{holds_none, holds_none_from}, Rules.{LevelHoldsIn, SyncHoldsIn, role_of}}
-use Rattle.gate_world.specs.Views.{holds_level}
-use Rattle.std.{proofs.lemmas.Bool.{and_parts, ltb-true, not-true, or_cases}, specs.Prelude.{not, ◌-◌, ◌||◌, ◌⊎◌}}
+use Rattle.gate_schedules.proofs.Prelude.{AtLevel, AtMount, Bool, Config, EventsKeepRule, Fits, Fitting, Freeze, IsGood, IsUnblocked, IsWithin, None}
+use Rattle.gate_schedules.proofs.Prelude.{Option, Owner, Phase, PhaseEnds, PhaseFits, Some, SyncAt, Words, World, ap, arith, at_level, cases_Bool}
+use Rattle.gate_schedules.proofs.Prelude.{closed, common_steps, false, has_flag, has_hold, held_of, holds_level, inl, inr, inside, is_frozen_whole}
+use Rattle.gate_schedules.proofs.Prelude.{level_role_of, ltb-true, nat_lt, owns, refl, role_of, subst, suc, sym, sync_role_of, total, total_at}
+use Rattle.gate_schedules.proofs.Prelude.{total_none, true, true≢false, ℕ, ◌<◌, ◌||◌, ◌∙◌, ◌≡◌, ◌≤◌, ◌⊎◌}
+use Rattle.gate_world.specs.{Operations.{holds_none, holds_none_from}, Rules.{LevelHoldsIn, SyncHoldsIn}}
+use Rattle.std.{proofs.lemmas.Bool.{and_parts, not-true, or_cases}, specs.Prelude.{not, ◌-◌}}
 use Rattle.cpu_words.{proofs.gate_counts.Events.words_sum, specs.gate_counts.{Gates.{BarringHolds, admitted, below, counted, unread}, Levels.Passed}}
 use Rattle.cpu_words.specs.gate_counts.Levels.{barring_of, level_as_gate, processor_of}
-use Rattle.finite_sums.proofs.Totals.{total_at, total_none}
-use Rattle.freeze_levels.specs.declared.freezes.Freeze.{Freeze}
 use Rattle.gate_schedules.proofs.{frames.Owners.{hold_owns, owns_le, who_holds}, levels.Counts.held_bit, operations.deadlocks.Bounds.beside_small}
 use Rattle.gate_schedules.proofs.operations.deadlocks.{Bounds.{is_beside, rank_small}, RankDecreases.runs_out}
-use Rattle.gate_schedules.specs.operations.{Progress.{EventsKeepRule, ReplyWithin}, Ranks.{most_alone, most_beside}, Unblocked.HoldIsClear}
-use Rattle.gate_schedules.specs.operations.Unblocked.{IsUnblocked, NothingCounted, PhaseEnds}
-use Rattle.freeze_laws.specs.levels.Roles.{closed}
-use Rattle.mount_counts.{proofs.laws.Bits.hold_set, specs.{Phases.has_flag, Roles.has_hold}}
+use Rattle.gate_schedules.specs.operations.{Progress.ReplyWithin, Ranks.{most_alone, most_beside}, Unblocked.{HoldIsClear, NothingCounted}}
+use Rattle.mount_counts.proofs.laws.Bits.{hold_set}
 
 pub owner_free : (c : Config) (w : Words) (phase : Phase) → owns (Some phase) ≡ 1 → IsUnblocked c w phase ⊎ ((x : Freeze) × (phase ≡ Phase.Freezes x))
 owner_free c w phase h = grind arith

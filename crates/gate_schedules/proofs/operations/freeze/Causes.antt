@@ -1,22 +1,17 @@
 -- The causes of a freeze's refusal and of the sums of its levels, along an execution.
-use Rattle.gate_schedules.proofs.Prelude.{AtLevel, Config, Err, FreezeStep, GateError, HookAnswer, IsGood, List, Next, Ok, Option, Phase, Some}
-use Rattle.gate_schedules.proofs.Prelude.{WordName, Words, World, [], after_of, ap, arith, cases_Bool, eqb_tells, false, found_at, found_by, inl, inr}
-use Rattle.gate_schedules.proofs.Prelude.{left, map_next, nat_lt, phase_after, put, read, refl, subst, suc, sym, total, true, words_after, ℕ, ◌+◌}
-use Rattle.gate_schedules.proofs.Prelude.{◌<◌, ◌==◌, ◌∙◌, ◌∷◌, ◌≡◌, ◌≤◌}
-use Rattle.std.proofs.Common.{◌-◌, ◌%◌, add-one}
-use Rattle.access_model.specs.Holders.{held_by}
-use Rattle.cpu_words.{proofs.gate_counts.{Events.words_sum, Numbers.{ahead_none, ahead_step, ahead_past}}, specs.Sums.{lead, ahead}}
-use Rattle.cpu_words.specs.{Touches.wrap_add, declared.sums.Sum.Sum}
-use Rattle.node_words.specs.{Phases.clear_after, declared.marks.ClearMarks.ClearMarks}
-use Rattle.percpu_rwsem.specs.{Graces.looked, SyncWords.{unpack, on_enter, on_exit, on_callback}, Transitions.transition_after}
-use Rattle.percpu_rwsem.specs.Writers.{down_write_after, down_write_next, sum_begun, at_down_write, enter_step, callback_step, sections_awaited}
-use Rattle.percpu_rwsem.specs.{Writers.{passed_awaited, up_write_after}, declared.{grace.GraceNext.GraceNext, sync_word.SyncWord.SyncWord}}
-use Rattle.percpu_rwsem.specs.declared.{transitions.TransitionNext.TransitionNext, writers.{DownWrite.DownWrite, DownWriteStep.DownWriteStep}}
-use Rattle.percpu_rwsem.specs.declared.writers.UpWrite.{UpWrite}
-use Rattle.freeze_levels.specs.Freezes.{at_freeze, level_closed, after_closing, after_clearing, freeze_fails, after_reopening, after_undoing}
-use Rattle.freeze_levels.specs.{Holders.holders_in, declared.freezes.Freeze.Freeze}
-use Rattle.gate_world.specs.{Fits.{DownWriteStepFits, FreezeFits}, Rules.LevelHoldsIn, refusals.Causes.{all_inside, was_inside, words_read}}
-use Rattle.gate_world.specs.refusals.{Causes.moments_of_sum, KeptCauses.{DownWriteCause, FreezeCause, CauseOf}}
+use Rattle.gate_schedules.proofs.Prelude.{AtLevel, CauseOf, ClearMarks, Config, DownWrite, DownWriteStep, Err, Freeze, FreezeFits, FreezeStep}
+use Rattle.gate_schedules.proofs.Prelude.{GateError, HookAnswer, IsGood, List, Next, Ok, Option, Phase, Some, Sum, TransitionNext, UpWrite, WordName}
+use Rattle.gate_schedules.proofs.Prelude.{Words, World, [], add-one, after_of, ap, arith, at_freeze, cases_Bool, clear_after, down_write_after}
+use Rattle.gate_schedules.proofs.Prelude.{down_write_next, eqb_tells, false, found_at, found_by, held_by, holders_in, inl, inr, left, map_next}
+use Rattle.gate_schedules.proofs.Prelude.{nat_lt, on_exit, phase_after, put, read, refl, subst, suc, sym, total, transition_after, true, unpack}
+use Rattle.gate_schedules.proofs.Prelude.{up_write_after, words_after, wrap_add, ℕ, ◌+◌, ◌-◌, ◌<◌, ◌==◌, ◌∙◌, ◌∷◌, ◌≡◌, ◌≤◌}
+use Rattle.std.proofs.Common.{◌%◌}
+use Rattle.cpu_words.{proofs.gate_counts.{Events.words_sum, Numbers.{ahead_none, ahead_past, ahead_step}}, specs.Sums.{ahead, lead}}
+use Rattle.percpu_rwsem.specs.{Graces.looked, SyncWords.{on_callback, on_enter}, Writers.{at_down_write, callback_step, enter_step, passed_awaited}}
+use Rattle.percpu_rwsem.specs.{Writers.{sections_awaited, sum_begun}, declared.{grace.GraceNext.GraceNext, sync_word.SyncWord.SyncWord}}
+use Rattle.freeze_levels.specs.Freezes.{after_clearing, after_closing, after_reopening, after_undoing, freeze_fails, level_closed}
+use Rattle.gate_world.specs.{Fits.DownWriteStepFits, Rules.LevelHoldsIn, refusals.Causes.{all_inside, moments_of_sum, was_inside, words_read}}
+use Rattle.gate_world.specs.refusals.KeptCauses.{DownWriteCause, FreezeCause}
 use Rattle.gate_schedules.proofs.{frames.{OperationLaws.IsQuiet, Words.load_same}, operations.freeze.Fits.found_cases, traces.Moments.look_skips}
 use Rattle.gate_schedules.proofs.traces.Moments.{sum_begins, sum_goes}
 

@@ -1,33 +1,31 @@
 -- The steps of a freeze on the words of a level that it closes.
-use Rattle.gate_schedules.proofs.Prelude.{Action, Bool, Config, Fits, FreezeStep, Holdings, Holds, HookAnswer, IsGood, IsWithin, Next, Ok, Option}
-use Rattle.gate_schedules.proofs.Prelude.{Phase, Reply, Some, Tree, View, Words, World, ap, arith, cases_Bool, common_steps, eq-eqb, false, found_by}
-use Rattle.gate_schedules.proofs.Prelude.{held_of, if◌then◌else◌, inl, inr, left, map_next, owns, phase_after, put, read, refl, shown, stage_role_of}
-use Rattle.gate_schedules.proofs.Prelude.{subst, sym, total, tree_role_of, true, true≢false, update, ℕ, ◌<◌, ◌==◌, ◌∙◌, ◌≡◌, ◌≤◌}
+use Rattle.gate_schedules.proofs.Prelude.{Action, Bool, Clearing, Config, DownWrite, DownWriteStep, Fits, Freeze, FreezeStep, Freezing, Holdings}
+use Rattle.gate_schedules.proofs.Prelude.{Holds, HookAnswer, IsGood, IsWithin, Next, Ok, Option, Phase, Reply, Some, StageEvent, Sum, Transition}
+use Rattle.gate_schedules.proofs.Prelude.{TransitionNext, Tree, View, ViewFits, Words, World, actions_after, added_by, ap, arith, at_freeze}
+use Rattle.gate_schedules.proofs.Prelude.{cases_Bool, common_steps, down_write_after, down_write_next, eq-eqb, false, found_by, freeze_stage_role}
+use Rattle.gate_schedules.proofs.Prelude.{held_of, holder_role_of, holdings_of, holds_level, if◌then◌else◌, inl, inr, left, level_added_by}
+use Rattle.gate_schedules.proofs.Prelude.{level_taken_by, map_next, marks_of, model_limits, owns, phase_after, put, read, refl, shown, stage_role_of}
+use Rattle.gate_schedules.proofs.Prelude.{subst, sym, taken_by, total, total_at, transition_after, tree_role_of, tree_roles, true, true≢false, unpack}
+use Rattle.gate_schedules.proofs.Prelude.{update, view_with, ℕ, ◌<◌, ◌==◌, ◌∙◌, ◌≡◌, ◌≤◌}
 use Rattle.gate_schedules.proofs.frames.{Accesses.holdings_of_after, ByPhase.freeze_owner, OperationLaws.by_bool, Stages.{IsStageEvent, stages_in}}
 use Rattle.gate_schedules.proofs.levels.DownWrite.{down_write_levels, entered_by_nobody, passes_finds_nobody, swap_finds_clear}
-use Rattle.gate_schedules.proofs.levels.LevelPositions.{LevelsHold, HasPosition, closing_position, left_world, position_after_closing}
+use Rattle.gate_schedules.proofs.levels.LevelPositions.{HasPosition, LevelsHold, closing_position, left_world, position_after_closing}
 use Rattle.gate_schedules.proofs.operations.freeze.{Fits.freeze_goes, Stages.{FitsHere, IsHere, Keeps, freeze_stands, here_fits, here_stands}}
 use Rattle.gate_schedules.proofs.{operations.freeze.Stages.{here_tree, here_writes}, trees.worlds.Trees.shown_clean, writers.Parts.AsksWhere}
 use Rattle.gate_schedules.proofs.writers.{Parts.{LeavesRest, WriterLaw, down_write_comes, freeze_comes}, Stages.{none_leaves, still_plays}}
 use Rattle.gate_schedules.proofs.writers.Words.{down_write_adds, down_write_counts_none, down_write_words, pass_leaves, tree_begins, tree_beside}
 use Rattle.gate_schedules.proofs.writers.Words.{writer_at_level}
-use Rattle.cpu_words.specs.{Sums.sum_taking, declared.sums.{Sum.Sum, Taken.Taken}}
-use Rattle.finite_sums.proofs.Totals.{total_at}
-use Rattle.freeze_levels.specs.{Freezes.{after_closing, at_freeze, closing_waits, level_closed}, declared.freezes.Freeze.Freeze}
-use Rattle.freeze_levels.specs.holder_laws.Roles.{Apart}
-use Rattle.gate_world.specs.{Configs.model_limits, Holdings.holdings_of, Levels.{level_added_by, level_taken_by}, Roles.closed_to}
-use Rattle.gate_world.specs.{Roles.{freeze_holder_role, freeze_stage_role, place_of}, Rules.{ViewFits, holder_role_of, marks_of}, Trees.tree_roles}
-use Rattle.gate_world.specs.Views.{actions_after, added_by, holds_level, taken_by, view_with}
+use Rattle.cpu_words.specs.{Sums.sum_taking, declared.sums.Taken.Taken}
+use Rattle.freeze_levels.specs.{Freezes.{after_closing, closing_waits, level_closed}, holder_laws.Roles.Apart}
+use Rattle.gate_world.specs.Roles.{closed_to, freeze_holder_role, place_of}
 use Rattle.node_words.{proofs.ClearedMarks.directory_clean, specs.Nodes.IsNode}
-use Rattle.gated_tree.specs.Roles.{Clearing, Out as OffTree}
-use Rattle.percpu_rwsem.specs.{Graces.looked, SyncWords.{on_callback, on_enter, unpack}, Transitions.transition_after, Writers.at_down_write}
-use Rattle.percpu_rwsem.specs.Writers.{callback_step, down_write_after, down_write_next, down_write_summed, enter_step, passed_awaited}
-use Rattle.percpu_rwsem.specs.{Writers.{sections_awaited, sum_begun}, declared.{grace.GraceNext.GraceNext, sync_word.SyncWord.SyncWord}}
-use Rattle.percpu_rwsem.specs.declared.{transitions.{Transition.Transition, TransitionNext.TransitionNext}, writers.DownWrite.DownWrite}
-use Rattle.percpu_rwsem.specs.declared.writers.DownWriteStep.{DownWriteStep}
-use Rattle.freeze_laws.{proofs.stages.Facts.at_level, specs.stages.Events.{Happens, Passes, SetsBlock as SetsBlockStage, StageEvent, Stays}}
-use Rattle.freeze_laws.specs.stages.{Events.{action_of as stage_action_of, playing}, Roles.{Before, CleanBelow, Closing, Freezing, HasPassed, Place}}
-use Rattle.freeze_laws.specs.stages.{Roles.{bit, has_position, owns as stage_owns}, Shown.state_after}
+use Rattle.gated_tree.specs.Roles.{Out as OffTree}
+use Rattle.percpu_rwsem.specs.{Graces.looked, SyncWords.{on_callback, on_enter}, Writers.{at_down_write, callback_step, down_write_summed}}
+use Rattle.percpu_rwsem.specs.{Writers.{enter_step, passed_awaited, sections_awaited, sum_begun}, declared.grace.GraceNext.GraceNext}
+use Rattle.percpu_rwsem.specs.declared.sync_word.SyncWord.{SyncWord}
+use Rattle.freeze_laws.{proofs.stages.Facts.at_level, specs.stages.Events.{Happens, Passes, SetsBlock as SetsBlockStage, Stays}}
+use Rattle.freeze_laws.specs.stages.{Events.{action_of as stage_action_of, playing}, Roles.{Before, CleanBelow, Closing, HasPassed, Place, bit}}
+use Rattle.freeze_laws.specs.stages.{Roles.{has_position, owns as stage_owns}, Shown.state_after}
 use Rattle.std.proofs.Common.{nat_lt, ◌⊎◌}
 
 -- once level 2 is passed the clearing of marks begins at node 1

@@ -1,32 +1,27 @@
 -- The steps of a freeze on nodes and on the words of a level that it reopens, and all of its steps as one law.
-use Rattle.gate_schedules.proofs.Prelude.{Action, Config, FreezeStep, Holdings, Holds, HookAnswer, IsGood, IsWithin, Next, None, Option, Phase, Some}
-use Rattle.gate_schedules.proofs.Prelude.{StepKeeps, Touch, Tree, View, WordName, Words, World, ap, arith, cases_Bool, each_updated, eqb_tells, false}
-use Rattle.gate_schedules.proofs.Prelude.{found_by, held_of, inl, inr, map_next, owns, phase_after, read, refl, shown, stage_role_of, subst, suc, sym}
-use Rattle.gate_schedules.proofs.Prelude.{tree_bounds, true, update, update_same, ℕ, ◌+◌, ◌<◌, ◌∙◌, ◌≡◌}
+use Rattle.gate_schedules.proofs.Prelude.{Action, ClearMarks, Clearing, Config, Freeze, FreezeFits, FreezeStep, Freezing, Holdings, Holds, HookAnswer}
+use Rattle.gate_schedules.proofs.Prelude.{IsGood, IsWithin, Next, None, Option, Phase, Some, StepKeeps, Thaw, ThawStep, Touch, Tree, TreeState}
+use Rattle.gate_schedules.proofs.Prelude.{UpWrite, View, ViewFits, WordName, Words, World, ap, arith, at_freeze, cases_Bool, dirty_in, each_updated}
+use Rattle.gate_schedules.proofs.Prelude.{eqb_tells, false, found_by, freeze_stage_role, held_of, holder_role_of, inl, inr, ltb-false, ltb-true}
+use Rattle.gate_schedules.proofs.Prelude.{map_next, marks_of, model_limits, node_shown, opens_in, owns, phase_after, read, refl, shown, stage_role_of}
+use Rattle.gate_schedules.proofs.Prelude.{stage_roles, subst, suc, sym, tree_bounds, tree_of, true, up_write_after, up_write_next, update, update_map}
+use Rattle.gate_schedules.proofs.Prelude.{update_same, ℕ, ◌+◌, ◌<◌, ◌∙◌, ◌≡◌}
 use Rattle.gate_schedules.proofs.frames.{ByPhase.freeze_owner, Holders.holders_stay, PhaseSubstitution.{alike_of, made_keeps}, Stages.IsStageEvent}
 use Rattle.gate_schedules.proofs.{frames.Stages.stages_in, levels.LevelPositions.{HasPosition, left_world, position_after_opening}}
 use Rattle.gate_schedules.proofs.{levels.PositionRoles.levels_stay, operations.freeze.{Closes.closes, Fits.freeze_goes, GivesUp.{undoes, waits}}}
-use Rattle.gate_schedules.proofs.operations.freeze.Stages.{FitsHere, IsHere, Keeps, completes_read_only, freeze_stands, goes_to, here_fits}
+use Rattle.gate_schedules.proofs.operations.freeze.Stages.{FitsHere, IsHere, Keeps, completes_read_only, freeze_stands, gives_up, goes_to, here_fits}
 use Rattle.gate_schedules.proofs.operations.freeze.Stages.{here_knows, here_stands, here_tree, here_writes, holds, loads_holders, loads_stage}
-use Rattle.gate_schedules.proofs.operations.freeze.Stages.{loads_superblock, locks, gives_up, locks_again, locks_to_undo, releases, sets_complete}
-use Rattle.gate_schedules.proofs.operations.{freeze.Stages.{sets_fs, sets_page_fault, sets_write, unlocks, view_at}, thaw.Events.thaw_keeps}
+use Rattle.gate_schedules.proofs.operations.freeze.Stages.{loads_superblock, locks, locks_again, locks_to_undo, releases, sets_complete, sets_fs}
+use Rattle.gate_schedules.proofs.operations.{freeze.Stages.{sets_page_fault, sets_write, unlocks, view_at}, thaw.Events.thaw_keeps}
 use Rattle.gate_schedules.proofs.{trees.worlds.Trees.{nobody_reads, tree_after}, writers.{Owner.owner_stays, Parts.{AsksWhere, IsWriter, LeavesRest}}}
 use Rattle.gate_schedules.proofs.writers.Parts.{SameAtMounts, WriterLaw, freeze_work, freezes_write, whole_writer, writer_law}
 use Rattle.gate_schedules.specs.trees.Events.{Clears, Event, Passes, with_node}
 use Rattle.access_model.specs.{Actions.marked, States.IsFile}
-use Rattle.finite_sums.proofs.Totals.{update_map}
-use Rattle.freeze_levels.specs.{Freezes.{after_reopening, at_freeze}, Thaws.after_opening, declared.{freezes.Freeze.Freeze, thaws.Thaw.Thaw}}
-use Rattle.freeze_levels.specs.{declared.thaws.ThawStep.ThawStep, holder_laws.Roles.Apart}
-use Rattle.gate_world.specs.{Configs.model_limits, Fits.FreezeFits, Roles.{closed_to, freeze_holder_role, freeze_stage_role, freeze_position}}
-use Rattle.gate_world.specs.{Roles.freeze_tree_role, Rules.{ViewFits, holder_role_of, marks_of, stage_roles}, SameRoles.{SameRoles, rephased}}
-use Rattle.gate_world.specs.Trees.{tree_of}
-use Rattle.node_words.{proofs.ClearedMarks.{clean_stays, cleared_shown, clears_mark, without_mark}, specs.Nodes.{IsNode, dirty_in, node_shown}}
-use Rattle.node_words.specs.{Nodes.opens_in, declared.marks.ClearMarks.ClearMarks}
-use Rattle.gated_tree.specs.Roles.{Clearing, TreeState}
-use Rattle.percpu_rwsem.specs.{Writers.{up_write_after, up_write_next}, declared.writers.UpWrite.UpWrite}
-use Rattle.freeze_laws.specs.stages.{Events.{ClearsMark as ClearsMarkStage, cleaned}, Roles.{Freezing, HasPassed, owns as stage_owns}}
-use Rattle.freeze_laws.specs.stages.Shown.{state_after}
-use Rattle.std.{proofs.{Common.nat_lt, lemmas.Bool.{ltb-false, ltb-true}}, specs.Prelude.option_map}
+use Rattle.freeze_levels.specs.{Freezes.after_reopening, Thaws.after_opening, holder_laws.Roles.Apart}
+use Rattle.gate_world.specs.{Roles.{closed_to, freeze_holder_role, freeze_position, freeze_tree_role}, SameRoles.{SameRoles, rephased}}
+use Rattle.node_words.{proofs.ClearedMarks.{clean_stays, cleared_shown, clears_mark, without_mark}, specs.Nodes.IsNode}
+use Rattle.freeze_laws.specs.stages.{Events.{ClearsMark as ClearsMarkStage, cleaned}, Roles.{HasPassed, owns as stage_owns}, Shown.state_after}
+use Rattle.std.{proofs.Common.nat_lt, specs.Prelude.option_map}
 
 -- and after each step of a reopening
 pub stands_then : (x : Freeze) (u : UpWrite) (code found : ℕ) →

@@ -1,32 +1,29 @@
 -- The steps of a freeze on `umount`, the stage and the superblock's flag, and its clearing of marks.
-use Rattle.gate_schedules.proofs.Prelude.{Action, Config, Err, Fits, Fitting, FreezeStep, GateError, Holds, HookAnswer, IsGood, IsWithin, Next, None}
-use Rattle.gate_schedules.proofs.Prelude.{Ok, Option, Phase, PhaseFits, Reply, Result, Some, Stages, Touch, Tree, View, WordName, Words, World, ap}
-use Rattle.gate_schedules.proofs.Prelude.{arith, eqb_tells, held_of, if◌then◌else◌, inl, inr, owns, refl, shown, stage_role_of, subst, sym, total}
-use Rattle.gate_schedules.proofs.Prelude.{tree_bounds, tree_role_of, update, ℕ, ◌+◌, ◌<◌, ◌∙◌, ◌∷◌, ◌≡◌}
-use Rattle.gate_world.specs.{Configs.model_limits, Fits.FreezeFits, Roles.{freeze_owns, LevelPosition, closed_to, open_from, freeze_holder_role}}
-use Rattle.gate_world.specs.{Roles.{freeze_stage_role, freeze_position, freeze_tree_role}, Rules.{Holding, OwnerHolds, holder_role_of, holder_roles}}
-use Rattle.gate_world.specs.{Trees.{tree_of, tree_roles}, Views.view_with}
-use Rattle.access_model.specs.{Holders.{held_by, is_unheld, nobody, with_holder}, declared.actions.Holders.Holders}
-use Rattle.cpu_words.specs.declared.events.Event.{Event}
+use Rattle.gate_schedules.proofs.Prelude.{Action, Config, Err, Event, Fits, Fitting, Freeze, FreezeFits, FreezeStep, GateError, Holding, Holds}
+use Rattle.gate_schedules.proofs.Prelude.{HookAnswer, IsGood, IsWithin, KnowsStage, LevelPosition, Next, None, Ok, Option, OwnerHolds, Phase}
+use Rattle.gate_schedules.proofs.Prelude.{PhaseFits, Reply, Result, Some, StageEvent, StageRole, Stages, Touch, Tree, TreeState, View, WordName}
+use Rattle.gate_schedules.proofs.Prelude.{Words, World, ap, arith, at_freeze, eqb_tells, freeze_stage_role, held_by, held_of, holder_role_of}
+use Rattle.gate_schedules.proofs.Prelude.{holders_in, if◌then◌else◌, inl, inr, model_limits, owns, refl, shown, stage_role_of, subst, sym, total}
+use Rattle.gate_schedules.proofs.Prelude.{tree_bounds, tree_of, tree_role_of, tree_roles, turned, update, view_with, ℕ, ◌+◌, ◌<◌, ◌∙◌, ◌∷◌, ◌≡◌}
+use Rattle.gate_world.specs.{Roles.{closed_to, freeze_holder_role, freeze_owns, freeze_position, freeze_tree_role, open_from}, Rules.holder_roles}
+use Rattle.access_model.specs.{Holders.{is_unheld, nobody, with_holder}, declared.actions.Holders.Holders}
 use Rattle.freeze_levels.proofs.holder_laws.{HolderLaws.{finds_some, roles_tell}, Words.{is_nobody, none_held, unpack_pack}}
-use Rattle.freeze_levels.specs.{Freezes.{at_freeze, freeze_closes, freeze_fails}, Holders.{holders_in, word_of}, declared.freezes.Freeze.Freeze}
-use Rattle.freeze_levels.specs.holder_laws.{Events.{Finds, Freezes as FreezesHolders, HoldsFirst, Joins}, Roles.{Apart, Fills, Found, HolderRole}}
-use Rattle.freeze_levels.specs.holder_laws.Roles.{between, minds}
+use Rattle.freeze_levels.specs.{Freezes.{freeze_closes, freeze_fails}, Holders.word_of, holder_laws.Events.{Finds, Freezes as FreezesHolders}}
+use Rattle.freeze_levels.specs.holder_laws.{Events.{HoldsFirst, Joins}, Roles.{Apart, Fills, Found, HolderRole, between, minds}}
 use Rattle.gate_schedules.proofs.frames.{Cases.both, Frames.SameLevelCounts, Holders.{holders_after, holders_at, holders_move, holders_stay}}
 use Rattle.gate_schedules.proofs.frames.{Holders.nobody_minds, Stages.{IsStageEvent, nobody_owns, owners_alike, stages_in}}
-use Rattle.gate_schedules.proofs.levels.{FreezeCompletes.freezes_all, LevelPositions.{LevelsHold, HasPosition, left_world}}
+use Rattle.gate_schedules.proofs.levels.{FreezeCompletes.freezes_all, LevelPositions.{HasPosition, LevelsHold, left_world}}
 use Rattle.gate_schedules.proofs.levels.PositionRoles.{closing_first, closing_next, closing_says, closing_says_none, stands_so}
 use Rattle.gate_schedules.proofs.{operations.freeze.Fits.found_cases, trees.worlds.Trees.{sealed_frozen, tree_after, tree_then}}
 use Rattle.gate_schedules.proofs.writers.{Owner.{lock_given, lock_taken, owner_stays}, Parts.{AsksWhere, IsWriter, SameAtMounts, WriterKeeps}}
 use Rattle.gate_schedules.proofs.writers.{Parts.{WriterLaw, freezes_write, idle_writes}, Stages.{opened_tree, stays_there, stored_levels}}
 use Rattle.gate_schedules.{proofs.writers.Stages.{stored_tree, writer_beside, writer_holds, writer_stores}, specs.trees.Events.Event as TreeEvent}
-use Rattle.gate_schedules.specs.trees.Events.{Leaves, Seals, turned}
-use Rattle.gated_tree.specs.Roles.{HasNoCharge, Out as OffTree, TreeState, sealed_by}
-use Rattle.freeze_laws.{proofs.stages.Facts.at_level, specs.stages.Events.{Advances, Begins, Completes, Fails, GivesUp as GivesUpStage}}
-use Rattle.freeze_laws.specs.stages.Events.{FreezesAtOnce, Happens, HoldsOne, LetsGo, LoadsSb, LoadsStage as FindsStage, Locks as LocksStage}
-use Rattle.freeze_laws.specs.stages.Events.{LocksAgain as LocksStageAgain, Recalls, Releases as ReleasesStage, StageEvent, Stays, Syncs}
-use Rattle.freeze_laws.specs.stages.{Events.{action_of as stage_action_of, playing}, Roles.{Before, HasPassed, KnowsStage, Owning, Reopening}}
-use Rattle.freeze_laws.specs.stages.Roles.{StageRole, is_full}
+use Rattle.gate_schedules.specs.trees.Events.{Leaves, Seals}
+use Rattle.gated_tree.specs.Roles.{HasNoCharge, Out as OffTree, sealed_by}
+use Rattle.freeze_laws.{proofs.stages.Facts.at_level, specs.stages.Events.{Advances, Begins, Completes, Fails, FreezesAtOnce}}
+use Rattle.freeze_laws.specs.stages.Events.{GivesUp as GivesUpStage, Happens, HoldsOne, LetsGo, LoadsSb, LoadsStage as FindsStage}
+use Rattle.freeze_laws.specs.stages.Events.{Locks as LocksStage, LocksAgain as LocksStageAgain, Recalls, Releases as ReleasesStage, Stays, Syncs}
+use Rattle.freeze_laws.specs.stages.{Events.{action_of as stage_action_of, playing}, Roles.{Before, HasPassed, Owning, Reopening, is_full}}
 use Rattle.std.specs.Prelude.{false, true}
 
 pub freeze_stands : (x : Freeze) → HasPosition (Some (Phase.Freezes x)) (freeze_position x.step)

@@ -1,14 +1,13 @@
 -- What the trace of an operation says while it closes a level: which steps are added to it, and why it waits.
-use Rattle.gate_schedules.proofs.Prelude.{Action, Config, HookAnswer, IsWithin, List, Next, None, Option, Some, Traced, ap, arith, cases_Bool}
-use Rattle.gate_schedules.proofs.Prelude.{eqb_tells, found_by, inl, inr, nat_lt, refl, subst, suc, true, ℕ, ◌+◌, ◌<◌, ◌∙◌, ◌∷◌, ◌≡◌}
-use Rattle.std.proofs.{Common.{◌⊎◌, add-one}, lemmas.Bool.{ltb-true, ltb-false}}
-use Rattle.cpu_words.specs.{Touches.{wrap_add, event_of}, declared.sums.Sum.Sum}
-use Rattle.percpu_rwsem.specs.{SyncWords.{unpack, on_enter, on_callback}, Transitions.transition_after, Writers.{down_write_next, down_write_after}}
-use Rattle.percpu_rwsem.specs.{Writers.{enter_step, callback_step, passed_awaited, sum_begun}, declared.grace.Grace.Grace}
-use Rattle.percpu_rwsem.specs.declared.{sync_word.SyncWord.SyncWord, transitions.TransitionNext.TransitionNext, writers.DownWrite.DownWrite}
-use Rattle.percpu_rwsem.specs.declared.writers.DownWriteStep.{DownWriteStep}
-use Rattle.gate_world.specs.{Views.with_hook, traces.Found.{found_sealed, found_complete, stored_stage, cleans, newest, finds_readers, IsLevelSum}}
-use Rattle.gate_world.specs.traces.Found.{sum_of_newest, FoundInside, level_opened}
+use Rattle.gate_schedules.proofs.Prelude.{Action, Config, DownWrite, DownWriteStep, HookAnswer, IsWithin, List, Next, None, Option, Some, Sum, Traced}
+use Rattle.gate_schedules.proofs.Prelude.{TransitionNext, add-one, ap, arith, cases_Bool, down_write_after, down_write_next, eqb_tells, event_of}
+use Rattle.gate_schedules.proofs.Prelude.{found_by, inl, inr, ltb-false, ltb-true, nat_lt, refl, subst, suc, transition_after, true, unpack}
+use Rattle.gate_schedules.proofs.Prelude.{with_hook, wrap_add, ℕ, ◌+◌, ◌<◌, ◌∙◌, ◌∷◌, ◌≡◌}
+use Rattle.std.proofs.Common.{◌⊎◌}
+use Rattle.percpu_rwsem.specs.{SyncWords.{on_callback, on_enter}, Writers.{callback_step, enter_step, passed_awaited, sum_begun}}
+use Rattle.percpu_rwsem.specs.declared.{grace.Grace.Grace, sync_word.SyncWord.SyncWord}
+use Rattle.gate_world.specs.traces.Found.{FoundInside, IsLevelSum, cleans, finds_readers, found_complete, found_sealed, level_opened, newest}
+use Rattle.gate_world.specs.traces.Found.{stored_stage, sum_of_newest}
 
 -- the closing of this level, among the tasks and processors of a configuration, at a step
 abbrev pub closing_at : Config → ℕ → DownWriteStep → DownWrite

@@ -1,23 +1,20 @@
 -- Traces of a freeze of the superblock.
-use Rattle.gate_schedules.proofs.Prelude.{Action, Bool, Config, Err, FreezeStep, GateError, HookAnswer, IsWithin, List, Next, Ok, Op, Option, Phase}
-use Rattle.gate_schedules.proofs.Prelude.{Reply, Result, Touch, Traced, WordName, [], ap, arith, cases_Bool, eq-eqb, eqb_tells, false, found_by}
-use Rattle.gate_schedules.proofs.Prelude.{if◌then◌else◌, inl, inr, map_next, refl, subst, suc, sym, true, zero, ℕ, ◌==◌, ◌∙◌, ◌∷◌, ◌≡◌, ◌≤◌}
-use Rattle.std.{proofs.{Common.◌-◌, lemmas.{Bool.ne_eqb, Nat.Bits.and_pow}}, specs.Prelude.bit_and}
+use Rattle.gate_schedules.proofs.Prelude.{Action, Bool, ClearMarks, Config, DownWrite, DownWriteStep, Err, Freeze, FreezeStep, GateError, HookAnswer}
+use Rattle.gate_schedules.proofs.Prelude.{IsWithin, List, Next, Ok, Op, Option, Phase, Reply, Result, Touch, Traced, Transition, TransitionNext}
+use Rattle.gate_schedules.proofs.Prelude.{UpWrite, UpWriteStep, WordName, [], actions_after, ap, arith, at_freeze, cases_Bool, dirty_in}
+use Rattle.gate_schedules.proofs.Prelude.{down_write_after, eq-eqb, eqb_tells, event_of, false, found_by, has_flag, if◌then◌else◌, inl, inr, map_next}
+use Rattle.gate_schedules.proofs.Prelude.{ne_eqb, on_exit, refl, subst, suc, sym, transition_after, true, with_hook, zero, ℕ, ◌-◌, ◌==◌, ◌∙◌, ◌∷◌}
+use Rattle.gate_schedules.proofs.Prelude.{◌≡◌, ◌≤◌}
+use Rattle.std.{proofs.lemmas.Nat.Bits.and_pow, specs.Prelude.bit_and}
 use Rattle.access_model.specs.{Holders.nobody, declared.actions.Holder.Holder}
-use Rattle.cpu_words.specs.Touches.{event_of}
-use Rattle.node_words.specs.{Nodes.{dirty_in, node_after}, Phases.clears_at, declared.marks.ClearMarks.ClearMarks}
-use Rattle.mount_counts.specs.Phases.{has_flag}
-use Rattle.percpu_rwsem.specs.{SyncWords.on_exit, Transitions.{transition_next, transition_after}, Writers.{down_write_after, exit_made}}
-use Rattle.percpu_rwsem.specs.declared.{transitions.{Transition.Transition, TransitionNext.TransitionNext}, writers.DownWrite.DownWrite}
-use Rattle.percpu_rwsem.specs.declared.writers.{DownWriteStep.DownWriteStep, UpWrite.UpWrite, UpWriteStep.UpWriteStep}
-use Rattle.freeze_levels.specs.Freezes.{after_closing, after_clearing, after_reopening, after_undoing, at_freeze, closing_waits}
-use Rattle.freeze_levels.specs.declared.freezes.Freeze.{Freeze}
-use Rattle.gate_world.specs.{Operations.{two_levels_closed, all_levels_closed, failed_adds, word_decided}, Views.{actions_after, with_hook}}
-use Rattle.gate_world.specs.traces.{Found.{found_sealed, found_complete, gave_up, level_opened, stored_stage, cleans, ReadAnswer}, Traces.actions_of}
-use Rattle.gate_world.specs.traces.Traces.{IsHonestAnswer}
-use Rattle.gate_schedules.proofs.operations.freeze.Sums.{ClosingSays, ClosingNext, FoundAsBefore, closing_at, closing_trace, closing_found}
-use Rattle.gate_schedules.proofs.{operations.freeze.Sums.{closing_leaves, closing_event}, traces.Cleans.{LeaveAccesses, cleans_leave}}
-use Rattle.gate_schedules.proofs.traces.TraceInvariant.{InvariantAfter, InvariantAfterStep, IsInductive, event_at, TraceLaws, traces_tell}
+use Rattle.node_words.specs.{Nodes.node_after, Phases.clears_at}
+use Rattle.percpu_rwsem.specs.{Transitions.transition_next, Writers.exit_made}
+use Rattle.freeze_levels.specs.Freezes.{after_clearing, after_closing, after_reopening, after_undoing, closing_waits}
+use Rattle.gate_world.specs.{Operations.{all_levels_closed, failed_adds, two_levels_closed, word_decided}, traces.Found.{ReadAnswer, cleans}}
+use Rattle.gate_world.specs.traces.{Found.{found_complete, found_sealed, gave_up, level_opened, stored_stage}, Traces.{IsHonestAnswer, actions_of}}
+use Rattle.gate_schedules.proofs.operations.freeze.Sums.{ClosingNext, ClosingSays, FoundAsBefore, closing_at, closing_event, closing_found}
+use Rattle.gate_schedules.proofs.{operations.freeze.Sums.{closing_leaves, closing_trace}, traces.Cleans.{LeaveAccesses, cleans_leave}}
+use Rattle.gate_schedules.proofs.traces.TraceInvariant.{InvariantAfter, InvariantAfterStep, IsInductive, TraceLaws, event_at, traces_tell}
 
 -- a freeze of the superblock by a task, at this step
 abbrev pub freeze_of : Config → ℕ → Holder → FreezeStep → Freeze

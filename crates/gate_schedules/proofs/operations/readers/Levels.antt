@@ -1,16 +1,17 @@
 -- Steps of a down-read leave the rcu_sync of each level, and the sections.
-use Rattle.gate_schedules.proofs.Prelude.{Config, DownRead, Holds, HookAnswer, IsGood, Next, Some, SyncAt, SyncStep, Touch, View, WordName, World}
-use Rattle.gate_schedules.proofs.Prelude.{after_step, ap, arith, eqb_tells, found_by, inl, inr, inside, level_in, map_next, phase_after, read, refl}
-use Rattle.gate_schedules.proofs.Prelude.{subst, sym, sync_role_of, update, ℕ, ◌<◌, ◌==◌, ◌∙◌, ◌≡◌, ◌≤◌}
-use Rattle.std.{proofs.Common.◌-◌, specs.Prelude.{Bool, true, false}}
-use Rattle.percpu_rwsem.specs.{Readers.{at_down_read, down_read_next, down_read_after, left_blocked}, declared.readers.DownReadStep.DownReadStep}
-use Rattle.percpu_rwsem.specs.declared.readers.DownReadStep.TheVariants.{EntersSection, LoadsSync, CountsUpFast, CountsUpSlow, LoadsBlock, CountsDown}
-use Rattle.percpu_rwsem.specs.declared.readers.DownReadStep.TheVariants.{LeavesAdmitted, LeavesBlocked}
-use Rattle.freeze_laws.{proofs.levels.ReadOperations.down_reads_are_there, specs.levels.{Events.SyncLevelHolds, Operations.down_read_role}}
-use Rattle.freeze_laws.specs.levels.{Operations.{down_read_inside, left_by, by_next, HoldsOfNext}, Roles.{Out as IsApart, fast}}
-use Rattle.gate_world.specs.{Roles.sync_role_if, Rules.Sections, Views.view_after, declared.work.Phase.TheVariants.DownReads}
-use Rattle.gate_schedules.proofs.levels.Worlds.{sync_on, sync_off, IsOfLevel, IsEventAt, found_level, level_there, turned_words, sync_turned}
-use Rattle.gate_schedules.proofs.levels.Worlds.{sections_turned, sync_elsewhere}
+use Rattle.gate_schedules.proofs.Prelude.{Config, DownRead, DownReadStep, DownReads, Holds, HookAnswer, IsGood, Next, Sections, Some, SyncAt}
+use Rattle.gate_schedules.proofs.Prelude.{SyncStep, Touch, View, WordName, World, after_step, ap, arith, down_read_after, down_read_next, eqb_tells}
+use Rattle.gate_schedules.proofs.Prelude.{found_by, inl, inr, inside, left_by, level_in, map_next, phase_after, read, refl, subst, sym, sync_role_of}
+use Rattle.gate_schedules.proofs.Prelude.{update, view_after, ℕ, ◌-◌, ◌<◌, ◌==◌, ◌∙◌, ◌≡◌, ◌≤◌}
+use Rattle.std.specs.Prelude.{Bool, false, true}
+use Rattle.percpu_rwsem.specs.{Readers.{at_down_read, left_blocked}, declared.readers.DownReadStep.TheVariants.{CountsDown, CountsUpFast}}
+use Rattle.percpu_rwsem.specs.declared.readers.DownReadStep.TheVariants.{CountsUpSlow, EntersSection, LeavesAdmitted, LeavesBlocked, LoadsBlock}
+use Rattle.percpu_rwsem.specs.declared.readers.DownReadStep.TheVariants.{LoadsSync}
+use Rattle.freeze_laws.{proofs.levels.ReadOperations.down_reads_are_there, specs.levels.{Events.SyncLevelHolds, Operations.{HoldsOfNext, by_next}}}
+use Rattle.freeze_laws.specs.levels.{Operations.{down_read_inside, down_read_role}, Roles.{Out as IsApart, fast}}
+use Rattle.gate_world.specs.Roles.{sync_role_if}
+use Rattle.gate_schedules.proofs.levels.Worlds.{IsEventAt, IsOfLevel, found_level, level_there, sections_turned, sync_elsewhere, sync_off, sync_on}
+use Rattle.gate_schedules.proofs.levels.Worlds.{sync_turned, turned_words}
 
 -- what the invariant says of the rcu_sync of each level, and of the sections
 abbrev pub LevelsHold : Config → World → Type 0

@@ -1,11 +1,12 @@
 -- A start whose level is open, or that doesn't wait, an end, and a write access whose level and mount are open run out.
-use Rattle.gate_schedules.proofs.Prelude.{Config, DownRead, Words, ap, arith, false, found_at, found_by, left, put, read, true, words_after, ◌∙◌, ◌≡◌}
-use Rattle.percpu_rwsem.specs.{Readers.{down_read_next, down_read_after}, declared.readers.{DownReadStep.DownReadStep, UpRead.UpRead}}
-use Rattle.composite_ops.specs.{declared.write_access.phases.WritePhase.WritePhase, write_access.Phases.{next as write_next, after as write_after}}
-use Rattle.gate_world.specs.{declared.work.Phase.TheVariants.{DownReads, UpReads, Writes}, traces.TraceStates.WordIsValid}
+use Rattle.gate_schedules.proofs.Prelude.{Config, DownRead, DownReadStep, DownReads, IsUnblocked, PhaseEnds, RankDecreases, Words, WritePhase, ap}
+use Rattle.gate_schedules.proofs.Prelude.{arith, down_read_after, down_read_next, false, found_at, found_by, left, put, rank, read, true, words_after}
+use Rattle.gate_schedules.proofs.Prelude.{◌∙◌, ◌≡◌}
+use Rattle.percpu_rwsem.specs.declared.readers.UpRead.{UpRead}
+use Rattle.composite_ops.specs.write_access.Phases.{after as write_after, next as write_next}
+use Rattle.gate_world.specs.{declared.work.Phase.TheVariants.{UpReads, Writes}, traces.TraceStates.WordIsValid}
 use Rattle.gate_schedules.proofs.{frames.ValidWords.events_may_be, operations.deadlocks.RankDecreases.falls_as}
-use Rattle.gate_schedules.specs.operations.{Progress.is_admitted, Ranks.{rank, read_rank, write_rank}, Unblocked.{IsUnblocked, ReadIsUnblocked}}
-use Rattle.gate_schedules.specs.operations.Unblocked.{WriteIsUnblocked, RankDecreases, PhaseEnds}
+use Rattle.gate_schedules.specs.operations.{Progress.is_admitted, Ranks.{read_rank, write_rank}, Unblocked.{ReadIsUnblocked, WriteIsUnblocked}}
 
 module _ (w : Words) (r : DownRead) where
   -- a down-read leaves each `block`

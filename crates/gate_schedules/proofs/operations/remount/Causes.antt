@@ -1,17 +1,15 @@
 -- The causes of a remount's refusals, along an execution.
-use Rattle.gate_schedules.proofs.Prelude.{Bool, Config, Err, GateError, HookAnswer, IsGood, List, None, Ok, Option, Phase, Reply, Result, Some}
-use Rattle.gate_schedules.proofs.Prelude.{WordName, Words, World, after_of, ap, arith, cases_Bool, eqb_tells, false, found_at, if◌then◌else◌, inl}
-use Rattle.gate_schedules.proofs.Prelude.{inr, nat_lt, phase_after, refl, subst, suc, sym, true, words_after, ℕ, ◌+◌, ◌<◌, ◌==◌, ◌∙◌, ◌∷◌, ◌≡◌}
-use Rattle.std.{proofs.lemmas.Bool.{ltb-false, ne_eqb}, specs.Prelude.not}
-use Rattle.cpu_words.specs.{Touches.wrap_add, declared.sums.Sum.Sum}
-use Rattle.mount_counts.specs.{Phases.has_flag, Remounts.{at_remount, remount_from, past_mount, let_go, leave_holds, give_up, remount_summed}}
-use Rattle.mount_counts.specs.{Remounts.past_node, Sets.{with_mount, without_lowest}, declared.remounts.{Remount.Remount, RemountStep.RemountStep}}
-use Rattle.mount_counts.specs.declared.sets.MountSet.{MountSet}
-use Rattle.gate_world.specs.{Remounts.RemountFits, refusals.Causes.{all_counted, words_read, mount_summed, moments_of_sum, AreOfMount}}
-use Rattle.gate_world.specs.refusals.{Causes.{SomeWasCounted, was_removed, last_removed, looks_at_removed}, KeptCauses.RemountAnswerCause}
-use Rattle.gate_world.specs.refusals.KeptCauses.{RemountCause, CauseOf}
-use Rattle.gate_schedules.proofs.{frames.{OperationLaws.by_bool, Words.load_same}, mounts.SumCauses.{counted_stays, sum_starts, sum_stays, sum_takes}}
-use Rattle.gate_schedules.proofs.{mounts.SumCauses.sum_ends, traces.Moments.{sum_skips, sum_begins}}
+use Rattle.gate_schedules.proofs.Prelude.{Bool, CauseOf, Config, Err, GateError, HookAnswer, IsGood, List, None, Ok, Option, Phase, Remount}
+use Rattle.gate_schedules.proofs.Prelude.{RemountStep, Reply, Result, Some, Sum, WordName, Words, World, after_of, ap, arith, cases_Bool, eqb_tells}
+use Rattle.gate_schedules.proofs.Prelude.{false, found_at, has_flag, if◌then◌else◌, inl, inr, ltb-false, nat_lt, ne_eqb, phase_after, refl, subst}
+use Rattle.gate_schedules.proofs.Prelude.{suc, sym, true, words_after, wrap_add, ℕ, ◌+◌, ◌<◌, ◌==◌, ◌∙◌, ◌∷◌, ◌≡◌}
+use Rattle.std.specs.Prelude.{not}
+use Rattle.mount_counts.specs.Remounts.{at_remount, give_up, leave_holds, let_go, past_mount, past_node, remount_from, remount_summed}
+use Rattle.mount_counts.specs.{Sets.{with_mount, without_lowest}, declared.sets.MountSet.MountSet}
+use Rattle.gate_world.specs.{Remounts.RemountFits, refusals.Causes.{AreOfMount, SomeWasCounted, all_counted, last_removed, looks_at_removed}}
+use Rattle.gate_world.specs.refusals.{Causes.{moments_of_sum, mount_summed, was_removed, words_read}, KeptCauses.{RemountAnswerCause, RemountCause}}
+use Rattle.gate_schedules.proofs.{frames.{OperationLaws.by_bool, Words.load_same}, mounts.SumCauses.{counted_stays, sum_ends, sum_starts, sum_stays}}
+use Rattle.gate_schedules.proofs.{mounts.SumCauses.sum_takes, traces.Moments.{sum_begins, sum_skips}}
 
 -- a task whose next step is a load of `removed` looks at it, any other doesn't
 removed_skips : (t : ℕ) (w : World) (earlier : List World) → looks_at_removed (w.views t).phase ≡ false →

@@ -1,38 +1,35 @@
 -- The other steps of a remount, and all of them as one law.
-use Rattle.gate_schedules.proofs.Prelude.{Action, AtMount, Bool, Config, GateError, Holds, HookAnswer, IsGood, IsWithin, Next, Owner, Phase}
-use Rattle.gate_schedules.proofs.Prelude.{PhaseFits, Reply, Stages, StepKeeps, Touch, Tree, View, WordName, Words, World, ap, arith, cases_Bool}
-use Rattle.gate_schedules.proofs.Prelude.{eqb_tells, false, held_of, inl, inr, is_frozen_whole, owns, refl, shown, stage_role_of, subst, suc, sym}
-use Rattle.gate_schedules.proofs.Prelude.{total, tree_bounds, true, true≢false, update, update_at, update_same, ℕ, ◌+◌, ◌<◌, ◌∙◌, ◌≡◌}
-use Rattle.access_model.specs.{Actions.marked as marked_as, States.{IsFile, is_removed, one_if}}
-use Rattle.cpu_words.specs.declared.events.Event.{Event}
-use Rattle.finite_sums.proofs.Totals.{total_at, update_map}
+use Rattle.gate_schedules.proofs.Prelude.{Action, AtMount, Bool, Bounds, Clearing, Config, Event, GateError, Holds, HookAnswer, IsGood, IsWithin}
+use Rattle.gate_schedules.proofs.Prelude.{MountHoldsIn, Next, Owner, Part, Phase, PhaseFits, Remount, RemountStep, Reply, RoleHolds, Stages}
+use Rattle.gate_schedules.proofs.Prelude.{StepKeeps, Touch, Tree, TreeState, View, WordName, Words, World, actions_after, ap, arith, at_mount}
+use Rattle.gate_schedules.proofs.Prelude.{cases_Bool, dirty_in, eqb_tells, false, has_flag, has_hold, held_at, held_of, holdings_of, inl, inr}
+use Rattle.gate_schedules.proofs.Prelude.{is_bare_at, is_frozen_whole, is_removed, marks_of, node_shown, one_if, owns, refl, remounts, removal}
+use Rattle.gate_schedules.proofs.Prelude.{ro_bit, role_of, shown, stage_role_of, subst, suc, sym, total, total_at, tree_bounds, tree_of, tree_roles}
+use Rattle.gate_schedules.proofs.Prelude.{true, true≢false, turned, update, update_at, update_map, update_same, view_with, ℕ, ◌+◌, ◌<◌, ◌∙◌, ◌≡◌}
+use Rattle.access_model.specs.{Actions.marked as marked_as, States.IsFile}
 use Rattle.gate_schedules.proofs.frames.{Frames.{left_alone, owner_same}, Owners.{locks_umount, no_remount, releases_umount, remount_stands}}
 use Rattle.gate_schedules.proofs.{frames.{SameRolesOffTree.update_twice, Stages.{nobody_owns, stages_in}}, mounts.Loads.{after_load, steady}}
 use Rattle.gate_schedules.proofs.{mounts.Parts.is_known_part, operations.remount.Fits.{give_up_fits, leave_holds_fits, leaves_below, let_go_fits}}
 use Rattle.gate_schedules.proofs.operations.remount.{Fits.{none_below, past_node_fits, state_fits}, Loop.{give_up_on, give_up_stays, leave_holds_on}}
 use Rattle.gate_schedules.proofs.operations.remount.Loop.{leave_holds_stays, let_go_on, let_go_stage, let_go_stays, loads_flags, past_node_stage}
-use Rattle.gate_schedules.proofs.operations.remount.{Loop.{past_node_stays, sets_hold, sums}, Parts.{NextRoleHolds, Mount, PartsHold, RemountKeeps}}
+use Rattle.gate_schedules.proofs.operations.remount.{Loop.{past_node_stays, sets_hold, sums}, Parts.{Mount, NextRoleHolds, PartsHold, RemountKeeps}}
 use Rattle.gate_schedules.proofs.operations.remount.Parts.{StageHolds, StaysAtStep, flags_change, here_cleared, here_fits, here_knows, load_event}
 use Rattle.gate_schedules.proofs.operations.remount.Parts.{load_found, mount_stays, node_changes, owner_on, role_stays, role_was, stage_holds, stores}
 use Rattle.gate_schedules.proofs.operations.remount.Parts.{tree_by, tree_by_two, tree_stays, tree_was, tree_where, umount_changes, whole_remount}
 use Rattle.gate_schedules.proofs.operations.remount.Roles.{give_up_role, leave_holds_role, let_go_role, no_giving, past_node_role, remount_seeks}
 use Rattle.gate_schedules.{proofs.trees.worlds.Trees.{nobody_reads, shown_clean}, specs.trees.Events.{BeginsClearing, Clears, Event as TreeEvent}}
-use Rattle.gate_schedules.specs.trees.Events.{FindsNone, GoesBare, Leaves, Opens, Passes, Seals, StopsBare, turned}
-use Rattle.gate_world.specs.{Holdings.holdings_of, Remounts.{AllBelow, RemountFits, giving_role, held_role, loop_role, remount_owns, remount_role}}
-use Rattle.gate_world.specs.{Remounts.remount_sets, Roles.{remount_stage_role, remount_tree_role}, Rules.{MountHoldsIn, Part, at_mount, marks_of}}
-use Rattle.gate_world.specs.{Rules.{remounts, role_of}, Trees.{is_bare_at, tree_of, tree_roles}, Views.{actions_after, held_at, view_with}}
-use Rattle.node_words.{proofs.ClearedMarks.{clean_stays, cleared_shown, clears_mark, directory_clean, without_mark}, specs.Nodes.{IsNode, dirty_in}}
-use Rattle.node_words.specs.Nodes.{node_shown}
-use Rattle.gated_tree.specs.Roles.{Bare, Bounds, Clearing, HasNoCharge, Out as OffTree, Role as TreeRole, RoleHolds, TreeState, charge, child_charge}
-use Rattle.gated_tree.specs.Roles.{removal, sealed_by}
+use Rattle.gate_schedules.specs.trees.Events.{FindsNone, GoesBare, Leaves, Opens, Passes, Seals, StopsBare}
+use Rattle.gate_world.specs.Remounts.{AllBelow, RemountFits, giving_role, held_role, loop_role, remount_owns, remount_role, remount_sets}
+use Rattle.gate_world.specs.Roles.{remount_stage_role, remount_tree_role}
+use Rattle.node_words.{proofs.ClearedMarks.{clean_stays, cleared_shown, clears_mark, directory_clean, without_mark}, specs.Nodes.IsNode}
+use Rattle.gated_tree.specs.Roles.{Bare, HasNoCharge, Out as OffTree, Role as TreeRole, charge, child_charge, sealed_by}
 use Rattle.mount_counts.proofs.laws.{Bits.{and_not_hold, without_hold}, MountLaws.{SeeksNone, clears_hold as mount_clears_hold, closed, empties}}
 use Rattle.mount_counts.proofs.laws.MountLaws.{is_left, marks_empty, marks_skipped, none_remounting, remounting, sealed, stores as mount_stores}
-use Rattle.mount_counts.{proofs.laws.Sets.{leaves_here, leaves_there, lowest_held, none_held}, specs.{Phases.has_flag, Remounts.at_remount}}
-use Rattle.mount_counts.specs.{Remounts.{give_up, leave_holds, let_go, past_node, remount_from}, Roles.{Empty, Out, Skipped, admitted, has_hold}}
-use Rattle.mount_counts.specs.{Roles.{past_flags, processor_of, questions_of, ro_bit, skips}, Sets.{has_mount, lowest, no_mounts, without_lowest}}
-use Rattle.mount_counts.specs.declared.{remounts.{Remount.Remount, RemountStep.RemountStep}, sets.MountSet.MountSet}
-use Rattle.freeze_laws.specs.stages.Events.{CancelsRemount, ClearsMarkReadOnly, ClearsRemount as TakesRemount, SameDuties, Locks as LocksStage}
-use Rattle.freeze_laws.specs.stages.Events.{Releases as ReleasesStage, SetsReadOnly as StoresReadOnly, SetsRemount as StoresRemount}
+use Rattle.mount_counts.{proofs.laws.Sets.{leaves_here, leaves_there, lowest_held, none_held}, specs.Remounts.{at_remount, give_up, leave_holds}}
+use Rattle.mount_counts.specs.{Remounts.{let_go, past_node, remount_from}, Roles.{Empty, Out, Skipped, admitted, past_flags, processor_of}}
+use Rattle.mount_counts.specs.{Roles.{questions_of, skips}, Sets.{has_mount, lowest, no_mounts, without_lowest}, declared.sets.MountSet.MountSet}
+use Rattle.freeze_laws.specs.stages.Events.{CancelsRemount, ClearsMarkReadOnly, ClearsRemount as TakesRemount, Locks as LocksStage}
+use Rattle.freeze_laws.specs.stages.Events.{Releases as ReleasesStage, SameDuties, SetsReadOnly as StoresReadOnly, SetsRemount as StoresRemount}
 use Rattle.freeze_laws.specs.stages.{Events.{SetsWritable as StoresWritable, playing}, Roles.{CleanBelow, IsKnown, Owning}}
 use Rattle.std.proofs.Common.{Err, None, Ok, Option, Result, Some, bit_and, eq-eqb, le-ltb, nat_lt, ne_eqb, not, option_map, ◌==◌, ◌||◌, ◌∷◌}
 use Rattle.std.proofs.lemmas.Nat.Bits.{and_pow}

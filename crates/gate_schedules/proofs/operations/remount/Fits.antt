@@ -1,14 +1,13 @@
 -- What fits after a step of a remount.
-use Rattle.gate_schedules.proofs.Prelude.{Action, Bool, Config, Fits, GateError, Holdings, HookAnswer, IsWithin, Next, Phase, PhaseFits, ap, arith}
-use Rattle.gate_schedules.proofs.Prelude.{cases_Bool, eqb_tells, false, held_after, inl, inr, map_next, phase_after, refl, sym, true, true≢false, ℕ}
-use Rattle.gate_schedules.proofs.Prelude.{◌+◌, ◌<◌, ◌∙◌, ◌≡◌}
-use Rattle.std.proofs.Common.{Option, nat_lt, ltb-true, if◌then◌else◌, Ok, Some, Err, ◌==◌, None, not}
-use Rattle.cpu_words.specs.{Names.IsWord, Touches.wrap_add, declared.sums.Sum.Sum}
-use Rattle.mount_counts.proofs.laws.Sets.{leaves_within, joins_within, joins_there, none_held, leaves_here, lowest_held, leaves_there}
-use Rattle.mount_counts.specs.{Phases.has_flag, Remounts.{give_up, leave_holds, past_node, let_go, remount_from, remount_summed, past_mount}}
-use Rattle.mount_counts.specs.{Remounts.{remount_after, remount_next, at_remount}, Sets.{no_mounts, without_lowest, with_mount, lowest, has_mount}}
-use Rattle.mount_counts.specs.declared.{remounts.{Remount.Remount, RemountStep.RemountStep}, sets.MountSet.MountSet}
-use Rattle.gate_world.specs.{Configs.extents_of, Fits.ActionFits, Remounts.{AllBelow, RemountFits}}
+use Rattle.gate_schedules.proofs.Prelude.{Action, ActionFits, Bool, Config, Fits, GateError, Holdings, HookAnswer, IsWithin, IsWord, Next, Phase}
+use Rattle.gate_schedules.proofs.Prelude.{PhaseFits, Remount, RemountStep, Sum, ap, arith, cases_Bool, eqb_tells, false, has_flag, held_after, inl}
+use Rattle.gate_schedules.proofs.Prelude.{inr, map_next, phase_after, refl, sym, true, true≢false, wrap_add, ℕ, ◌+◌, ◌<◌, ◌∙◌, ◌≡◌}
+use Rattle.std.proofs.Common.{Err, None, Ok, Option, Some, if◌then◌else◌, ltb-true, nat_lt, not, ◌==◌}
+use Rattle.mount_counts.proofs.laws.Sets.{joins_there, joins_within, leaves_here, leaves_there, leaves_within, lowest_held, none_held}
+use Rattle.mount_counts.specs.Remounts.{at_remount, give_up, leave_holds, let_go, past_mount, past_node, remount_after, remount_from, remount_next}
+use Rattle.mount_counts.specs.{Remounts.remount_summed, Sets.{has_mount, lowest, no_mounts, with_mount, without_lowest}}
+use Rattle.mount_counts.specs.declared.sets.MountSet.{MountSet}
+use Rattle.gate_world.specs.{Configs.extents_of, Remounts.{AllBelow, RemountFits}}
 use Rattle.gate_schedules.proofs.frames.OperationLaws.{by_bool}
 
 pub joins_below : (m : ℕ) (held : MountSet) → m < 8 → AllBelow m held → AllBelow (m + 1) (with_mount held m)

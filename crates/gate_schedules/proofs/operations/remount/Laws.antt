@@ -1,10 +1,9 @@
 -- All that is proved of a remount.
-use Rattle.gate_schedules.proofs.Prelude.{Bool, Config, Fits, Fitting, IsWithin, Op, Phase, Some, after_step, arith, held_of, refl, subst}
+use Rattle.gate_schedules.proofs.Prelude.{Bool, Config, Fits, Fitting, IsWithin, Op, Phase, Remount, Some, after_step, arith, held_of, refl, subst}
 use Rattle.gate_schedules.proofs.frames.{Agreeing.none_agree, OperationLaws.{OpLaws, PhaseLaws, word_among}, Snapshots.completes_none}
 use Rattle.gate_schedules.proofs.operations.remount.{Causes.{remount_own, remount_stays}, Events.remount_keeps, Fits.{remount_acts, remount_goes}}
 use Rattle.gate_schedules.proofs.operations.remount.{Fits.remount_there, Runs.remount_runs, Trace.{RemountAt, remount_inductive, remount_restores}}
 use Rattle.gate_schedules.proofs.{operations.remount.Waits.remount_waits, traces.TraceInvariant.{TraceLaws, traces_tell}}
-use Rattle.mount_counts.specs.declared.remounts.Remount.{Remount}
 
 pub remount_phase : (c : Config) (x : Remount) → PhaseLaws c (Phase.Remounts x)
 remount_phase c x = record {

@@ -1,22 +1,21 @@
 -- Steps of a remount's loop over the mounts.
-use Rattle.gate_schedules.proofs.Prelude.{AtMount, Bool, Config, HookAnswer, IsGood, IsWithin, Next, Phase, PhaseFits, Touch, View, WordName, World}
-use Rattle.gate_schedules.proofs.Prelude.{ap, arith, cases_Bool, eqb_tells, false, held_of, inl, inr, owns, refl, subst, suc, sym, ℕ, ◌+◌, ◌<◌, ◌∙◌}
-use Rattle.gate_schedules.proofs.Prelude.{◌≡◌}
-use Rattle.cpu_words.specs.{Touches.wrap_add, declared.sums.Sum.Sum}
+use Rattle.gate_schedules.proofs.Prelude.{AtMount, Bool, Clearing, Config, HookAnswer, IsGood, IsWithin, MountHoldsIn, Next, Phase, PhaseFits}
+use Rattle.gate_schedules.proofs.Prelude.{Remount, RemountStep, Sum, Touch, View, WordName, World, add-one, ap, arith, cases_Bool, eqb_tells, false}
+use Rattle.gate_schedules.proofs.Prelude.{has_flag, has_hold, held_of, inl, inr, marks_of, owns, refl, role_of, subst, suc, sym, view_with, wrap_add}
+use Rattle.gate_schedules.proofs.Prelude.{ℕ, ◌+◌, ◌<◌, ◌∙◌, ◌≡◌}
 use Rattle.gate_schedules.proofs.{frames.{OperationLaws.by_bool, Owners.no_hold}, operations.remount.Fits.{give_up_fits, joins_below}}
-use Rattle.gate_schedules.proofs.operations.remount.{Fits.past_mount_fits, Parts.{NextRoleHolds, Mount, RemountKeeps, StaysAtStep, flags_change}}
+use Rattle.gate_schedules.proofs.operations.remount.{Fits.past_mount_fits, Parts.{Mount, NextRoleHolds, RemountKeeps, StaysAtStep, flags_change}}
 use Rattle.gate_schedules.proofs.operations.remount.Parts.{here_fits, here_knows, in_loop, load_event, mount_stays, owner_on, role_was}
 use Rattle.gate_schedules.proofs.operations.remount.Roles.{give_up_role, not_passed, passed_here, passed_there, past_mount_role, remount_seeks}
 use Rattle.gate_schedules.proofs.operations.remount.Roles.{summing_here, summing_there}
-use Rattle.gate_world.specs.{Remounts.{AllBelow, giving_role, loop_role, remount_role}, Roles.remount_stage_role, Rules.{MountHoldsIn, marks_of}}
-use Rattle.gate_world.specs.{Rules.role_of, Views.view_with}
-use Rattle.gated_tree.specs.Roles.{Clearing, Out as OffTree}
+use Rattle.gate_world.specs.{Remounts.{AllBelow, giving_role, loop_role, remount_role}, Roles.remount_stage_role}
+use Rattle.gated_tree.specs.Roles.{Out as OffTree}
 use Rattle.mount_counts.proofs.laws.{Bits.{or_hold, read_only_set}, MountLaws.{SeeksNone, is_left, is_skipped, sets_hold as mount_sets_hold, sums_on}}
-use Rattle.mount_counts.{proofs.laws.{MountLaws.{sums_to_none, sums_to_some}, Sets.{joins_here, joins_there}}, specs.Phases.has_flag}
-use Rattle.mount_counts.specs.{Remounts.{at_remount, give_up, leave_holds, let_go, past_mount, past_node}, Roles.{Out, Summing, has_hold, hold_bit}}
-use Rattle.mount_counts.specs.{Sets.{has_mount, with_mount}, declared.{remounts.{Remount.Remount, RemountStep.RemountStep}, sets.MountSet.MountSet}}
+use Rattle.mount_counts.{proofs.laws.{MountLaws.{sums_to_none, sums_to_some}, Sets.{joins_here, joins_there}}, specs.Remounts.{at_remount, give_up}}
+use Rattle.mount_counts.specs.{Remounts.{leave_holds, let_go, past_mount, past_node}, Roles.{Out, Summing, hold_bit}, Sets.{has_mount, with_mount}}
+use Rattle.mount_counts.specs.declared.sets.MountSet.{MountSet}
 use Rattle.freeze_laws.specs.stages.{Events.SameDuties, Roles.{CleanBelow, Remounting}}
-use Rattle.std.proofs.Common.{None, Some, add-one, bit_or, eq-eqb, if◌then◌else◌, ltb-false, ltb-true, nat_lt, ne_eqb, ◌==◌, ◌⊎◌}
+use Rattle.std.proofs.Common.{None, Some, bit_or, eq-eqb, if◌then◌else◌, ltb-false, ltb-true, nat_lt, ne_eqb, ◌==◌, ◌⊎◌}
 
 -- what stays where the loop goes on, where holds are to be cleared, and where marks are
 past_mount_stays : (nodes mounts m : ℕ) (held : MountSet) → StaysAtStep nodes (past_mount mounts m held) 0 OffTree

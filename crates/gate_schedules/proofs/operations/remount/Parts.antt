@@ -1,27 +1,25 @@
 -- What a step of a remount may leave: each conjunct of the invariant, and the shown state.
-use Rattle.gate_schedules.proofs.Prelude.{Action, AtLevel, AtMount, Bool, Config, Fits, Fitting, Holdings, Holds, HookAnswer, IsGood, IsWithin, Next}
-use Rattle.gate_schedules.proofs.Prelude.{Owner, Phase, PhaseFits, Stages, StepKeeps, SyncAt, Touch, Tree, View, WordName, Words, World, after_step}
-use Rattle.gate_schedules.proofs.Prelude.{ap, arith, cases_Bool, each_updated, eqb_tells, false, held_of, inl, inr, is_frozen_whole, owns, read, refl}
-use Rattle.gate_schedules.proofs.Prelude.{shown, stage_role_of, subst, sym, tree_bounds, tree_role_of, true≢false, update, update_at, update_same, ℕ}
+use Rattle.gate_schedules.proofs.Prelude.{Action, AtLevel, AtMount, Bool, Config, Files, Fits, Fitting, HasFile, Holding, Holdings, Holds, HookAnswer}
+use Rattle.gate_schedules.proofs.Prelude.{IsGood, IsWithin, Known, KnowsStage, Moves, Next, Owner, OwnerHolds, Part, Phase, PhaseFits, Remount}
+use Rattle.gate_schedules.proofs.Prelude.{RemountStep, Sections, StageEvent, StageRole, Stages, StepKeeps, SyncAt, Touch, Tree, TreeState, View}
+use Rattle.gate_schedules.proofs.Prelude.{ViewFits, WordName, Words, World, added_by, after_step, ap, arith, at_mount, cases_Bool, closing}
+use Rattle.gate_schedules.proofs.Prelude.{each_updated, eqb_tells, false, file_of, has_open, held_of, holder_role_of, holders_in, inl, inr}
+use Rattle.gate_schedules.proofs.Prelude.{is_bare_at, is_frozen_whole, level_added_by, level_taken_by, marks_of, node_shown, openers, opens_in, owns}
+use Rattle.gate_schedules.proofs.Prelude.{read, refl, remounts, ro_bit, role_of, shown, stage_role_of, subst, sym, taken_by, tree_bounds, tree_of}
+use Rattle.gate_schedules.proofs.Prelude.{tree_role_of, tree_roles, true≢false, update, update_at, update_map, update_off, update_same, view_with, ℕ}
 use Rattle.gate_schedules.proofs.Prelude.{◌<◌, ◌∙◌, ◌≡◌}
-use Rattle.access_model.specs.States.{openers}
-use Rattle.finite_sums.proofs.Totals.{update_map, update_off}
-use Rattle.freeze_levels.specs.{Holders.holders_in, holder_laws.Roles.Apart}
+use Rattle.freeze_levels.specs.holder_laws.Roles.{Apart}
 use Rattle.gate_schedules.proofs.frames.Frames.{IsOffLevels, SameLevelCounts, SameLevelWords, added_load, holds_as, left_alone, level_left}
 use Rattle.gate_schedules.proofs.frames.Frames.{opens_left, owner_same, sections_left, shown_held, shown_still, sync_left, taken_load, view_as}
 use Rattle.gate_schedules.proofs.frames.{Holders.holders_stay, Known.{IsOwnersWork, known_after}, Owners.remount_stored, Stages.IsStageEvent}
 use Rattle.gate_schedules.proofs.{frames.{Stages.{stages_after, stages_in}, Words.load_same}, mounts.{Loads.after_load, Parts.is_known_part}}
 use Rattle.gate_schedules.proofs.{mounts.Parts.{known_is, level_added_load, level_taken_load}, trees.{Each.each_event, worlds.Trees.marks_right}}
 use Rattle.gate_schedules.{proofs.trees.worlds.Trees.{tree_after, tree_holds, tree_then, tree_within}, specs.trees.Events.Event as TreeEvent}
-use Rattle.gate_world.specs.{Fits.{HasFile, file_of}, Levels.{level_added_by, level_taken_by}, Remounts.{RemountFits, remount_owns, remount_role}}
-use Rattle.gate_world.specs.{Remounts.remount_sets, Roles.{remount_stage_role, remount_tree_role}, Rules.{Files, Holding, IsSteady, Known, Moves}}
-use Rattle.gate_world.specs.{Rules.{OwnerHolds, Part, Sections, ViewFits, at_mount, holder_role_of, marks_of, remounts, role_of}, Shown.closing}
-use Rattle.gate_world.specs.{Trees.{is_bare_at, is_sealed, tree_of, tree_roles}, Views.{added_by, has_open, taken_by, view_with}, Worlds.phase_action}
-use Rattle.node_words.specs.Nodes.{node_shown, opens_in}
-use Rattle.gated_tree.specs.Roles.{Role as TreeRole, TreeState}
-use Rattle.mount_counts.specs.{Remounts.at_remount, Roles.{MountHolds, Role, ro_bit}, declared.remounts.{Remount.Remount, RemountStep.RemountStep}}
-use Rattle.freeze_laws.specs.stages.{Events.{SameDuties, Recalls, StageEvent, playing}, Roles.{CleanBelow, IsKnown, KnowsStage, Owning, StageRole}}
-use Rattle.freeze_laws.specs.stages.Roles.{clean_by}
+use Rattle.gate_world.specs.{Remounts.{RemountFits, remount_owns, remount_role, remount_sets}, Roles.{remount_stage_role, remount_tree_role}}
+use Rattle.gate_world.specs.{Rules.IsSteady, Trees.is_sealed, Worlds.phase_action}
+use Rattle.gated_tree.specs.Roles.{Role as TreeRole}
+use Rattle.mount_counts.specs.{Remounts.at_remount, Roles.{MountHolds, Role}}
+use Rattle.freeze_laws.specs.stages.{Events.{Recalls, SameDuties, playing}, Roles.{CleanBelow, IsKnown, Owning, clean_by}}
 use Rattle.std.proofs.Common.{None, Option, Some, ◌==◌, ◌||◌}
 
 remount_work : (w : World) (x : Remount) (hook : HookAnswer) → IsOwnersWork w (Phase.Remounts x) hook

@@ -1,17 +1,17 @@
 -- A remount that finds `umount` free runs out.
-use Rattle.gate_schedules.proofs.Prelude.{Bool, Config, Err, Fits, Fitting, HookAnswer, IsWithin, Ok, Phase, PhaseFits, Words, ap, arith, cases_Bool}
-use Rattle.gate_schedules.proofs.Prelude.{eqb_tells, false, found_at, found_by, held_of, inl, inr, nat_lt, read, subst, suc, sym, total, true, update}
-use Rattle.gate_schedules.proofs.Prelude.{update_at, words_after, ℕ, ◌+◌, ◌<◌, ◌==◌, ◌∙◌, ◌≡◌, ◌≤◌}
-use Rattle.std.{proofs.lemmas.Bool.ltb-true, specs.Prelude.{◌-◌, ◌%◌, not}}
-use Rattle.finite_sums.proofs.Totals.{update_off, total_same, total_updated, total_bound}
-use Rattle.cpu_words.specs.declared.sums.Sum.{Sum}
-use Rattle.mount_counts.{proofs.laws.Sets.{lowest_held, leaves_here, leaves_there}, specs.{Phases.has_flag, Remounts.{remount_next, remount_after}}}
-use Rattle.mount_counts.specs.{Remounts.{remount_from, past_mount, let_go, leave_holds, give_up}, Sets.{has_mount, with_mount, lowest}}
-use Rattle.mount_counts.specs.{Sets.without_lowest, declared.{remounts.{Remount.Remount, RemountStep.RemountStep}, sets.MountSet.MountSet}}
+use Rattle.gate_schedules.proofs.Prelude.{Bool, Config, Err, Fits, Fitting, HookAnswer, IsUnblocked, IsWithin, Ok, Phase, PhaseEnds, PhaseFits}
+use Rattle.gate_schedules.proofs.Prelude.{RankDecreases, Remount, RemountStep, Sum, Words, ap, arith, cases_Bool, eqb_tells, false, found_at}
+use Rattle.gate_schedules.proofs.Prelude.{found_by, has_flag, held_of, inl, inr, ltb-true, nat_lt, rank, read, subst, suc, sym, total, total_updated}
+use Rattle.gate_schedules.proofs.Prelude.{true, update, update_at, update_off, words_after, ℕ, ◌+◌, ◌<◌, ◌==◌, ◌∙◌, ◌≡◌, ◌≤◌}
+use Rattle.std.specs.Prelude.{not, ◌%◌, ◌-◌}
+use Rattle.finite_sums.proofs.Totals.{total_bound, total_same}
+use Rattle.mount_counts.{proofs.laws.Sets.{leaves_here, leaves_there, lowest_held}, specs.Remounts.{give_up, leave_holds, let_go, past_mount}}
+use Rattle.mount_counts.specs.{Remounts.{remount_after, remount_from, remount_next}, Sets.{has_mount, lowest, with_mount, without_lowest}}
+use Rattle.mount_counts.specs.declared.sets.MountSet.{MountSet}
 use Rattle.percpu_rwsem.specs.SyncWords.{bit}
 use Rattle.gate_world.specs.Remounts.{RemountFits}
-use Rattle.gate_schedules.{proofs.operations.deadlocks.RankDecreases.falls_as, specs.operations.Ranks.{rank, mount_bit, held_size, loop_rank}}
-use Rattle.gate_schedules.specs.operations.{Ranks.remount_rank, Unblocked.{IsUnblocked, RemountIsUnblocked, RankDecreases, PhaseEnds}}
+use Rattle.gate_schedules.{proofs.operations.deadlocks.RankDecreases.falls_as, specs.operations.Ranks.{held_size, loop_rank, mount_bit, remount_rank}}
+use Rattle.gate_schedules.specs.operations.Unblocked.{RemountIsUnblocked}
 
 bit_le : (b : Bool) → bit b ≤ 1
 bit_le true = omega arith

@@ -1,10 +1,9 @@
 -- The roles of a remount at each mount.
-use Rattle.gate_schedules.proofs.Prelude.{Bool, arith, false, refl, true, ℕ, ◌+◌, ◌<◌, ◌≡◌}
-use Rattle.std.proofs.{Common.{nat_lt, ◌==◌, eq-eqb, ne_eqb, if◌then◌else◌}, lemmas.Bool.Decides.nat_tests}
-use Rattle.cpu_words.specs.declared.sums.Sum.{Sum}
-use Rattle.mount_counts.{proofs.laws.MountLaws.SeeksNone, specs.{Remounts.{let_go, leave_holds, give_up, past_node, past_mount}, Roles.Out}}
-use Rattle.mount_counts.specs.{Roles.{Summing, Role}, Sets.has_mount, declared.{remounts.RemountStep.RemountStep, sets.MountSet.MountSet}}
-use Rattle.gate_world.specs.Remounts.{giving_role, remount_role, loop_role, held_role, summing_role}
+use Rattle.gate_schedules.proofs.Prelude.{Bool, RemountStep, Sum, arith, false, refl, true, ℕ, ◌+◌, ◌<◌, ◌≡◌}
+use Rattle.std.proofs.{Common.{eq-eqb, if◌then◌else◌, nat_lt, ne_eqb, ◌==◌}, lemmas.Bool.Decides.nat_tests}
+use Rattle.mount_counts.{proofs.laws.MountLaws.SeeksNone, specs.{Remounts.{give_up, leave_holds, let_go, past_mount, past_node}, Roles.{Out, Role}}}
+use Rattle.mount_counts.specs.{Roles.Summing, Sets.has_mount, declared.sets.MountSet.MountSet}
+use Rattle.gate_world.specs.Remounts.{giving_role, held_role, loop_role, remount_role, summing_role}
 use Rattle.gate_schedules.proofs.frames.OperationLaws.{by_bool}
 use mathlib.Core.Bool.{true}
 

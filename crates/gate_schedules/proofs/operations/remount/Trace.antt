@@ -1,14 +1,14 @@
 -- Traces of a remount of the superblock.
-use Rattle.gate_schedules.proofs.Prelude.{Action, Bool, Config, Err, GateError, HookAnswer, IsWithin, List, Ok, Op, Phase, Reply, Result, Touch}
-use Rattle.gate_schedules.proofs.Prelude.{Traced, WordName, [], arith, cases_Bool, eq-eqb, eqb_tells, false, if◌then◌else◌, inl, inr, nat_lt, refl}
-use Rattle.gate_schedules.proofs.Prelude.{subst, suc, sym, true, ℕ, ◌+◌, ◌<◌, ◌==◌, ◌∙◌, ◌∷◌, ◌≡◌, ◌≤◌}
-use Rattle.std.{proofs.{Common.add-one, lemmas.{Bool.{ne_eqb, ltb-true, ltb-false}, List.Sums.sum_by-cons}}, specs.Prelude.◌++◌}
-use Rattle.cpu_words.specs.{Touches.{wrap_add, event_of}, declared.sums.Sum.Sum}
-use Rattle.mount_counts.specs.{Remounts.{past_mount, let_go, leave_holds, give_up}, Sets.{with_mount, without_lowest}}
-use Rattle.mount_counts.specs.declared.{remounts.RemountStep.RemountStep, sets.MountSet.MountSet}
-use Rattle.gate_world.specs.{Views.with_hook, traces.Found.{found_sealed, counts_loaded, sum_loaded, IsEachCount, each_event, finds_taken, cleans}}
-use Rattle.gate_world.specs.traces.Traces.{actions_of, IsHonestAnswer}
-use Rattle.gate_schedules.proofs.{frames.OperationLaws.by_bool, traces.{Cleans.{cleans_leave, LeaveAccesses}, TraceInvariant.InvariantAfterStep}}
+use Rattle.gate_schedules.proofs.Prelude.{Action, Bool, Config, Err, GateError, HookAnswer, IsWithin, List, Ok, Op, Phase, RemountStep, Reply, Result}
+use Rattle.gate_schedules.proofs.Prelude.{Sum, Touch, Traced, WordName, [], add-one, arith, cases_Bool, eq-eqb, eqb_tells, event_of, false}
+use Rattle.gate_schedules.proofs.Prelude.{if◌then◌else◌, inl, inr, ltb-false, ltb-true, nat_lt, ne_eqb, refl, subst, suc, sym, true, with_hook}
+use Rattle.gate_schedules.proofs.Prelude.{wrap_add, ℕ, ◌+◌, ◌<◌, ◌==◌, ◌∙◌, ◌∷◌, ◌≡◌, ◌≤◌}
+use Rattle.std.{proofs.lemmas.List.Sums.sum_by-cons, specs.Prelude.◌++◌}
+use Rattle.mount_counts.specs.{Remounts.{give_up, leave_holds, let_go, past_mount}, Sets.{with_mount, without_lowest}}
+use Rattle.mount_counts.specs.declared.sets.MountSet.{MountSet}
+use Rattle.gate_world.specs.traces.Found.{IsEachCount, cleans, counts_loaded, each_event, finds_taken, found_sealed, sum_loaded}
+use Rattle.gate_world.specs.traces.Traces.{IsHonestAnswer, actions_of}
+use Rattle.gate_schedules.proofs.{frames.OperationLaws.by_bool, traces.{Cleans.{LeaveAccesses, cleans_leave}, TraceInvariant.InvariantAfterStep}}
 use Rattle.gate_schedules.proofs.traces.TraceInvariant.{IsInductive, event_at}
 
 -- a remount of the superblock by a task, at this step

@@ -1,8 +1,8 @@
 -- A remount waits only where another task has `umount`, and is refused only for its cause.
-use Rattle.gate_schedules.proofs.Prelude.{Config, Err, GateError, HookAnswer, IsGood, List, Ok, Phase, Some, World, after_of, ap, cases_Bool}
-use Rattle.gate_schedules.proofs.Prelude.{eqb_tells, found_at, inl, inr, owns, refl, ℕ, ◌<◌, ◌≡◌}
-use Rattle.mount_counts.specs.{Phases.has_flag, Remounts.at_remount, declared.remounts.{Remount.Remount, RemountStep.RemountStep}}
-use Rattle.gate_world.specs.refusals.{KeptCauses.RemountCause, Waits.HasReason}
+use Rattle.gate_schedules.proofs.Prelude.{Config, Err, GateError, HasReason, HookAnswer, IsGood, List, Ok, Phase, Remount, RemountStep, Some, World}
+use Rattle.gate_schedules.proofs.Prelude.{after_of, ap, cases_Bool, eqb_tells, found_at, has_flag, inl, inr, owns, refl, ℕ, ◌<◌, ◌≡◌}
+use Rattle.mount_counts.specs.Remounts.{at_remount}
+use Rattle.gate_world.specs.refusals.KeptCauses.{RemountCause}
 use Rattle.gate_schedules.proofs.frames.Owners.{umount_taken}
 
 module _ (c : Config) (w : World) (earlier : List World) (good : IsGood c w) (t : ℕ) (lt : t < c.tasks) (x : Remount) where

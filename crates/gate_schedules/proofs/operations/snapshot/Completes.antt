@@ -1,13 +1,11 @@
 -- The last load of a snapshot: the tree that it has loaded is the present one.
-use Rattle.gate_schedules.proofs.Prelude.{Config, Fits, Fitting, HookAnswer, IsGood, IsWithin, None, Phase, PhaseFits, Some, Stages, Tree, TreePhase}
-use Rattle.gate_schedules.proofs.Prelude.{WordName, World, ap, arith, held_of, inl, inr, stage_role_of, subst, suc, sym, tree_bounds, tree_role_of}
-use Rattle.gate_schedules.proofs.Prelude.{true≢false, ℕ, ◌+◌, ◌<◌, ◌∙◌, ◌≡◌, ◌≤◌}
+use Rattle.gate_schedules.proofs.Prelude.{Config, Fits, Fitting, HookAnswer, IsGood, IsWithin, KnowsStage, None, Phase, PhaseFits, RoleHolds}
+use Rattle.gate_schedules.proofs.Prelude.{Snapshot, SnapshotStep, Some, Stages, Tree, TreePhase, WordName, World, ap, arith, cases_lt, held_of, inl}
+use Rattle.gate_schedules.proofs.Prelude.{inr, is_some, le-ltb, lt-ltb, stage_role_of, subst, suc, sym, tree_bounds, tree_role_of, true≢false, ℕ, ◌+◌}
+use Rattle.gate_schedules.proofs.Prelude.{◌<◌, ◌∙◌, ◌≡◌, ◌≤◌}
 use Rattle.gate_world.specs.{Moments.{CompletesNow, IsPresentTree}, traces.Snapshots.{loads_noted, snapshot_completes, values_noted}}
-use Rattle.gated_tree.specs.{Phases.at_snapshot, Roles.{RoleHolds, seen_as, tree_word}, Trees.loaded, declared.snapshots.Snapshot.Snapshot}
-use Rattle.gated_tree.specs.declared.{snapshots.SnapshotStep.SnapshotStep, trees.TreeWords.TreeWords}
+use Rattle.gated_tree.specs.{Phases.at_snapshot, Roles.{seen_as, tree_word}, Trees.loaded, declared.trees.TreeWords.TreeWords}
 use Rattle.gate_schedules.proofs.operations.{calls.NodeCauses.some_is, snapshot.Noted.{AreWords, IsLong, last_load, loaded_long, noted_long}}
-use Rattle.freeze_laws.specs.stages.Roles.{KnowsStage}
-use Rattle.std.{proofs.lemmas.Bool.{cases_lt, le-ltb, lt-ltb}, specs.Prelude.is_some}
 
 nothing_is_some : {A : Type 0} (a : A) → None ≡ Some a → ⊥
 nothing_is_some a h = true≢false (ap is_some (sym h))

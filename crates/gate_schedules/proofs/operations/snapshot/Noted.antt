@@ -1,14 +1,12 @@
 -- What the loads of a trace have noted of the tree, and what a snapshot's next load adds.
-use Rattle.gate_schedules.proofs.Prelude.{HookAnswer, Traced, WordName, ap, arith, cases_Bool, common_steps, eqb_tells, found_by, inl, inr, refl}
-use Rattle.gate_schedules.proofs.Prelude.{subst, suc, sym, zero, ℕ, ◌+◌, ◌<◌, ◌∙◌, ◌≡◌, ◌≤◌}
-use Rattle.std.proofs.{Common.{◌-◌, List, [], ◌∷◌, length, get_or-set_same, get_or-set_other}, lemmas.{Bool.{lt-ltb, le-ltb}, List.length-replicate}}
-use Rattle.std.specs.Prelude.{slice_index}
-use Rattle.cpu_words.specs.Touches.{event_of}
-use Rattle.node_words.specs.Nodes.{node_shown}
-use Rattle.gated_tree.specs.{Calls.SnapshotStepFits, Phases.snapshot_next, Roles.{Bounds, tree_word, seen_as}, Trees.{loaded, node_at}}
-use Rattle.gated_tree.specs.declared.{snapshots.{Snapshot.Snapshot, SnapshotStep.SnapshotStep}, trees.TreeWords.TreeWords}
-use Rattle.gate_schedules.specs.trees.Steps.{NotesOne, NotesLoad}
-use Rattle.gate_world.specs.{Views.with_hook, traces.{Found.is_load, Snapshots.{loads_noted, values_noted}}}
+use Rattle.gate_schedules.proofs.Prelude.{Bounds, HookAnswer, Snapshot, SnapshotStep, Traced, WordName, ap, arith, cases_Bool, common_steps}
+use Rattle.gate_schedules.proofs.Prelude.{eqb_tells, event_of, found_by, inl, inr, le-ltb, lt-ltb, node_shown, refl, subst, suc, sym, with_hook, zero}
+use Rattle.gate_schedules.proofs.Prelude.{ℕ, ◌+◌, ◌-◌, ◌<◌, ◌∙◌, ◌≡◌, ◌≤◌}
+use Rattle.std.{proofs.{Common.{List, [], get_or-set_other, get_or-set_same, length, ◌∷◌}, lemmas.List.length-replicate}, specs.Prelude.slice_index}
+use Rattle.gated_tree.specs.{Calls.SnapshotStepFits, Phases.snapshot_next, Roles.{seen_as, tree_word}, Trees.{loaded, node_at}}
+use Rattle.gated_tree.specs.declared.trees.TreeWords.{TreeWords}
+use Rattle.gate_schedules.specs.trees.Steps.{NotesLoad, NotesOne}
+use Rattle.gate_world.specs.traces.{Found.is_load, Snapshots.{loads_noted, values_noted}}
 
 -- there is room for the words of so many nodes
 abbrev pub IsLong : ℕ → TreeWords → Type 0

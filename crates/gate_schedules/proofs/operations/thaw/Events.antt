@@ -1,37 +1,34 @@
 -- The law of each step of a thaw.
-use Rattle.gate_schedules.proofs.Prelude.{Action, Config, Err, Fits, Fitting, GateError, Holdings, Holds, HookAnswer, IsGood, IsWithin, List, Next}
-use Rattle.gate_schedules.proofs.Prelude.{None, Ok, Option, Phase, PhaseFits, Reply, Result, Some, Stages, StepKeeps, Touch, Traced, View, WordName}
-use Rattle.gate_schedules.proofs.Prelude.{Words, World, ap, arith, common_steps, eqb_tells, found_by, held_of, inl, inr, is_frozen_whole, left}
-use Rattle.gate_schedules.proofs.Prelude.{map_next, owns, phase_after, put, read, refl, shown, stage_role_of, subst, suc, sym, total, tree_role_of}
-use Rattle.gate_schedules.proofs.Prelude.{update, zero, ℕ, ◌+◌, ◌<◌, ◌∙◌, ◌∷◌, ◌≡◌, ◌≤◌}
-use Rattle.gate_world.specs.{Configs.model_limits, Fits.ThawFits, Holdings.holdings_of, Levels.{level_added_after, level_added_by, level_taken_after}}
-use Rattle.gate_world.specs.{Levels.level_taken_by, Roles.{thaw_owns, thaw_holder_role, thaw_stage_role, thaw_position}, Rules.{Holding, OwnerHolds}}
-use Rattle.gate_world.specs.{Rules.{ViewFits, holder_role_of, holder_roles, marks_of, stage_roles}, Views.{actions_after, added_after, added_by}}
-use Rattle.gate_world.specs.Views.{taken_after, taken_by, view_with}
+use Rattle.gate_schedules.proofs.Prelude.{Action, Config, Err, Event, Fits, Fitting, GateError, Holding, Holdings, Holds, HookAnswer, IsGood}
+use Rattle.gate_schedules.proofs.Prelude.{IsWithin, KnowsStage, List, Next, None, Ok, Option, OwnerHolds, Phase, PhaseFits, Reply, Result, Some}
+use Rattle.gate_schedules.proofs.Prelude.{StageEvent, StageRole, Stages, StepKeeps, Thaw, ThawStep, Touch, Traced, Transition, TransitionNext}
+use Rattle.gate_schedules.proofs.Prelude.{UpWrite, UpWriteStep, View, ViewFits, WordName, Words, World, actions_after, added_by, ap, arith}
+use Rattle.gate_schedules.proofs.Prelude.{common_steps, dirty_in, eqb_tells, found_by, held_by, held_of, holder_role_of, holders_in, holdings_of, inl}
+use Rattle.gate_schedules.proofs.Prelude.{inr, is_frozen_whole, left, level_added_by, level_taken_by, map_next, marks_of, model_limits, on_exit, owns}
+use Rattle.gate_schedules.proofs.Prelude.{phase_after, put, read, refl, shown, stage_role_of, stage_roles, subst, suc, sym, taken_by, total}
+use Rattle.gate_schedules.proofs.Prelude.{transition_after, tree_role_of, up_write_after, up_write_next, update, view_with, zero, ℕ, ◌+◌, ◌-◌, ◌<◌}
+use Rattle.gate_schedules.proofs.Prelude.{◌∙◌, ◌∷◌, ◌≡◌, ◌≤◌}
+use Rattle.gate_world.specs.{Fits.ThawFits, Levels.{level_added_after, level_taken_after}, Roles.{thaw_holder_role, thaw_owns, thaw_position}}
+use Rattle.gate_world.specs.{Roles.thaw_stage_role, Rules.holder_roles, Views.{added_after, taken_after}}
 use Rattle.gate_schedules.proofs.frames.{ByPhase.thaw_owner, Frames.{added_load, taken_load}, Holders.{holders_after, holders_at, holders_stay}}
 use Rattle.gate_schedules.proofs.frames.{Holders.nobody_minds, Stages.{IsStageEvent, nobody_owns, owners_alike, stages_in}}
-use Rattle.gate_schedules.proofs.levels.{FreezeCompletes.thaws_all, LevelPositions.{LevelsHold, HasPosition, left_world, position_after_opening}}
+use Rattle.gate_schedules.proofs.levels.{FreezeCompletes.thaws_all, LevelPositions.{HasPosition, LevelsHold, left_world, position_after_opening}}
 use Rattle.gate_schedules.proofs.{levels.UpWrite.up_write_levels, mounts.Parts.{level_added_load, level_taken_load}, operations.thaw.Fits.finds_cases}
 use Rattle.gate_schedules.proofs.writers.{Owner.{lock_given, lock_taken, owner_stays}, Parts.{AsksWhere, IsWriter, LeavesRest, WriterKeeps}}
 use Rattle.gate_schedules.proofs.writers.{Parts.{WriterLaw, idle_writes, thaw_comes, thaw_work, thaws_write, whole_writer}, Stages.SameStageWords}
 use Rattle.gate_schedules.proofs.writers.Stages.{none_leaves, opened_tree, stays_there, stored_levels, writer_beside, writer_holds, writer_stores}
 use Rattle.gate_schedules.proofs.writers.Words.{reopen_leaves, tree_beside, up_write_adds, up_write_counts_none, up_write_words, writer_at_level}
-use Rattle.access_model.specs.{Holders.{held_by, is_unheld, nobody, with_holder}, declared.actions.Holders.Holders}
-use Rattle.cpu_words.specs.declared.events.Event.{Event}
-use Rattle.freeze_levels.proofs.holder_laws.{HolderLaws.roles_tell, Words.{holds_alone, holds_own, leaves_none, unpack_pack}}
-use Rattle.freeze_levels.specs.{Holders.{holders_in, word_of}, Levels.reopening, Thaws.{after_opening, at_thaw}, declared.thaws.Thaw.Thaw}
-use Rattle.freeze_levels.specs.{declared.thaws.ThawStep.ThawStep, holder_laws.Events.{Finds, Leaves as LeavesOthers, LeavesLast as LeavesNobody}}
-use Rattle.freeze_levels.specs.holder_laws.{Events.{LetsGo as LetsHoldersGo, Thaws as ThawsHolders}, Roles.{Apart, Empties, Found, between, minds}}
-use Rattle.node_words.specs.Nodes.{dirty_in}
+use Rattle.access_model.specs.{Holders.{is_unheld, nobody, with_holder}, declared.actions.Holders.Holders}
+use Rattle.freeze_levels.{proofs.holder_laws.{HolderLaws.roles_tell, Words.{holds_alone, holds_own, leaves_none, unpack_pack}}, specs.Holders.word_of}
+use Rattle.freeze_levels.specs.{Levels.reopening, Thaws.{after_opening, at_thaw}, holder_laws.Events.{Finds, Leaves as LeavesOthers}}
+use Rattle.freeze_levels.specs.holder_laws.{Events.{LeavesLast as LeavesNobody, LetsGo as LetsHoldersGo, Thaws as ThawsHolders}, Roles.Apart}
+use Rattle.freeze_levels.specs.holder_laws.Roles.{Empties, Found, between, minds}
 use Rattle.gated_tree.specs.Roles.{Out as OffTree}
-use Rattle.percpu_rwsem.specs.{SyncWords.on_exit, Transitions.transition_after, Writers.{exit_made, up_write_after, up_write_next}}
-use Rattle.percpu_rwsem.specs.declared.{transitions.{Transition.Transition, TransitionNext.TransitionNext}, writers.UpWrite.UpWrite}
-use Rattle.percpu_rwsem.specs.declared.writers.UpWriteStep.{UpWriteStep}
-use Rattle.freeze_laws.specs.stages.Events.{ClearsBlock as ClearsBlockOf, SameDuties, LeavesOne, Locks as LocksStage, Recalls}
-use Rattle.freeze_laws.specs.stages.Events.{Releases as ReleasesStage, StageEvent, Stays, Thaws as StoresThaw, ThawsAtOnce}
-use Rattle.freeze_laws.specs.stages.{Events.{action_of as stage_action_of, playing}, Roles.{CleanBelow, KnowsStage, Owning, Reopening, StageRole}}
-use Rattle.freeze_laws.specs.stages.{Roles.{clean_by, is_full, owns as stage_owns}, Shown.state_after}
-use Rattle.std.{proofs.Common.◌-◌, specs.Prelude.{false, true}}
+use Rattle.percpu_rwsem.specs.Writers.{exit_made}
+use Rattle.freeze_laws.specs.stages.Events.{ClearsBlock as ClearsBlockOf, LeavesOne, Locks as LocksStage, Recalls, Releases as ReleasesStage}
+use Rattle.freeze_laws.specs.stages.Events.{SameDuties, Stays, Thaws as StoresThaw, ThawsAtOnce, action_of as stage_action_of, playing}
+use Rattle.freeze_laws.specs.stages.{Roles.{CleanBelow, Owning, Reopening, clean_by, is_full, owns as stage_owns}, Shown.state_after}
+use Rattle.std.specs.Prelude.{false, true}
 
 none_below : (dirty : ℕ → ℕ) → CleanBelow 0 dirty
 none_below dirty n below = absurd (omega (arith, below))

@@ -1,13 +1,12 @@
 -- Each step of a thaw is one of each level, or leaves it.
-use Rattle.gate_schedules.proofs.Prelude.{Config, Err, GateError, HookAnswer, IsGood, IsWithin, Next, None, Ok, Phase, Reply, Some, Words, World}
-use Rattle.gate_schedules.proofs.Prelude.{after_step, found_at, found_by, if◌then◌else◌, is_frozen_whole, map_next, phase_after, read, refl}
-use Rattle.gate_schedules.proofs.Prelude.{words_after, ℕ, ◌<◌, ◌==◌, ◌≡◌}
-use Rattle.percpu_rwsem.specs.Writers.{up_write_next, up_write_after}
-use Rattle.freeze_levels.specs.{Holders.holders_in, Levels.reopening, Thaws.{at_thaw, thaw_after}, declared.thaws.{Thaw.Thaw, ThawStep.ThawStep}}
-use Rattle.gate_world.specs.{Views.view_after, Worlds.value_at}
+use Rattle.gate_schedules.proofs.Prelude.{Config, Err, GateError, HookAnswer, IsGood, IsWithin, Next, None, Ok, Phase, Reply, Some, Thaw, ThawStep}
+use Rattle.gate_schedules.proofs.Prelude.{Words, World, after_step, found_at, found_by, holders_in, if◌then◌else◌, is_frozen_whole, map_next}
+use Rattle.gate_schedules.proofs.Prelude.{phase_after, read, refl, up_write_after, up_write_next, value_at, view_after, words_after, ℕ, ◌<◌, ◌==◌}
+use Rattle.gate_schedules.proofs.Prelude.{◌≡◌}
+use Rattle.freeze_levels.specs.{Levels.reopening, Thaws.{at_thaw, thaw_after}}
 use Rattle.gate_schedules.proofs.{frames.{Frames.SameLevelWords, OperationLaws.by_bool}, levels.FreezeCompletes.thaws_runs}
 use Rattle.gate_schedules.proofs.levels.{LevelPositions.{HasPosition, LevelsRun}, Runs.{levels_stay_runs, up_write_runs}}
-use Rattle.gate_schedules.proofs.operations.thaw.Events.{thaw_stands, idle_stands, opening_stands, IsHere, here_fits, here_knows, here_stands}
+use Rattle.gate_schedules.proofs.operations.thaw.Events.{IsHere, here_fits, here_knows, here_stands, idle_stands, opening_stands, thaw_stands}
 use Rattle.gate_schedules.proofs.operations.thaw.Fits.{finds_cases}
 
 module _ (c : Config) (lim : IsWithin c) (w : World) (good : IsGood c w) (t : ℕ) (lt : t < c.tasks) (x : Thaw) where

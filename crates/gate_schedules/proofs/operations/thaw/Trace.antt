@@ -1,11 +1,9 @@
 -- Traces of a thaw.
-use Rattle.gate_schedules.proofs.Prelude.{Action, Config, GateError, List, Op, Phase, Reply, Result, Traced, [], arith, false, suc, true, zero, ℕ}
-use Rattle.gate_schedules.proofs.Prelude.{◌∷◌, ◌≡◌, ◌≤◌}
+use Rattle.gate_schedules.proofs.Prelude.{Action, Config, GateError, List, Op, Phase, Reply, Result, Thaw, ThawStep, Traced, UpWriteStep, [], arith}
+use Rattle.gate_schedules.proofs.Prelude.{false, suc, true, zero, ℕ, ◌∷◌, ◌≡◌, ◌≤◌}
 use Rattle.std.specs.Prelude.{◌-◌}
 use Rattle.access_model.specs.declared.actions.Holder.{Holder}
-use Rattle.percpu_rwsem.specs.declared.writers.UpWriteStep.{UpWriteStep}
-use Rattle.freeze_levels.specs.declared.thaws.{Thaw.Thaw, ThawStep.ThawStep}
-use Rattle.gate_world.specs.traces.{Found.{found_sealed, found_shared, each_event, finds_taken}, Traces.{actions_of, IsHonestAnswer}}
+use Rattle.gate_world.specs.traces.{Found.{each_event, finds_taken, found_sealed, found_shared}, Traces.{IsHonestAnswer, actions_of}}
 use Rattle.gate_schedules.proofs.traces.TraceInvariant.{IsInductive}
 
 -- a thaw by a task, at this step

@@ -1,9 +1,8 @@
 -- A thaw waits only where another task has `umount`, and is refused only for its cause.
-use Rattle.gate_schedules.proofs.Prelude.{Config, HookAnswer, IsGood, List, Phase, Some, World, after_of, arith, found_at, map_next, owns, ℕ, ◌<◌}
-use Rattle.gate_schedules.proofs.Prelude.{◌≡◌}
-use Rattle.percpu_rwsem.specs.{Writers.up_write_after, declared.writers.{UpWrite.UpWrite, UpWriteStep.UpWriteStep}}
-use Rattle.freeze_levels.specs.{Thaws.{at_thaw, after_opening}, declared.thaws.{Thaw.Thaw, ThawStep.ThawStep}}
-use Rattle.gate_world.specs.refusals.{KeptCauses.ThawCause, Waits.HasReason}
+use Rattle.gate_schedules.proofs.Prelude.{Config, HasReason, HookAnswer, IsGood, List, Phase, Some, Thaw, ThawStep, UpWrite, UpWriteStep, World}
+use Rattle.gate_schedules.proofs.Prelude.{after_of, arith, found_at, map_next, owns, up_write_after, ℕ, ◌<◌, ◌≡◌}
+use Rattle.freeze_levels.specs.Thaws.{after_opening, at_thaw}
+use Rattle.gate_world.specs.refusals.KeptCauses.{ThawCause}
 use Rattle.gate_schedules.proofs.frames.Owners.{umount_taken}
 
 module _ (c : Config) (w : World) (earlier : List World) (t : ℕ) where

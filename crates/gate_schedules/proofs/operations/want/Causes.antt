@@ -1,11 +1,10 @@
 -- The causes of a want's refusals, along an execution, whether the want is an operation of its own or stands in a longer one.
-use Rattle.gate_schedules.proofs.Prelude.{AtMount, Bool, Config, Err, GateError, IsGood, List, MountPhase, Next, Ok, Owner, Phase, Some, Stages}
-use Rattle.gate_schedules.proofs.Prelude.{World, ap, arith, cases_Bool, eq-eqb, eqb_tells, false, found_by, inl, inr, map_next, phase_after, read}
-use Rattle.gate_schedules.proofs.Prelude.{refl, subst, sym, true, ℕ, ◌<◌, ◌==◌, ◌∙◌, ◌∷◌, ◌≡◌}
-use Rattle.mount_counts.{proofs.laws.Bits.{read_only_set, hold_set}, specs.{Phases.{has_flag, want_next, want_after, hold_found}, Roles.ro_bit}}
-use Rattle.mount_counts.specs.{Roles.has_hold, declared.phases.{Want.Want, WantStep.WantStep}}
-use Rattle.gate_world.specs.{Roles.want_role, Rules.role_of, refusals.{Causes.{asks, want_asks, WantRefused, WasHeld}, KeptCauses.WantCause}}
-use Rattle.gate_world.specs.refusals.KeptCauses.{CauseOf}
+use Rattle.gate_schedules.proofs.Prelude.{AtMount, Bool, CauseOf, Config, Err, GateError, IsGood, List, MountPhase, Next, Ok, Owner, Phase, Some}
+use Rattle.gate_schedules.proofs.Prelude.{Stages, Want, WantStep, World, ap, arith, cases_Bool, eq-eqb, eqb_tells, false, found_by, has_flag}
+use Rattle.gate_schedules.proofs.Prelude.{has_hold, inl, inr, map_next, phase_after, read, refl, ro_bit, role_of, subst, sym, true, ℕ, ◌<◌, ◌==◌, ◌∙◌}
+use Rattle.gate_schedules.proofs.Prelude.{◌∷◌, ◌≡◌}
+use Rattle.mount_counts.{proofs.laws.Bits.{hold_set, read_only_set}, specs.Phases.{hold_found, want_after, want_next}}
+use Rattle.gate_world.specs.{Roles.want_role, refusals.{Causes.{WantRefused, WasHeld, asks, want_asks}, KeptCauses.WantCause}}
 use Rattle.gate_schedules.proofs.{frames.Owners.who_holds, traces.Moments.{or_true, question_skips, question_stands}}
 
 -- a task whose next step is that of a want, in its own operation or in a longer one, and which another transition leaves alone

@@ -1,11 +1,9 @@
 -- A want waits only where another task has HOLD set at its mount, and is refused only for its cause, whether it is an operation of its own
 -- or stands in a longer one.
-use Rattle.gate_schedules.proofs.Prelude.{AtMount, Bool, Config, Err, IsGood, List, MountPhase, Next, Ok, Phase, World, arith, false, found_by}
-use Rattle.gate_schedules.proofs.Prelude.{map_next, read, true, ℕ, ◌<◌, ◌∷◌, ◌≡◌}
-use Rattle.mount_counts.{proofs.laws.Bits.hold_set, specs.{Phases.{has_flag, want_next, want_after, hold_found}, Roles.has_hold}}
-use Rattle.mount_counts.specs.declared.phases.{Want.Want, WantStep.WantStep}
-use Rattle.gate_world.specs.{Roles.want_role, Rules.role_of, refusals.{Causes.{WantRefused, last_question}, KeptCauses.WantCause, Waits.HasCulprit}}
-use Rattle.gate_world.specs.refusals.Waits.{HasReason}
+use Rattle.gate_schedules.proofs.Prelude.{AtMount, Bool, Config, Err, HasReason, IsGood, List, MountPhase, Next, Ok, Phase, Want, WantStep, World}
+use Rattle.gate_schedules.proofs.Prelude.{arith, false, found_by, has_flag, has_hold, map_next, read, role_of, true, ℕ, ◌<◌, ◌∷◌, ◌≡◌}
+use Rattle.mount_counts.{proofs.laws.Bits.hold_set, specs.Phases.{hold_found, want_after, want_next}}
+use Rattle.gate_world.specs.{Roles.want_role, refusals.{Causes.{WantRefused, last_question}, KeptCauses.WantCause, Waits.HasCulprit}}
 use Rattle.gate_schedules.proofs.frames.Owners.{who_holds}
 
 module _ (c : Config) (w : World) (earlier : List World) (good : IsGood c w) (t : ℕ) (lt : t < c.tasks) (x : Want) where

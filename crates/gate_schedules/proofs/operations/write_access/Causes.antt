@@ -1,9 +1,9 @@
 -- The causes and the waits of a write access: those of its gate, whichever it is at.
-use Rattle.gate_schedules.proofs.Prelude.{Config, DownRead, IsGood, List, Next, Phase, World, arith, map_next, phase_after, ℕ, ◌<◌, ◌∷◌, ◌≡◌}
-use Rattle.mount_counts.specs.declared.phases.Want.{Want}
-use Rattle.composite_ops.specs.{declared.write_access.phases.WritePhase.WritePhase, write_access.Phases.{then_wants, then_gives_back}}
-use Rattle.gate_world.specs.refusals.{Causes.{asks, last_asked, WasClosed}, KeptCauses.CauseOf, Waits.HasReason}
-use Rattle.gate_schedules.proofs.operations.{readers.{Causes.{AsksNext, HasNextCause}, Waits.WhereRefused}, want.Causes.{next_asks, NextCause}}
+use Rattle.gate_schedules.proofs.Prelude.{CauseOf, Config, DownRead, HasReason, IsGood, List, Next, Phase, Want, World, WritePhase, arith, map_next}
+use Rattle.gate_schedules.proofs.Prelude.{phase_after, ℕ, ◌<◌, ◌∷◌, ◌≡◌}
+use Rattle.composite_ops.specs.write_access.Phases.{then_gives_back, then_wants}
+use Rattle.gate_world.specs.refusals.Causes.{WasClosed, asks, last_asked}
+use Rattle.gate_schedules.proofs.operations.{readers.{Causes.{AsksNext, HasNextCause}, Waits.WhereRefused}, want.Causes.{NextCause, next_asks}}
 use Rattle.gate_schedules.proofs.operations.want.Waits.{NextWaits}
 
 module _ (c : Config) (t : ℕ) (w next : World) (earlier : List World) (m p : ℕ) where

@@ -1,11 +1,10 @@
 -- The law of a step of a write access is that of its gate's step, made by a task that stands at the gate's phase.
-use Rattle.gate_schedules.proofs.Prelude.{Action, Config, Fits, Fitting, Holdings, HookAnswer, IsGood, Next, Option, Phase, PhaseFits, Some, SyncStep}
-use Rattle.gate_schedules.proofs.Prelude.{View, World, after_of, ap, arith, found_at, held_after, held_of, level_in, phase_after, shown, subst}
-use Rattle.gate_schedules.proofs.Prelude.{update_at, ℕ, ◌<◌, ◌≡◌}
+use Rattle.gate_schedules.proofs.Prelude.{Action, Config, Fits, Fitting, Holdings, HookAnswer, IsGood, Moves, Next, Option, Phase, PhaseFits, Some}
+use Rattle.gate_schedules.proofs.Prelude.{SyncStep, View, World, WritePhase, after_of, ap, arith, found_at, held_after, held_of, level_in, next_of}
+use Rattle.gate_schedules.proofs.Prelude.{phase_after, shown, subst, update_at, ℕ, ◌<◌, ◌≡◌}
 use Rattle.gate_schedules.proofs.frames.{PhaseSubstitution.{alike_of, made_keeps, rephased_good}, SameRolesOffTree.{made, made_runs_off_tree}}
 use Rattle.gate_schedules.proofs.operations.write_access.Alike.{alike_plain}
-use Rattle.gate_world.specs.{Fits.WriteFits, Rules.Moves, SameRoles.{SameRoles, at_phase, off_tree, rephased}, Work.{next_of, inner_phase}}
-use Rattle.composite_ops.specs.declared.write_access.phases.WritePhase.{WritePhase}
+use Rattle.gate_world.specs.{Fits.WriteFits, SameRoles.{SameRoles, at_phase, off_tree, rephased}, Work.inner_phase}
 
 -- the phase of its gate fits
 pub plain_fits : (c : Config) (t : ℕ) (held : Holdings) (x : WritePhase) → WriteFits c t held x → PhaseFits c t held (inner_phase x)

@@ -1,9 +1,9 @@
 -- All that is proved of a taking and of a return of write access, each from what is proved of its gates.
 use Rattle.gate_schedules.proofs.Prelude.{Bool, Config, DownRead, Err, Fits, GateError, Holdings, HookAnswer, IsGood, IsWithin, MountPhase, Next, Ok}
-use Rattle.gate_schedules.proofs.Prelude.{Op, Phase, Reply, Some, StepKeeps, SyncStep, World, after_step, ap, arith, false, found_at, held_after}
-use Rattle.gate_schedules.proofs.Prelude.{held_of, level_in, map_next, nat_lt, phase_after, refl, sym, sync_role_of, true, true≢false, update}
-use Rattle.gate_schedules.proofs.Prelude.{update_same, ℕ, ◌<◌, ◌∙◌, ◌∷◌, ◌≡◌, ◌≤◌}
-use Rattle.access_model.specs.Histories.{levels_of}
+use Rattle.gate_schedules.proofs.Prelude.{Op, Phase, Reply, Some, StepKeeps, SyncStep, Want, WantStep, World, WritePhase, after_step, ap, arith}
+use Rattle.gate_schedules.proofs.Prelude.{closed, down_read_after, false, found_at, held_after, held_of, holdings_of, level_in, ltb-true, map_next}
+use Rattle.gate_schedules.proofs.Prelude.{nat_lt, no_roles, phase_after, refl, role_of, sym, sync_role_of, true, true≢false, update, update_same, ℕ}
+use Rattle.gate_schedules.proofs.Prelude.{◌&&◌, ◌<◌, ◌∙◌, ◌∷◌, ◌≡◌, ◌≤◌}
 use Rattle.gate_schedules.proofs.frames.{Agreeing.none_agree, Frames.{count_none, role_on, sync_none}, OperationLaws.{OpLaws, PhaseLaws}}
 use Rattle.gate_schedules.proofs.{frames.{SameRolesOffTree.update_twice, Snapshots.completes_none}, operations.readers.Causes.read_not_closed}
 use Rattle.gate_schedules.proofs.operations.readers.{Causes.{read_own, read_stays}, Laws.{end_phase, read_phase}, Waits.read_waits}
@@ -12,12 +12,11 @@ use Rattle.gate_schedules.proofs.operations.write_access.{Alike.{alike_takes, al
 use Rattle.gate_schedules.proofs.operations.write_access.{Causes.{wants_asked, wants_cause, wants_waits}, Events.{first_world, write_fits_now}}
 use Rattle.gate_schedules.proofs.operations.write_access.{Events.{write_runs, write_step}, Trace.{DropAt, WriteAt, drop_inductive, write_inductive}}
 use Rattle.gate_schedules.proofs.{traces.TraceInvariant.{TraceLaws, traces_given_reads, traces_tell}, trees.worlds.Holders.both_true}
-use Rattle.gate_world.specs.{Fits.WriteFits, Holdings.holdings_of, Rules.role_of, SameRoles.no_roles, refusals.Causes.{asks, asks_level}}
-use Rattle.freeze_laws.specs.levels.Roles.{closed}
-use Rattle.mount_counts.specs.{Phases.want_after, declared.phases.{Want.Want, WantStep.WantStep}}
-use Rattle.percpu_rwsem.specs.Readers.{down_read_after}
-use Rattle.std.{proofs.lemmas.Bool.ltb-true, specs.Prelude.{not, ◌&&◌}}
-use Rattle.composite_ops.specs.{declared.write_access.phases.WritePhase.WritePhase, write_access.Phases.{leaves_on, then_gives_back, then_wants}}
+use Rattle.access_model.specs.Histories.{levels_of}
+use Rattle.gate_world.specs.{Fits.WriteFits, refusals.Causes.{asks, asks_level}}
+use Rattle.mount_counts.specs.Phases.{want_after}
+use Rattle.std.specs.Prelude.{not}
+use Rattle.composite_ops.specs.write_access.Phases.{leaves_on, then_gives_back, then_wants}
 
 -- what fits after a step at level 1, with the mount to come
 takes_fits : (c : Config) (t : ℕ) (held : Holdings) (m : ℕ) (r : DownRead) (found : ℕ) →

@@ -1,17 +1,14 @@
 -- Traces of a taking and of a return of write access: those of their gates, one after the other.
-use Rattle.gate_schedules.proofs.Prelude.{Action, Config, DownRead, Err, GateError, HookAnswer, List, Next, Ok, Op, Phase, Traced, [], ap, arith}
-use Rattle.gate_schedules.proofs.Prelude.{found_by, inl, map_next, refl, subst, sym, true, ℕ, ◌∷◌, ◌≡◌, ◌≤◌}
-use Rattle.std.specs.Prelude.{length}
+use Rattle.gate_schedules.proofs.Prelude.{Action, Config, DownRead, DownReadStep, Err, GateError, HookAnswer, List, Next, Ok, Op, Phase, Traced, Want}
+use Rattle.gate_schedules.proofs.Prelude.{WantStep, WritePhase, [], actions_after, ap, arith, down_read_after, down_read_next, event_of, found_by}
+use Rattle.gate_schedules.proofs.Prelude.{inl, length, map_next, next_of, refl, subst, sym, true, with_hook, ℕ, ◌∷◌, ◌≡◌, ◌≤◌}
 use Rattle.access_model.specs.declared.actions.Gate.{Gate}
-use Rattle.cpu_words.specs.Touches.{event_of}
-use Rattle.mount_counts.specs.{Phases.{want_next, want_after}, declared.phases.{Want.Want, WantStep.WantStep}}
-use Rattle.percpu_rwsem.specs.{Readers.{down_read_next, down_read_after}, declared.readers.DownReadStep.DownReadStep}
-use Rattle.composite_ops.specs.{declared.write_access.phases.WritePhase.WritePhase, write_access.Phases.{then_wants, then_gives_back}}
-use Rattle.composite_ops.specs.write_access.Phases.{next as write_next}
-use Rattle.gate_world.specs.{Views.{with_hook, actions_after}, Work.next_of, traces.{TraceStates.{WordIsValid, ReadIsValid}, Traces.IsHonest}}
-use Rattle.gate_schedules.proofs.operations.{readers.Trace.{read_at, ReadSays, ReadNext, read_event}, want.Trace.{want_at, WantSays, WantNext}}
-use Rattle.gate_schedules.proofs.{operations.want.Trace.want_event, traces.TraceInvariant.{InvariantAfter, InvariantAfterStep, IsInductive, event_at}}
-use Rattle.gate_schedules.proofs.traces.TraceInvariant.{IsInductiveGivenReads}
+use Rattle.mount_counts.specs.Phases.{want_after, want_next}
+use Rattle.composite_ops.specs.write_access.Phases.{next as write_next, then_gives_back, then_wants}
+use Rattle.gate_world.specs.traces.{TraceStates.{ReadIsValid, WordIsValid}, Traces.IsHonest}
+use Rattle.gate_schedules.proofs.operations.{readers.Trace.{ReadNext, ReadSays, read_at, read_event}, want.Trace.{WantNext, WantSays, want_at}}
+use Rattle.gate_schedules.proofs.{operations.want.Trace.want_event, traces.TraceInvariant.{InvariantAfter, InvariantAfterStep, IsInductive}}
+use Rattle.gate_schedules.proofs.traces.TraceInvariant.{IsInductiveGivenReads, event_at}
 
 -- what stands of the actions while the mount is wanted
 abbrev level_taken : List Action

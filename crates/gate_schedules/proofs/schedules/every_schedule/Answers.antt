@@ -1,8 +1,8 @@
 -- Each clause is a lemma on whole executions.
-use Rattle.gate_schedules.proofs.schedules.{Deadlocks.{whole_progress, whole_replies, whole_settles, whole_kept}, HeadlineProof.whole_run}
-use Rattle.gate_schedules.proofs.schedules.HeadlineProof.{whole_moves, whole_nobody, whole_frozen, whole_causes, whole_waits, whole_sums, whole_idle}
-use Rattle.gate_schedules.proofs.schedules.HeadlineProof.{whole_rests, whole_freezes, whole_holders, whole_trees, whole_stays, whole_snapshots}
-use Rattle.gate_schedules.proofs.schedules.{HeadlineProof.{whole_operations, whole_leads}, LevelRuns.whole_levels}
+use Rattle.gate_schedules.proofs.schedules.{Deadlocks.{whole_kept, whole_progress, whole_replies, whole_settles}, HeadlineProof.whole_causes}
+use Rattle.gate_schedules.proofs.schedules.HeadlineProof.{whole_freezes, whole_frozen, whole_holders, whole_idle, whole_leads, whole_moves}
+use Rattle.gate_schedules.proofs.schedules.HeadlineProof.{whole_nobody, whole_operations, whole_rests, whole_run, whole_snapshots, whole_stays}
+use Rattle.gate_schedules.proofs.schedules.{HeadlineProof.{whole_sums, whole_trees, whole_waits}, LevelRuns.whole_levels}
 use Rattle.gate_schedules.proofs.schedules.every_schedule.Goals as goal
 
 pub returns-clause-moves : goal.returns-clause-moves

@@ -1,5 +1,5 @@
 -- each is a lemma
-use Rattle.gate_schedules.proofs.trees.Ends.{create_ends, remove_ends, grow_ends, move_ends, mark_ends, open_ends, snapshot_ends}
+use Rattle.gate_schedules.proofs.trees.Ends.{create_ends, grow_ends, mark_ends, move_ends, open_ends, remove_ends, snapshot_ends}
 use Rattle.gate_schedules.specs.trees.Ends.{Passed}
 use Rattle.gate_schedules.proofs.trees.each_call_ends_honestly.Goals as goal
 

@@ -1,15 +1,15 @@
 -- The law of one step of a call at the tree that is no snapshot: the invariant holds after it, and it moves the shown state by its action.
-use Rattle.gate_schedules.proofs.Prelude.{Config, Fitting, Holds, HookAnswer, IsGood, IsWithin, List, Next, Option, Owner, Phase, Some, Stages}
-use Rattle.gate_schedules.proofs.Prelude.{StepKeeps, SyncAt, SyncStep, Traced, Tree, TreePhase, WordName, Words, World, after_of, after_step, ap}
-use Rattle.gate_schedules.proofs.Prelude.{arith, false, found_at, left, level_in, map_next, owns, phase_after, put, read, refl, stage_role_of, sym}
-use Rattle.gate_schedules.proofs.Prelude.{tree_role_of, true, words_after, ℕ, ◌<◌, ◌∙◌, ◌≡◌}
-use Rattle.gated_tree.specs.{Calls.{phase_role, role_after}, Phases.after}
+use Rattle.gate_schedules.proofs.Prelude.{Config, Files, Fitting, Holds, HookAnswer, IsGood, IsWithin, Known, List, Next, Option, Owner, Part, Phase}
+use Rattle.gate_schedules.proofs.Prelude.{Some, Stages, StepKeeps, SyncAt, SyncStep, Traced, Tree, TreePhase, WordName, Words, World, after_of}
+use Rattle.gate_schedules.proofs.Prelude.{after_step, ap, arith, false, found_at, left, level_in, map_next, next_of, owns, phase_after, put, read}
+use Rattle.gate_schedules.proofs.Prelude.{refl, role_after, stage_role_of, sym, tree_role_of, true, words_after, ℕ, ◌<◌, ◌∙◌, ◌≡◌}
+use Rattle.gated_tree.specs.{Calls.phase_role, Phases.after}
 use Rattle.gate_schedules.proofs.{frames.{Frames.{left_alone, unwritten}, Known.{IsOwnersWork, known_after}}, mounts.Runs.apart_run}
-use Rattle.gate_schedules.proofs.trees.worlds.Parts.{call_files, is_node_word, is_snapshot, node_word, IsBesideTree, call_view, call_found, call_next}
-use Rattle.gate_schedules.proofs.trees.worlds.Parts.{gate_parts, roles_still, call_fitting, TreeKeeps, call_keeps, call_moves, IsAtTree, words_then}
-use Rattle.gate_schedules.{proofs.trees.worlds.Parts.{view_then, beside_then, call_at, gate_words, touch_beside}, specs.trees.Steps.Notes}
+use Rattle.gate_schedules.proofs.trees.worlds.Parts.{IsAtTree, IsBesideTree, TreeKeeps, beside_then, call_at, call_files, call_fitting, call_found}
+use Rattle.gate_schedules.proofs.trees.worlds.Parts.{call_keeps, call_moves, call_next, call_view, gate_parts, gate_words, is_node_word, is_snapshot}
+use Rattle.gate_schedules.{proofs.trees.worlds.Parts.{node_word, roles_still, touch_beside, view_then, words_then}, specs.trees.Steps.Notes}
 use Rattle.freeze_laws.specs.stages.Roles.{Aside}
-use Rattle.gate_world.specs.{Roles.nodes_noted, Rules.{Files, Known, Part}, Work.next_of, traces.Snapshots.values_noted}
+use Rattle.gate_world.specs.{Roles.nodes_noted, traces.Snapshots.values_noted}
 
 -- a phase that owns nothing, has to do with no stage, and of which nothing is noted
 pub record IsPlain (p : Option Phase) : Type 0 where

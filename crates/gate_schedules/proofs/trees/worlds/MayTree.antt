@@ -1,23 +1,20 @@
 -- What a call at the tree may do: nobody else is in its way, and the model gives it leave.
-use Rattle.gate_schedules.proofs.Prelude.{Action, AtMount, Bool, Config, Fits, Fitting, Holdings, HookAnswer, IsGood, List, None, Option, Owner}
-use Rattle.gate_schedules.proofs.Prelude.{Phase, PhaseFits, Some, Traced, TreePhase, World, ap, arith, eqb_tells, false, held_of, if◌then◌else◌, inl}
-use Rattle.gate_schedules.proofs.Prelude.{inr, refl, shown, stage_role_of, subst, total, tree_bounds, tree_role_of, true, ℕ, ◌<◌, ◌==◌, ◌≡◌, ◌≤◌}
+use Rattle.gate_schedules.proofs.Prelude.{Action, AtMount, Bool, Config, Create, CreateStep, Files, Fits, Fitting, Grow, GrowStep, HasFile, Holdings}
+use Rattle.gate_schedules.proofs.Prelude.{HookAnswer, IsGood, List, Mark, MarkStep, MoveStep, MoveTo, None, OpenFile, OpenStep, Option, Owner, Phase}
+use Rattle.gate_schedules.proofs.Prelude.{PhaseFits, RemountStep, Remove, RemoveStep, Snapshot, SnapshotStep, Some, Traced, TreePhase, World, ap}
+use Rattle.gate_schedules.proofs.Prelude.{arith, at_mount, eqb_tells, false, file_of, has_open, held_at, held_of, holds_level, if◌then◌else◌, inl}
+use Rattle.gate_schedules.proofs.Prelude.{inr, is_bare_at, mark_after, model_limits, refl, remounts, role_of, shown, stage_role_of, subst, total}
+use Rattle.gate_schedules.proofs.Prelude.{total_at, total_none, tree_bounds, tree_of, tree_role_of, tree_roles, true, word_of, ℕ, ◌<◌, ◌==◌, ◌≡◌, ◌≤◌}
 use Rattle.access_model.specs.Actions.{IsWriter}
 use Rattle.cpu_words.specs.gate_counts.Gates.{BarringHolds, admitted, unread}
-use Rattle.finite_sums.proofs.Totals.{total_at, total_none}
 use Rattle.gate_schedules.proofs.trees.worlds.{Holders.{IsOpen, both_true, mount_there, none_past, writer_apart}, Roles.{close_apart, freeze_apart}}
 use Rattle.gate_schedules.{proofs.trees.worlds.Trees.{nobody_reads, sealed_frozen}, specs.trees.{Events.{HasLeave, MayClean}, Steps.MayMark}}
 use Rattle.gate_schedules.specs.trees.Steps.{TreeAllowsStep}
-use Rattle.gate_world.specs.{Configs.model_limits, Fits.{HasFile, TreeAccess, file_of}, Operations.{is_faulter, is_writer, may_mark, some_mount}}
-use Rattle.gate_world.specs.{Remounts.{loop_role, remount_role}, Roles.remount_tree_role, Rules.{Files, at_mount, remounts, role_of}}
-use Rattle.gate_world.specs.{Trees.{is_bare_at, tree_of, tree_roles}, Views.{has_open, held_at, holds_level}}
-use Rattle.node_words.specs.Nodes.{word_of}
-use Rattle.gated_tree.specs.{Calls.phase_role, Phases.{after, create_after, grow_after, mark_after, mark_done, move_after, open_after, remove_after}}
+use Rattle.gate_world.specs.{Fits.TreeAccess, Operations.{is_faulter, is_writer, may_mark, some_mount}, Remounts.{loop_role, remount_role}}
+use Rattle.gate_world.specs.Roles.{remount_tree_role}
+use Rattle.gated_tree.specs.{Calls.phase_role, Phases.{after, create_after, grow_after, mark_done, move_after, open_after, remove_after}}
 use Rattle.gated_tree.specs.{Phases.snapshot_after, Roles.{MayDirty, MayRemove, NobodyReads, bare_by, cleared, is_bare, sealed_by}}
-use Rattle.gated_tree.specs.declared.changes.{Create.Create, CreateStep.CreateStep, MoveStep.MoveStep, MoveTo.MoveTo, Remove.Remove}
-use Rattle.gated_tree.specs.declared.{changes.RemoveStep.RemoveStep, growth.{Grow.Grow, GrowStep.GrowStep}, marks.{Mark.Mark, MarkStep.MarkStep}}
-use Rattle.gated_tree.specs.declared.{opens.{OpenFile.OpenFile, OpenStep.OpenStep}, snapshots.{Snapshot.Snapshot, SnapshotStep.SnapshotStep}}
-use Rattle.mount_counts.specs.{Roles.{barring_of, mount_as_gate, skips}, Sets.has_mount, declared.remounts.RemountStep.RemountStep}
+use Rattle.mount_counts.specs.{Roles.{barring_of, mount_as_gate, skips}, Sets.has_mount}
 use Rattle.freeze_laws.specs.stages.Roles.{passed_by}
 
 pub open_unsealed : (sb stage : ℕ) → sb ≡ 0 → stage < 3 → sealed_by sb stage ≡ 0

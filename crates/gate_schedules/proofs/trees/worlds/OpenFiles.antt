@@ -1,14 +1,10 @@
 -- How many tasks have each file open, after an action of one of them.
-use Rattle.gate_schedules.proofs.Prelude.{Action, Bool, Holdings, HookAnswer, None, Option, Phase, Some, TreePhase, ap, arith, eqb_tells, false}
-use Rattle.gate_schedules.proofs.Prelude.{held_after, inl, inr, map_next, phase_after, sym, true, update, update_at, update_same, ℕ, ◌+◌, ◌<◌, ◌∙◌}
-use Rattle.gate_schedules.proofs.Prelude.{◌≡◌}
-use Rattle.std.proofs.Common.{◌-◌}
-use Rattle.finite_sums.proofs.Totals.{update_off, total_updated}
-use Rattle.access_model.specs.{Actions.tree_after, States.{Limits, State, one_if, most_tasks, openers}, declared.actions.NodeInfo.NodeInfo}
-use Rattle.node_words.specs.Nodes.{opens_in}
-use Rattle.gated_tree.specs.{Phases.after, Roles.Bounds}
-use Rattle.gate_schedules.specs.trees.Events.{TreeAllows, MovesBy, HasLeave, opens_shown, bounds_of}
-use Rattle.gate_world.specs.Fits.{HasFile, file_of}
+use Rattle.gate_schedules.proofs.Prelude.{Action, Bool, Bounds, HasFile, Holdings, HookAnswer, None, Option, Phase, Some, State, TreePhase, ap, arith}
+use Rattle.gate_schedules.proofs.Prelude.{eqb_tells, false, file_of, held_after, inl, inr, map_next, one_if, openers, opens_in, phase_after, sym}
+use Rattle.gate_schedules.proofs.Prelude.{total_updated, true, update, update_at, update_off, update_same, ℕ, ◌+◌, ◌-◌, ◌<◌, ◌∙◌, ◌≡◌}
+use Rattle.access_model.specs.{Actions.tree_after, States.{Limits, most_tasks}, declared.actions.NodeInfo.NodeInfo}
+use Rattle.gated_tree.specs.Phases.{after}
+use Rattle.gate_schedules.specs.trees.Events.{HasLeave, MovesBy, TreeAllows, bounds_of, opens_shown}
 
 -- an action's effect on the tree asks only how many tasks have its own node open
 pub same_counts : (c : Bounds) (f g : ℕ → ℕ) (tree : ℕ → Option NodeInfo) (action : Action) → TreeAllows c tree action →

@@ -1,7 +1,6 @@
 -- What the phases of each operation are not at the tree.
-use Rattle.gate_schedules.proofs.Prelude.{FreezeStep, arith, ℕ, ◌≡◌}
-use Rattle.gated_tree.specs.Roles.{cleared, is_bare, words_read, frees}
-use Rattle.composite_ops.specs.declared.file_closes.phases.ClosePhase.{ClosePhase}
+use Rattle.gate_schedules.proofs.Prelude.{ClosePhase, FreezeStep, arith, ℕ, ◌≡◌}
+use Rattle.gated_tree.specs.Roles.{cleared, frees, is_bare, words_read}
 use Rattle.gate_world.specs.Roles.{close_tree_role, freeze_tree_role}
 
 -- of a close, but that it frees its node

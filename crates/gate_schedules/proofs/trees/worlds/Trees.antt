@@ -1,18 +1,17 @@
 -- The tree of a state, as the laws of the tree have it: what a step of a task leaves of it, and what it shows.
-use Rattle.gate_schedules.proofs.Prelude.{Action, Bool, Config, Fits, Fitting, FreezeStep, Holds, IsGood, IsWithin, List, None, Option, Phase}
-use Rattle.gate_schedules.proofs.Prelude.{PhaseFits, Some, Stages, Traced, Tree, TreePhase, View, Words, World, ap, arith, eqb_tells, held_of, inl}
-use Rattle.gate_schedules.proofs.Prelude.{inr, nat_lt, refl, stage_role_of, subst, sym, tree_bounds, tree_role_of, update, ℕ, ◌<◌, ◌≡◌, ◌≤◌}
+use Rattle.gate_schedules.proofs.Prelude.{Action, AreWithin, Bool, Clearing, Config, DownWriteStep, Fits, Fitting, FreezeFits, FreezeStep, Freezing}
+use Rattle.gate_schedules.proofs.Prelude.{Holds, IsGood, IsWithin, KnowsStage, List, None, Option, Phase, PhaseFits, RemountStep, RoleHolds, Some}
+use Rattle.gate_schedules.proofs.Prelude.{Stages, ThawStep, Traced, Tree, TreeHolds, TreePhase, TreeState, UpWriteStep, View, Words, World, ap, arith}
+use Rattle.gate_schedules.proofs.Prelude.{dirty_in, eqb_tells, freeze_stage_role, held_of, inl, inr, is_bare_at, marks_of, nat_lt, node_shown, refl}
+use Rattle.gate_schedules.proofs.Prelude.{stage_role_of, stage_roles, subst, sym, total_none, tree_bounds, tree_of, tree_role_of, tree_roles, update}
+use Rattle.gate_schedules.proofs.Prelude.{ℕ, ◌<◌, ◌≡◌, ◌≤◌}
 use Rattle.access_model.specs.{States.{IsDirectory, is_dirty}, declared.actions.Holder.Holder}
-use Rattle.finite_sums.proofs.Totals.{total_none}
-use Rattle.freeze_levels.specs.declared.{freezes.FreezeStep.TheVariants.Closes, thaws.ThawStep.ThawStep}
-use Rattle.gate_world.specs.{Fits.FreezeFits, Remounts.RemountFits, Roles.{freeze_stage_role, freeze_tree_role, place_of, remount_stage_role}}
-use Rattle.gate_world.specs.{Roles.{remount_tree_role, reopening_role, thaw_stage_role, tree_stage_role}, Rules.{marks_of, stage_roles}}
-use Rattle.gate_world.specs.{Trees.{is_bare_at, is_sealed, tree_of, tree_roles}, declared.work.Phase.TheVariants.Closes}
-use Rattle.node_words.specs.Nodes.{dirty_in, kind_in, node_shown}
-use Rattle.gated_tree.specs.Roles.{AreWithin, Clearing, NobodyReads, RoleHolds, TreeHolds, TreeState, sealed_by, words_read}
-use Rattle.mount_counts.specs.declared.remounts.RemountStep.{RemountStep}
-use Rattle.percpu_rwsem.specs.declared.writers.{DownWriteStep.DownWriteStep, UpWriteStep.UpWriteStep}
-use Rattle.freeze_laws.specs.stages.Roles.{CleanBelow, Freezing, KnowsStage, MarksHold, clean_by}
+use Rattle.freeze_levels.specs.declared.freezes.FreezeStep.TheVariants.{Closes}
+use Rattle.gate_world.specs.{Remounts.RemountFits, Roles.{freeze_tree_role, place_of, remount_stage_role, remount_tree_role, reopening_role}}
+use Rattle.gate_world.specs.{Roles.{thaw_stage_role, tree_stage_role}, Trees.is_sealed, declared.work.Phase.TheVariants.Closes}
+use Rattle.node_words.specs.Nodes.{kind_in}
+use Rattle.gated_tree.specs.Roles.{NobodyReads, sealed_by, words_read}
+use Rattle.freeze_laws.specs.stages.Roles.{CleanBelow, MarksHold, clean_by}
 use Rattle.std.{proofs.lemmas.Bool.le-leb, specs.Prelude.{false, true}}
 use Rattle.gate_schedules.{proofs.trees.Each.each_event, specs.trees.Events.Event}
 

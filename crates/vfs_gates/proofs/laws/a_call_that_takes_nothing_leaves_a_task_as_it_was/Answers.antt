@@ -1,6 +1,6 @@
 -- the law is a lemma
-use Rattle.gate_steps.specs.call_events.Runs.{unit_of}
-use Rattle.vfs_gates.proofs.{Holding.{keeps, refused_call_keeps}, Rounds.{rests_after}}
+use Rattle.vfs_gates.proofs.Prelude.{unit_of}
+use Rattle.vfs_gates.proofs.{Holding.{keeps, refused_call_keeps}, Rounds.rests_after}
 use Rattle.vfs_gates.proofs.laws.a_call_that_takes_nothing_leaves_a_task_as_it_was.Goals as goal
 
 pub returns-clause-kept : goal.returns-clause-kept

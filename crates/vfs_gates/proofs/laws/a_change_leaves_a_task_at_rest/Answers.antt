@@ -1,5 +1,5 @@
 -- the law is a lemma
-use Rattle.vfs_gates.proofs.{Resting.{change_rests, change_busy}, Rounds.{made_writable}}
+use Rattle.vfs_gates.proofs.{Resting.{change_busy, change_rests}, Rounds.made_writable}
 use Rattle.vfs_gates.proofs.laws.a_change_leaves_a_task_at_rest.Goals as goal
 
 pub returns-clause-done : goal.returns-clause-done

@@ -1,5 +1,5 @@
 -- the law is a lemma
-use Rattle.vfs_gates.proofs.{Returning.{dropped}, Rounds.{given_back}}
+use Rattle.vfs_gates.proofs.{Returning.dropped, Rounds.given_back}
 use Rattle.vfs_gates.proofs.laws.a_granted_want_is_dropped.Goals as goal
 
 pub returns-clause-there : goal.returns-clause-there

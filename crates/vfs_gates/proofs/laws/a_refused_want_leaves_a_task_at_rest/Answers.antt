@@ -1,5 +1,5 @@
 -- the law is a lemma
-use Rattle.vfs_gates.proofs.Resting.{want_rests, want_adds_nothing, want_read_only}
+use Rattle.vfs_gates.proofs.Resting.{want_adds_nothing, want_read_only, want_rests}
 use Rattle.vfs_gates.proofs.laws.a_refused_want_leaves_a_task_at_rest.Goals as goal
 
 pub returns : goal.returns

@@ -1,6 +1,7 @@
-use Rattle.std.proofs.Common.{◌≡◌, ℕ, ◌+◌, List, Bool, true, length, length-set, ap, arith, sym, subst}
-use Rattle.vfs_gates.proofs.FlagSteps.{SetBelow, start_below, skip_below, more_below, end_below}
-use Rattle.vfs_gates.proofs.numbers.add_all.Goals.{then-others-i, else-others-i}
+use Rattle.vfs_gates.proofs.Prelude.{Bool, List, ap, arith, length, subst, sym, true, ℕ, ◌+◌, ◌≡◌}
+use Rattle.std.proofs.Common.{length-set}
+use Rattle.vfs_gates.proofs.{FlagSteps.{SetBelow, end_below, more_below, skip_below, start_below}, numbers.add_all.Goals.else-others-i}
+use Rattle.vfs_gates.proofs.numbers.add_all.Goals.{then-others-i}
 use Rattle.vfs_gates.proofs.numbers.add_all.Goals as goal
 
 pub loop-i-init : goal.loop-i-init

@@ -1,4 +1,5 @@
-use Rattle.std.proofs.Common.{◌≡◌, ◌<◌, ℕ, false, get_or}
+use Rattle.vfs_gates.proofs.Prelude.{false, ℕ, ◌<◌, ◌≡◌}
+use Rattle.std.proofs.Common.{get_or}
 use Rattle.vfs_gates.proofs.numbers.lowest.Given as goal
 
 abbrev pub invariant-loop-i : goal.invariant-loop-i

@@ -1,4 +1,4 @@
-use Rattle.std.proofs.Common.{◌≡◌, ℕ, arith, subst}
+use Rattle.vfs_gates.proofs.Prelude.{arith, subst, ℕ, ◌≡◌}
 use Rattle.vfs_gates.proofs.FlagSteps.{SetFromOne, start_one}
 use Rattle.vfs_gates.proofs.numbers.others_of.Goals as goal
 

@@ -1,4 +1,4 @@
-use Rattle.std.proofs.Common.{◌≡◌, length}
+use Rattle.vfs_gates.proofs.Prelude.{length, ◌≡◌}
 use Rattle.vfs_gates.proofs.FlagSteps.{SetFromOne}
 use Rattle.vfs_gates.proofs.numbers.others_of.Given as goal
 

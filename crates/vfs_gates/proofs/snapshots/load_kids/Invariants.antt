@@ -1,7 +1,6 @@
 -- the loads have led to the children of the node that is next, and are noted
-use Rattle.std.proofs.Common.{◌≡◌, ◌<◌, ◌-◌}
-use Rattle.std.specs.Prelude.{None}
-use Rattle.access_model.specs.declared.replies.Next.TheVariants.{Go}
+use Rattle.vfs_gates.proofs.Prelude.{Go, None, ◌<◌, ◌≡◌}
+use Rattle.std.proofs.Common.{◌-◌}
 use Rattle.gated_tree.specs.declared.snapshots.SnapshotStep.TheVariants.{LoadsKids}
 use Rattle.vfs_gates.specs.Noted.{Noted, snapshot_at, with_kids}
 use Rattle.vfs_gates.proofs.snapshots.load_kids.Given as goal

@@ -1,12 +1,10 @@
 -- each part goes on from what the one before it left, and what was lent has the words that were loaded
-use Rattle.std.proofs.Common.{◌≡◌, arith, sym, ap, ◌∙◌}
+use Rattle.vfs_gates.proofs.Prelude.{BufferWords, ap, arith, at_snapshot, sym, ◌∙◌, ◌≡◌}
 use Rattle.std.specs.Prelude.{length}
-use Rattle.gated_tree.specs.declared.{snapshots.SnapshotStep.TheVariants.{LoadsUsed}, trees.{Tree.{Tree}, TreeWords.{TreeWords}}}
-use Rattle.gated_tree.specs.{Lending.{with_kids as kids_lent, with_nodes as nodes_lent}, Phases.{at_snapshot}, Trees.{words_of}}
-use Rattle.gated_tree.proofs.Lent.{words_with_kids, words_with_nodes}
+use Rattle.gated_tree.{proofs.Lent.{words_with_kids, words_with_nodes}, specs.Lending.{with_kids as kids_lent, with_nodes as nodes_lent}}
+use Rattle.gated_tree.specs.{Trees.words_of, declared.{snapshots.SnapshotStep.TheVariants.LoadsUsed, trees.{Tree.Tree, TreeWords.TreeWords}}}
 use Rattle.gate_steps.proofs.call_events.Leading.{still_stands}
-use Rattle.vfs_gates.specs.Buffers.{BufferWords, completed, with_words}
-use Rattle.vfs_gates.proofs.Loading.{noted_as, noted_on, taking_leaves, used_noted}
+use Rattle.vfs_gates.{proofs.Loading.{noted_as, noted_on, taking_leaves, used_noted}, specs.Buffers.{completed, with_words}}
 use Rattle.vfs_gates.proofs.snapshots.load_words.Goals as goal
 
 pub find-used-requires-clause-leaves : goal.find-used-requires-clause-leaves

@@ -1,9 +1,8 @@
 -- each step goes on from what the one before it left
-use Rattle.std.proofs.Common.{◌≡◌, arith, refl, sym}
-use Rattle.gated_tree.specs.{declared.snapshots.SnapshotStep.TheVariants.{Locks, LoadsStage}, Phases.{at_snapshot}}
-use Rattle.gate_steps.proofs.call_events.Leading.{still_stands, led_to}
-use Rattle.vfs_gates.specs.Buffers.{BufferWords, words_in}
-use Rattle.vfs_gates.proofs.Loading.{is_frozen, lock_free, noted_as, noted_on, noted_to, unnoted}
+use Rattle.vfs_gates.proofs.Prelude.{BufferWords, arith, at_snapshot, refl, sym, ◌≡◌}
+use Rattle.gated_tree.specs.declared.snapshots.SnapshotStep.TheVariants.{LoadsStage, Locks}
+use Rattle.gate_steps.proofs.call_events.Leading.{led_to, still_stands}
+use Rattle.vfs_gates.{proofs.Loading.{is_frozen, lock_free, noted_as, noted_on, noted_to, unnoted}, specs.Buffers.words_in}
 use Rattle.vfs_gates.proofs.snapshots.take_snapshot.Goals as goal
 
 pub returns-then-taken-ne0 : goal.returns-then-taken-ne0

@@ -1,10 +1,9 @@
 -- a step of a snapshot is noted, and one of any other operation leaves the room as it is
-use Rattle.std.proofs.Common.{ap, sym, subst, ◌∙◌}
-use Rattle.std.specs.Prelude.{None}
-use Rattle.gate_world.specs.{declared.work.Phase.TheVariants.{Trees}, Views.{phase_after}, Work.{after_of}}
+use Rattle.vfs_gates.proofs.Prelude.{BufferWords, None, after_of, ap, phase_after, subst, sym, ◌∙◌}
+use Rattle.gate_world.specs.declared.work.Phase.TheVariants.{Trees}
 use Rattle.gate_steps.specs.Seating.{items_after}
-use Rattle.vfs_gates.specs.Buffers.{BufferWords, BuffersMatch, is_of_snapshot, words_in}
-use Rattle.vfs_gates.proofs.{Noting.{follows_taking}, Rooming.{follows_other, not_tree, not_snapshot}}
+use Rattle.vfs_gates.{proofs.{Noting.follows_taking, Rooming.{follows_other, not_snapshot, not_tree}}, specs.Buffers.{BuffersMatch, is_of_snapshot}}
+use Rattle.vfs_gates.specs.Buffers.{words_in}
 use Rattle.vfs_gates.proofs.buffers.SnapshotBuffers.follow.Goals as goal
 
 pub returns-in_default : goal.returns-in_default

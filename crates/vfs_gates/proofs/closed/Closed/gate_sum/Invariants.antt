@@ -1,5 +1,5 @@
-use Rattle.std.proofs.Common.{◌≡◌, ◌*◌, ◌%◌}
-use Rattle.std.specs.{Prelude.{slice_index}, Slots.{slots_items}}
+use Rattle.vfs_gates.proofs.Prelude.{◌≡◌}
+use Rattle.std.{proofs.Common.{◌%◌, ◌*◌}, specs.{Prelude.slice_index, Slots.slots_items}}
 use Rattle.finite_sums.specs.Sums.{total}
 use Rattle.cpu_words.specs.Names.{place, stride}
 use Rattle.vfs_gates.specs.Sums.{count_word}

@@ -1,8 +1,7 @@
 -- the last seat has all numbers, and they rest
-use Rattle.std.proofs.Common.{ℕ, ◌<◌, ◌≤◌, List, refl, sym, ◌∙◌, subst}
+use Rattle.vfs_gates.proofs.Prelude.{Config, DealtNumbers, Entry, List, refl, subst, sym, ℕ, ◌<◌, ◌∙◌, ◌≤◌}
 use Rattle.std.specs.Slots.{slots_items}
-use Rattle.gate_world.specs.declared.{config.Config.Config, entries.Entry.Entry}
-use Rattle.gate_steps.specs.{Seating.{DealtNumbers, times}, Tables.{IsClosing}, call_events.GhostAgrees.{AllRest}}
+use Rattle.gate_steps.specs.{Seating.times, Tables.IsClosing, call_events.GhostAgrees.AllRest}
 use Rattle.vfs_gates.{proofs.{closed_gates.Closing.ended, gates.Gates.close.Goals.After-close}, specs.Ended.EndedWith}
 use Rattle.vfs_gates.proofs.gates.Gates.close.Goals as goal
 

@@ -1,5 +1,5 @@
 -- both are lemmas
-use Rattle.gate_steps.proofs.call_events.Effects.{call_effect}
+use Rattle.vfs_gates.proofs.Prelude.{call_effect}
 use Rattle.vfs_gates.proofs.call_laws.NothingAdded.{was_so}
 use Rattle.vfs_gates.proofs.laws.in_time.a_call_takes_effect_between_call_and_return.Goals as goal
 

@@ -1,9 +1,6 @@
 -- the laws are lemmas
-use Rattle.std.proofs.Common.{List, sym, ap, subst}
-use Rattle.gate_world.specs.declared.entries.Entry.{Entry}
-use Rattle.gate_steps.specs.call_events.Grown.{StaySeen}
-use Rattle.gate_steps.proofs.call_events.Grown.{call_stays_seen, same_stays_seen, both_stay_seen, stays_seen_on}
-use Rattle.vfs_gates.specs.TaskStates.{SeatedTask}
+use Rattle.vfs_gates.proofs.Prelude.{Entry, List, SeatedTask, StaySeen, ap, subst, sym}
+use Rattle.gate_steps.proofs.call_events.Grown.{both_stay_seen, call_stays_seen, same_stays_seen, stays_seen_on}
 use Rattle.vfs_gates.proofs.laws.in_time.what_was_seen_stays_seen.Goals as goal
 
 pub returns-clause-calls : goal.returns-clause-calls

@@ -1,5 +1,5 @@
 -- the laws are lemmas
-use Rattle.std.proofs.Common.{inl, inr}
+use Rattle.vfs_gates.proofs.Prelude.{inl, inr}
 use Rattle.vfs_gates.proofs.several_tasks.Moving.{joined_first, joined_second, split_keeps}
 use Rattle.vfs_gates.proofs.laws.one_world.a_list_goes_with_its_number.Goals as goal
 

@@ -1,6 +1,5 @@
 -- the laws are lemmas
-use Rattle.std.proofs.Common.{refl}
-use Rattle.gate_world.specs.declared.operations.Op.TheVariants.{WantWrite}
+use Rattle.vfs_gates.proofs.Prelude.{WantWrite, refl}
 use Rattle.vfs_gates.proofs.several_tasks.BothShut.{both_read_only, both_shut}
 use Rattle.vfs_gates.proofs.laws.one_world.two_tasks_with_all_numbers_know_a_read_only_mount.Goals as goal
 
