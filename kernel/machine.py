@@ -1,5 +1,6 @@
 """The machine to compare with: Debian's packages, a guest made of them, and qemu, to whose second serial line one speaks."""
 
+import atexit
 import glob
 import gzip
 import hashlib
@@ -11,6 +12,7 @@ import shutil
 import subprocess
 import sys
 import tarfile
+import tempfile
 import time
 
 HERE = os.path.dirname(os.path.realpath(__file__))
@@ -255,9 +257,18 @@ def read(path):
         return file.read()
 
 
+def own_folder():
+    """A folder for what this process makes of a guest, until it ends. Another one may make its guest at the same time."""
+    os.makedirs(OUT, exist_ok=True)
+    folder = tempfile.mkdtemp(prefix="guest-", dir=OUT)
+    atexit.register(shutil.rmtree, folder, ignore_errors=True)
+    return folder
+
+
 def build_guest(folder, module, options):
     """The guest's initramfs: our init, the modules, and a disk with an ext4. Where its writes may fail it has no journal, which would be given up."""
-    init, disk, guest = f"{OUT}/init", f"{OUT}/disk.ext4", f"{OUT}/guest.cpio"
+    made = own_folder()
+    init, disk, guest = f"{made}/init", f"{made}/disk.ext4", f"{made}/guest.cpio"
     sources = [f"{HERE}/{name}.c" for name in ("init", "faults", "gate_calls", "histories", "mapped")]
     run([find("gcc"), "-O2", "-Wall", "-Wextra", "-static", "-pthread", "-o", init, *sources], "the guest's init can't be built")
     with open(disk, "wb") as file:
@@ -322,7 +333,7 @@ class Guest:
     def __init__(self, kernel, guest, processors, by, log):
         self.log = log
         self.rest = b""
-        self.said = f"{OUT}/kernel-{processors}.log"
+        self.said = f"{os.path.dirname(guest)}/kernel-{processors}.log"
         words = [find("qemu-system-x86_64"), "-accel", by, "-cpu", "max", "-smp", str(processors), "-m", "320", "-nodefaults",
                  "-display", "none", "-no-reboot", "-kernel", kernel, "-initrd", guest,
                  "-append", f"console=ttyS0 loglevel=5 panic=-1 {PARAMETERS} rcupdate.rcu_expedited=1 {' '.join(f'brd.{it}' for it in DISK_PARAMETERS.split())} rdinit=/init",

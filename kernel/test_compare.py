@@ -9,6 +9,7 @@ import os
 import re
 import tempfile
 import unittest
+import unittest.mock
 
 import gate_schedules
 import histories
@@ -254,6 +255,10 @@ class Readings(unittest.TestCase):
         self.assertEqual(told[0], schedules.CONFIG)
         self.assertTrue(told[-1].startswith("# "))
         self.assertEqual([line for line in log if line == f"replay> {told[-3]}"][:1], [f"replay> {told[-3]}"])
+
+    def test_guests_that_are_made_at_once(self):
+        with tempfile.TemporaryDirectory() as folder, unittest.mock.patch("machine.OUT", f"{folder}/out"):
+            self.assertNotEqual(machine.own_folder(), machine.own_folder())
 
     def test_what_is_no_answer(self):
         for line in ("", "0 ok", "9 ok rw:rw,rw,rw x", "0 errno rw:rw,rw,rw", "0 ok rw:rw,rw"):

@@ -66,7 +66,8 @@ def boot(release):
         raise machine.Failed("it needs busybox-static, and file")
     machine.install_programs()
     kernel, folder, _ = machine.stock(None, release, False)
-    disk, guest = f"{machine.OUT}/disk.ext4", f"{machine.OUT}/traces.cpio"
+    made = machine.own_folder()
+    disk, guest = f"{made}/disk.ext4", f"{made}/traces.cpio"
     with open(disk, "wb") as file:
         file.truncate(machine.DISK)
     machine.run([machine.find("mkfs.ext4"), "-q", "-F", disk], "the guest's disk can't be made")
