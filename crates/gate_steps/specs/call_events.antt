@@ -1,8 +1,8 @@
-pub use Rattle.gate_transitions.specs.{Answers}
-pub use Rattle.gate_transitions.specs.{TaskStates}
-pub use Rattle.gate_transitions.specs.declared.task_states.{TaskState}
-pub use Rattle.gate_transitions.specs.declared.steps.{Progress}
-pub use Rattle.gate_transitions.specs.declared.steps.{Step}
+pub use Rattle.gate_transitions.specs.Answers
+pub use Rattle.gate_transitions.specs.TaskStates
+pub use Rattle.gate_transitions.specs.declared.task_states.TaskState
+pub use Rattle.gate_transitions.specs.declared.steps.Progress
+pub use Rattle.gate_transitions.specs.declared.steps.Step
 pub use Rattle.gate_steps.specs.Histories
 pub use Rattle.gate_steps.specs.Rules
 pub use Rattle.gate_steps.specs.Seating
