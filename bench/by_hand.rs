@@ -42,11 +42,14 @@ const ROUNDS: u32 = 10_000;
 /// A node's word: the kind in bits 0 and 1, the dirty mark, the mark of a removed file, how many
 /// tasks have it open, and the size from bit 32 on.
 const FILE: u64 = 1;
+const DIRECTORY: u64 = 2;
 const KIND: u64 = 3;
 const DIRTY: u64 = 4;
 const GONE: u64 = 8;
 const OPEN: u64 = 1 << 16;
 const OPENS: u64 = 127;
+const PARENT: u64 = 1 << 8;
+const PARENTS: u64 = 63;
 const BLOCK: u64 = 1 << 32;
 
 #[derive(Debug)]
@@ -514,6 +517,95 @@ fn close(words: &Words, files: &mut [bool; 64], file: usize) -> Result<(), Refus
     Ok(())
 }
 
+fn may_change(task: &Task) -> bool {
+    task.levels[1] && task.mounts.iter().any(|held| *held != 0)
+}
+
+/// Creates a file in a directory, at the first node that is free.
+#[inline(never)]
+fn create(words: &Words, task: &Task, dir: usize, nodes: usize) -> Result<usize, Refusal> {
+    if !may_change(task) {
+        return Err(Refusal::Order);
+    }
+    if words.node(dir).load(SeqCst) & KIND != DIRECTORY {
+        return Err(Refusal::NoEntry);
+    }
+    let Some(node) = (1..nodes).find(|node| words.node(*node).load(SeqCst) == 0) else {
+        return Err(Refusal::NoSpace);
+    };
+    words.kids(dir).fetch_add(1, SeqCst);
+    let made = FILE + PARENT * dir as u64;
+    if words.node(node).compare_exchange(0, made, SeqCst, SeqCst).is_err() {
+        words.kids(dir).fetch_sub(1, SeqCst);
+        return Err(Refusal::Again);
+    }
+    Ok(node)
+}
+
+/// Removes a file that no task has open.
+#[inline(never)]
+fn remove(words: &Words, task: &Task, file: usize) -> Result<(), Refusal> {
+    if !may_change(task) {
+        return Err(Refusal::Order);
+    }
+    let node = words.node(file);
+    let found = node.load(SeqCst);
+    if found & KIND != FILE || found & GONE != 0 || found / OPEN & OPENS != 0 {
+        return Err(Refusal::NoEntry);
+    }
+    if node.compare_exchange(found, 0, SeqCst, SeqCst).is_err() {
+        return Err(Refusal::Again);
+    }
+    words.used().fetch_sub(found / BLOCK, SeqCst);
+    words.kids((found / PARENT & PARENTS) as usize).fetch_sub(1, SeqCst);
+    Ok(())
+}
+
+/// Gives a file another directory.
+#[inline(never)]
+fn move_to(words: &Words, task: &Task, file: usize, dir: usize) -> Result<(), Refusal> {
+    if !may_change(task) {
+        return Err(Refusal::Order);
+    }
+    let node = words.node(file);
+    let found = node.load(SeqCst);
+    if found & KIND != FILE || found & GONE != 0 || words.node(dir).load(SeqCst) & KIND != DIRECTORY {
+        return Err(Refusal::NoEntry);
+    }
+    words.kids(dir).fetch_add(1, SeqCst);
+    let parent = found / PARENT & PARENTS;
+    let moved = found - PARENT * parent + PARENT * dir as u64;
+    if node.compare_exchange(found, moved, SeqCst, SeqCst).is_err() {
+        words.kids(dir).fetch_sub(1, SeqCst);
+        return Err(Refusal::Again);
+    }
+    words.kids(parent as usize).fetch_sub(1, SeqCst);
+    Ok(())
+}
+
+/// Makes a file dirty, or clean.
+#[inline(never)]
+fn mark(words: &Words, task: &Task, file: usize, dirty: bool) -> Result<(), Refusal> {
+    let may_mark = if dirty {
+        task.levels[2] && task.mounts.iter().any(|held| *held != 0)
+    } else {
+        task.levels[3]
+    };
+    if !may_mark {
+        return Err(Refusal::Order);
+    }
+    let node = words.node(file);
+    let found = node.load(SeqCst);
+    if found & KIND != FILE || found & GONE != 0 {
+        return Err(Refusal::NoEntry);
+    }
+    let marked = if dirty { found | DIRTY } else { found & !DIRTY };
+    if node.compare_exchange(found, marked, SeqCst, SeqCst).is_err() {
+        return Err(Refusal::Again);
+    }
+    Ok(())
+}
+
 /// Waits longer from time to time: some turns, and then the processor is left to others.
 struct Backoff(u32);
 
@@ -637,6 +729,62 @@ fn measure_file(rounds: u32) -> Duration {
     start.elapsed()
 }
 
+/// The words of a tree, and a task that holds an access at mount 0 and is inside all levels.
+fn tree_and_task() -> (Words, Task) {
+    let words = words();
+    words.node(0).store(DIRECTORY, SeqCst);
+    let mut task = Task {
+        number: 0,
+        mounts: [0; 8],
+        levels: [false, true, true, true],
+    };
+    task.mounts[0] = 1;
+    (words, task)
+}
+
+fn measure_creates(rounds: u32) -> Duration {
+    let (words, task) = tree_and_task();
+    let start = Instant::now();
+    for _ in 0..rounds {
+        let file = create(&words, &task, 0, 2).expect("a node is free");
+        remove(&words, &task, file).expect("it is there");
+    }
+    start.elapsed()
+}
+
+fn measure_grows(rounds: u32) -> Duration {
+    let (words, task) = tree_and_task();
+    words.node(1).store(FILE, SeqCst);
+    let start = Instant::now();
+    for _ in 0..rounds {
+        grow(&words, &task, 1, rounds.into()).expect("there is room");
+    }
+    start.elapsed()
+}
+
+fn measure_moves(rounds: u32) -> Duration {
+    let (words, task) = tree_and_task();
+    words.node(1).store(DIRECTORY, SeqCst);
+    words.node(2).store(FILE, SeqCst);
+    let start = Instant::now();
+    for _ in 0..rounds {
+        move_to(&words, &task, 2, 1).expect("both are there");
+        move_to(&words, &task, 2, 0).expect("both are there");
+    }
+    start.elapsed()
+}
+
+fn measure_marks(rounds: u32) -> Duration {
+    let (words, task) = tree_and_task();
+    words.node(1).store(FILE, SeqCst);
+    let start = Instant::now();
+    for _ in 0..rounds {
+        mark(&words, &task, 1, true).expect("it is there");
+        mark(&words, &task, 1, false).expect("it is there");
+    }
+    start.elapsed()
+}
+
 fn measure_runs(tasks: usize, runs: u32) -> Duration {
     let start = Instant::now();
     for _ in 0..runs {
@@ -660,6 +808,10 @@ fn measure(asked: &[String]) -> Option<Duration> {
         "remounts" => Some(measure_remounts(size, count)),
         "snapshot" => Some(measure_snapshots(size, count)),
         "file" => Some(measure_file(count)),
+        "create-and-remove" => Some(measure_creates(count)),
+        "grow" => Some(measure_grows(count)),
+        "moves" => Some(measure_moves(count)),
+        "fault-and-flush" => Some(measure_marks(count)),
         "run" if size > 2 => Some(measure_runs(size, count)),
         _ => None,
     }

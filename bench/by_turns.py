@@ -61,6 +61,10 @@ KINDS = [
     ("remounts", (1, 8, 64), 100_000, "microseconds", microseconds),
     ("snapshot", (2, 8, 64), 100_000, "microseconds", microseconds),
     ("file", (1,), 1_000_000, "million pairs a second", millions),
+    ("create-and-remove", (1,), 1_000_000, "million pairs a second", millions),
+    ("grow", (1,), 1_000_000, "million a second", millions),
+    ("moves", (1,), 1_000_000, "million pairs a second", millions),
+    ("fault-and-flush", (1,), 1_000_000, "million pairs a second", millions),
     ("run", (4, 8, 16), 10, "thousand rounds a second", thousands),
 ]
 

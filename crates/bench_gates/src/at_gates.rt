@@ -33,6 +33,14 @@ pub(crate) enum Round {
     File,
     /// A place inside level 1, which all tasks but the first wait for while the first one has all frozen, for as many milliseconds as there are rounds.
     Wait,
+    /// A file, created and removed, by one task.
+    CreateAndRemove,
+    /// A file, made larger by one block, by one task.
+    Grow,
+    /// Two moves of a file, there and back, by one task.
+    Moves,
+    /// A page fault and a write-back of a file, by one task.
+    FaultAndFlush,
 }
 
 /// Takes an access at mount 0 and gives it back, so often, on the processor with the task's own number, and says whether each call
@@ -174,6 +182,90 @@ fn thaw_or_wait<R: Wait>(task: &mut Task, rt: &R, gates: &Gates, milliseconds: u
     task.start(rt, gates, 1, cpu).is_ok() && task.end(gates, 1, cpu).is_ok()
 }
 
+/// Creates a file in the root and removes it so often, and says whether each call was done.
+fn create_and_remove<R: Wait>(task: &mut Task, rt: &R, gates: &Gates, count: u32) -> bool
+    requires { IsFrom task.old gates.now }
+{
+    let cpu = task.number();
+    if task.want_write(rt, gates, 0, cpu).is_err() {
+        return false;
+    }
+    for _round in 0..count {
+        let Ok(file) = task.create(gates, 0, Kind::File) else {
+            return false;
+        };
+        if task.remove(gates, file).is_err() {
+            return false;
+        }
+    }
+    true
+}
+
+/// Makes a file, and makes it larger so often, and says whether each call was done.
+fn grows<R: Wait>(task: &mut Task, rt: &R, gates: &Gates, count: u32) -> bool
+    requires { IsFrom task.old gates.now }
+{
+    let cpu = task.number();
+    if task.want_write(rt, gates, 0, cpu).is_err() {
+        return false;
+    }
+    let Ok(file) = task.create(gates, 0, Kind::File) else {
+        return false;
+    };
+    for _round in 0..count {
+        if task.grow(gates, file, 1).is_err() {
+            return false;
+        }
+    }
+    true
+}
+
+/// Makes a file and a directory, and moves the file there and back so often, and says whether each call was done.
+fn moves<R: Wait>(task: &mut Task, rt: &R, gates: &Gates, count: u32) -> bool
+    requires { IsFrom task.old gates.now }
+{
+    let cpu = task.number();
+    if task.want_write(rt, gates, 0, cpu).is_err() {
+        return false;
+    }
+    let Ok(dir) = task.create(gates, 0, Kind::Dir) else {
+        return false;
+    };
+    let Ok(file) = task.create(gates, 0, Kind::File) else {
+        return false;
+    };
+    for _round in 0..count {
+        let there = task.move_to(gates, file, dir);
+        if there.is_err() || task.move_to(gates, file, 0).is_err() {
+            return false;
+        }
+    }
+    true
+}
+
+/// Makes a file, and makes it dirty and clean so often, and says whether each call was done.
+fn fault_and_flush<R: Wait>(task: &mut Task, rt: &R, gates: &Gates, count: u32) -> bool
+    requires { IsFrom task.old gates.now }
+{
+    let cpu = task.number();
+    if task.want_write(rt, gates, 0, cpu).is_err() {
+        return false;
+    }
+    let Ok(file) = task.create(gates, 0, Kind::File) else {
+        return false;
+    };
+    if task.start(rt, gates, 2, cpu).is_err() || task.start(rt, gates, 3, cpu).is_err() {
+        return false;
+    }
+    for _round in 0..count {
+        let faulted = task.fault(gates, file);
+        if faulted.is_err() || task.flush(gates, file).is_err() {
+            return false;
+        }
+    }
+    true
+}
+
 /// Does so many rounds of one kind.
 fn do_rounds<R: Wait>(task: &mut Task, rt: &R, gates: &Gates, round: Round, count: u32) -> bool
     requires { IsFrom task.old gates.now }
@@ -188,6 +280,10 @@ fn do_rounds<R: Wait>(task: &mut Task, rt: &R, gates: &Gates, round: Round, coun
         Round::Snapshot => snapshots(task, rt, gates, count),
         Round::File => open_and_close(task, rt, gates, count),
         Round::Wait => thaw_or_wait(task, rt, gates, count),
+        Round::CreateAndRemove => create_and_remove(task, rt, gates, count),
+        Round::Grow => grows(task, rt, gates, count),
+        Round::Moves => moves(task, rt, gates, count),
+        Round::FaultAndFlush => fault_and_flush(task, rt, gates, count),
     }
 }
 
@@ -275,14 +371,19 @@ pub(crate) fn measure<R: Threads + Wait + Clock + Sync>(
 ) -> Result<Duration> {
     let nodes = match round {
         Round::Snapshot => size,
+        Round::Moves => 3,
         _ => 2,
+    };
+    let capacity = match round {
+        Round::Grow => count,
+        _ => 0,
     };
     let config = Config {
         tasks: size,
         processors: size,
         mounts: 1,
         nodes,
-        capacity: 0,
+        capacity,
     };
     let threads = match round {
         Round::Mount | Round::Level | Round::WriteAccess | Round::Wait => size,

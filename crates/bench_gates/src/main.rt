@@ -25,7 +25,8 @@ Usage: bench_gates measure <WHAT> <SIZE> <COUNT>
 measure  Measures the gates, and prints nanoseconds
          WHAT   mount, level or write-access: pairs of a taken and a returned access; freeze or freeze-and-callbacks: freezes, each
                 with its thaw; remounts: remounts to read-only, each with one back; snapshot: snapshots; file: a file's opens, each with
-                its close; wait: starts behind a freeze; run: runs
+                its close; create-and-remove, grow, moves (there and back) and fault-and-flush: calls at the tree; wait: starts behind a
+                freeze; run: runs
          SIZE   Threads of the pairs, or tasks and processors, and nodes of a snapshot: 1 to 64, and at least 3 for runs. Of a wait,
                 the task that has frozen and those that wait
          COUNT  How many of them: of pairs, for each thread; of a wait, how many milliseconds

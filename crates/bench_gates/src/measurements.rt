@@ -43,6 +43,10 @@ impl Measurement {
             "snapshot" => Subject::Rounds(Round::Snapshot),
             "file" => Subject::Rounds(Round::File),
             "wait" => Subject::Rounds(Round::Wait),
+            "create-and-remove" => Subject::Rounds(Round::CreateAndRemove),
+            "grow" => Subject::Rounds(Round::Grow),
+            "moves" => Subject::Rounds(Round::Moves),
+            "fault-and-flush" => Subject::Rounds(Round::FaultAndFlush),
             "run" => Subject::Runs,
             _ => return None,
         };

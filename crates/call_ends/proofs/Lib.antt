@@ -3,4 +3,6 @@ pub mod CallingBack
 pub mod Remounting
 pub mod Reopening
 mod Beginning
+mod Begun
+mod Entering
 mod Waited

@@ -1,4 +1,5 @@
 pub mod Closings
 pub mod CallingBack
+pub mod Paths
 pub mod Remounting
 pub mod Reopenings

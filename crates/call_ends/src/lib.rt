@@ -1,15 +1,24 @@
 //! Calls done to their end: in a line where nothing stands in the way, and else step after step, however long they have to wait.
 //!
 //! In a line each step of a freeze, a thaw, a remount or a callback names its word and its touch, and what comes after it stands in code.
+//! In that of a want, a start, a change or write access each step is done only where the operation stands at its place.
 #![tactic(auto)]
 
 mod backoff;
 mod callbacks;
+mod changes;
+mod closes;
 mod closings;
 mod ends;
 mod freeze_lines;
+mod levels;
+mod lines;
+mod mounts;
+mod operations;
 mod remount_lines;
 mod thaw_lines;
+mod writes;
 
 pub use backoff::Backoff;
-pub use ends::{Waiting, run_to_reply, wait_for_reply};
+pub use ends::{run_to_reply, wait_for_reply};
+pub use operations::LinedOp;

@@ -8,8 +8,7 @@ use crate::gates::Gates;
 use crate::snapshots::snapshot_first;
 use crate::task::Task;
 use access_model::{GateError, Holder, Next};
-use call_ends::Waiting;
-use fast_paths::FastPath;
+use call_ends::LinedOp;
 use gate_steps::call_events::Progress;
 use gate_transitions::PendingOp;
 use gate_world::Op;
@@ -23,7 +22,7 @@ impl Task {
     /// Begins an operation that has this first phase, and does its steps in a line, where each hook answers Ok. Where one of them finds
     /// something else, it notes where the operation stands.
     #[inline(always)]
-    fn perform_at_once<P: Waiting>(
+    pub(crate) fn perform_at_once<P: LinedOp>(
         &mut self,
         gates: &Gates,
         op: Op,
@@ -39,35 +38,6 @@ impl Task {
         }
         let accesses = &mut self.state.accesses;
         let next = first.begin_in_line(&gates.words, &mut self.seat, accesses, op, &mut ());
-        self.waited = waits(&next);
-        match next {
-            Next::Done(answer) => Ok(Progress::Done(answer)),
-            Next::Go(under_way) | Next::Wait(under_way) => {
-                self.state.phase = Some(under_way.phase());
-                Ok(Progress::Going)
-            }
-        }
-    }
-
-    /// Begins an operation that has this first phase and asks no hook, and does its steps in a line. Where one of them finds something
-    /// else, it notes where the operation stands.
-    #[inline(always)]
-    pub(crate) fn take_at_once<P: FastPath>(
-        &mut self,
-        gates: &Gates,
-        op: Op,
-        first: P,
-    ) -> Result<Progress, GateError>
-        requires from { IsFrom self.old gates.now }
-        requires first { P.as_phase first ≡ first_phase self.old.config (own_number self.old.items) op }
-        requires other { is_of_snapshot (P.as_phase first) ≡ false }
-        ensures { BeginsAtOnce op self.old self.new result }
-    {
-        if let Err(refusal) = self.admit(op) {
-            return Err(refusal);
-        }
-        let accesses = &mut self.state.accesses;
-        let next = first.run_fast_path(&gates.words, &mut self.seat, accesses, Some(op));
         self.waited = waits(&next);
         match next {
             Next::Done(answer) => Ok(Progress::Done(answer)),
@@ -118,7 +88,7 @@ impl Task {
         ensures { BeginsAtOnce (WantWrite mount cpu) self.old self.new result }
     {
         let first = self.first_taking(mount, cpu);
-        self.take_at_once(gates, Op::WantWrite { mount, cpu }, first)
+        self.perform_at_once(gates, Op::WantWrite { mount, cpu }, first)
     }
 
     /// Begins what `callback` does, and does its steps up to one that finds something in the way, as `want_write_at_once`.

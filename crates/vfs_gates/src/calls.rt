@@ -10,13 +10,13 @@ ghost use Rattle.gate_steps.specs.call_events.Runs.{told_as, unit_of, OpUnderWay
 use crate::gates::Gates;
 use crate::task::Task;
 use access_model::{GateError, Next, Reply};
+use call_ends::LinedOp;
 use composite_ops::WritePhase;
-use fast_paths::FastPath;
 use gate_steps::call_events::Progress;
 use gate_transitions::{PendingOp, begin};
 use gate_world::{Op, Phase};
-use mount_counts::{Change, ChangeStep, MountPhase, Want, WantStep};
-use percpu_rwsem::{DownRead, DownReadStep, UpRead};
+use mount_counts::{Change, MountPhase, Want};
+use percpu_rwsem::{DownRead, UpRead};
 
 /// Why the operation was refused, or that it was done.
 pub(crate) fn outcome(answer: Result<Reply, GateError>) -> Result<(), GateError>
@@ -110,7 +110,7 @@ impl Task {
     /// Begins an operation that has a most number of steps and this first phase, and does its steps in a line. Where one of them finds
     /// something else, it notes where the operation stands and does the rest.
     #[inline(always)]
-    pub(crate) fn perform<P: FastPath>(
+    pub(crate) fn perform<P: LinedOp>(
         &mut self,
         gates: &Gates,
         op: Op,
@@ -122,7 +122,7 @@ impl Task {
         requires tries { IsBounded (most_events self.old.config op) }
         ensures { Performs op self.old self.new result }
     {
-        let begun = self.take_at_once(gates, op, first);
+        let begun = self.perform_at_once(gates, op, first);
         self.finish_begun(gates, begun)
     }
 
@@ -137,13 +137,7 @@ impl Task {
         ensures { Performs (WantOp mount cpu false) self.old self.new result }
     {
         let wait = false;
-        let step = WantStep::CountsUp;
-        let want = Want {
-            mount,
-            cpu,
-            wait,
-            step,
-        };
+        let want = Want::new(mount, cpu, wait);
         self.perform(gates, Op::Want { mount, cpu, wait }, want)
     }
 
@@ -172,13 +166,7 @@ impl Task {
         ensures { Performs (Start level cpu false) self.old self.new result }
     {
         let wait = false;
-        let read = DownRead {
-            level,
-            cpu,
-            task: self.number(),
-            wait,
-            step: DownReadStep::EntersSection,
-        };
+        let read = DownRead::new(level, cpu, self.number(), wait);
         self.perform(gates, Op::Start { level, cpu, wait }, read)
     }
 
@@ -214,14 +202,13 @@ impl Task {
     pub(crate) fn first_change(&self, mount: u8, read_only: bool, wait: bool) -> Change
         ensures { Mounts (Changes result) ≡ first_phase self.now.config (own_number self.now.items) (ChangeMount mount read_only wait) }
     {
-        Change {
+        Change::new(
             mount,
             read_only,
             wait,
-            task: self.number(),
-            processors: self.config.processors,
-            step: ChangeStep::Locks,
-        }
+            self.number(),
+            self.config.processors,
+        )
     }
 
     /// `mnt_make_readonly`, or its undoing, that doesn't wait. It takes 7 steps at most, and one for each processor, whatever other tasks do.

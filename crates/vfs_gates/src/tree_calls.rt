@@ -2,8 +2,6 @@
 
 ghost use Rattle.std.specs.Prelude.{◌≡◌, true, false, IfOk};
 ghost use Rattle.gate_world.specs.Operations.{IsNodeReply};
-ghost use Rattle.gated_tree.specs.declared.marks.MarkStep.TheVariants.{LoadsFile};
-ghost use Rattle.gated_tree.specs.declared.phases.TreePhase.TheVariants.{Mark as Marks};
 ghost use Rattle.gate_steps.specs.call_events.Runs.{told_as, node_of};
 
 use crate::calls::outcome;
@@ -11,11 +9,10 @@ use crate::gates::Gates;
 use crate::task::Task;
 use access_model::{GateError, Kind, Reply};
 use call_ends::run_to_reply;
+use composite_ops::ClosePhase;
+use gate_transitions::PendingOp;
 use gate_world::Op;
-use gated_tree::{
-    Create, CreateStep, Grow, GrowStep, Mark, MarkStep, MoveStep, MoveTo, OpenFile, OpenStep,
-    Remove, RemoveStep, TreePhase,
-};
+use gated_tree::{Create, Grow, Mark, MoveTo, OpenFile, Remove};
 use std::sync::Wait;
 
 /// Why a create was refused, or the node that it took.
@@ -29,32 +26,20 @@ fn node(answer: Result<Reply, GateError>) -> Result<u8, GateError>
     }
 }
 
-/// The first phase of a fault or a flush: a file is to get its dirty mark, or to lose it.
-fn mark(file: u8, dirty: bool) -> TreePhase
-    ensures { result ≡ Marks (record { file = file; dirty = dirty; step = LoadsFile }) }
-{
-    TreePhase::Mark(Mark {
-        file,
-        dirty,
-        step: MarkStep::LoadsFile,
-    })
-}
-
 impl Task {
     ghost use Rattle.gate_world.specs.Beginnings.{first_phase};
     ghost use Rattle.gate_world.specs.traces.Traces.{most_events};
-    ghost use Rattle.gate_world.specs.declared.work.Phase.TheVariants.{Trees};
     ghost use Rattle.vfs_gates.specs.Buffers.{is_of_snapshot};
     ghost use Rattle.gate_world.specs.declared.operations.Op.TheVariants.{Create as CreateOp, Remove as RemoveOp, Grow as GrowOp, MoveTo as MoveToOp, Fault as FaultOp, Flush as FlushOp, Snapshot as SnapshotOp, Open as OpenOp, Close as CloseOp};
     ghost use Rattle.vfs_gates.specs.TaskStates.{IsFrom, own_number};
     ghost use Rattle.gate_steps.specs.call_events.Runs.{IsBounded, Performs, Replies, the_reply};
 
-    /// Begins a call at the tree that has this first phase and a most number of steps, and does its steps until it replies.
+    /// Begins a call that has this first phase and a most number of steps, and does its steps until it replies.
     #[inline(always)]
-    fn call(&mut self, gates: &Gates, op: Op, first: TreePhase) -> Result<Reply, GateError>
+    fn call<P: PendingOp>(&mut self, gates: &Gates, op: Op, first: P) -> Result<Reply, GateError>
         requires from { IsFrom self.old gates.now }
-        requires first { Trees first ≡ first_phase self.old.config (own_number self.old.items) op }
-        requires other { is_of_snapshot (Trees first) ≡ false }
+        requires first { P.as_phase first ≡ first_phase self.old.config (own_number self.old.items) op }
+        requires other { is_of_snapshot (P.as_phase first) ≡ false }
         requires tries { IsBounded (most_events self.old.config op) }
         ensures { Replies the_reply op self.old self.new result }
     {
@@ -71,26 +56,6 @@ impl Task {
         )
     }
 
-    /// Begins an operation that waits for nobody, and does its steps until it replies, each of which is noted: a task keeps what its
-    /// snapshot loads.
-    fn run(&mut self, gates: &Gates, op: Op) -> Result<Reply, GateError>
-        requires from { IsFrom self.old gates.now }
-        requires tries { IsBounded (most_events self.old.config op) }
-        ensures { Replies the_reply op self.old self.new result }
-    {
-        self.begin(op)?;
-        self.finish(gates)
-    }
-
-    /// Begins an operation, and does its steps, each of which is noted, until it replies, however long it has to wait.
-    fn run_waiting<R: Wait>(&mut self, rt: &R, gates: &Gates, op: Op) -> Result<Reply, GateError>
-        requires { IsFrom self.old gates.now }
-        ensures { Replies the_reply op self.old self.new result }
-    {
-        self.begin(op)?;
-        self.finish_waiting(rt, gates)
-    }
-
     /// `vfs_create`, `vfs_mkdir`: makes an empty, clean file or directory in a directory, and tells the number of its node. It takes 3 steps at
     /// most, and one for each node, whatever other tasks do.
     ///
@@ -102,12 +67,7 @@ impl Task {
         requires { IsFrom self.old gates.now }
         ensures { Replies node_of (CreateOp dir kind) self.old self.new result }
     {
-        let create = TreePhase::Create(Create {
-            dir,
-            kind,
-            nodes: self.config.nodes,
-            step: CreateStep::LoadsDirectory,
-        });
+        let create = Create::new(dir, kind, self.config.nodes);
         node(self.call(gates, Op::Create { dir, kind }, create))
     }
 
@@ -122,11 +82,7 @@ impl Task {
         requires { IsFrom self.old gates.now }
         ensures { Performs (RemoveOp file) self.old self.new result }
     {
-        let remove = TreePhase::Remove(Remove {
-            file,
-            step: RemoveStep::LoadsFile,
-        });
-        outcome(self.call(gates, Op::Remove { file }, remove))
+        outcome(self.call(gates, Op::Remove { file }, Remove::new(file)))
     }
 
     /// `vfs_write` past a file's end: makes it larger by so many blocks, and dirty. It takes 5 steps at most, whatever other tasks do.
@@ -139,13 +95,8 @@ impl Task {
         requires { IsFrom self.old gates.now }
         ensures { Performs (GrowOp file blocks) self.old self.new result }
     {
-        let grow = Grow {
-            file,
-            blocks,
-            capacity: self.config.capacity,
-            step: GrowStep::LoadsFile,
-        };
-        self.perform(gates, Op::Grow { file, blocks }, grow)
+        let grow = Grow::new(file, blocks, self.config.capacity);
+        outcome(self.call(gates, Op::Grow { file, blocks }, grow))
     }
 
     /// `vfs_rename`: gives a file another directory. It takes 5 steps at most, whatever other tasks do.
@@ -158,12 +109,7 @@ impl Task {
         requires { IsFrom self.old gates.now }
         ensures { Performs (MoveToOp file dir) self.old self.new result }
     {
-        let moving = TreePhase::MoveTo(MoveTo {
-            file,
-            dir,
-            step: MoveStep::LoadsFile,
-        });
-        outcome(self.call(gates, Op::MoveTo { file, dir }, moving))
+        outcome(self.call(gates, Op::MoveTo { file, dir }, MoveTo::new(file, dir)))
     }
 
     /// `page_mkwrite`: makes a file dirty. It takes two steps at most, whatever other tasks do.
@@ -175,7 +121,7 @@ impl Task {
         requires { IsFrom self.old gates.now }
         ensures { Performs (FaultOp file) self.old self.new result }
     {
-        outcome(self.call(gates, Op::Fault { file }, mark(file, true)))
+        outcome(self.call(gates, Op::Fault { file }, Mark::new(file, true)))
     }
 
     /// A write-back: makes a file clean. It takes two steps at most, whatever other tasks do.
@@ -187,7 +133,7 @@ impl Task {
         requires { IsFrom self.old gates.now }
         ensures { Performs (FlushOp file) self.old self.new result }
     {
-        outcome(self.call(gates, Op::Flush { file }, mark(file, false)))
+        outcome(self.call(gates, Op::Flush { file }, Mark::new(file, false)))
     }
 
     /// `do_dentry_open`: opens a file, which is there until its last close, also where it is removed meanwhile. A task opens a file once. No
@@ -201,11 +147,7 @@ impl Task {
         requires { IsFrom self.old gates.now }
         ensures { Performs (OpenOp file) self.old self.new result }
     {
-        let first = TreePhase::OpenFile(OpenFile {
-            file,
-            step: OpenStep::LoadsFile,
-        });
-        outcome(self.call(gates, Op::Open { file }, first))
+        outcome(self.call(gates, Op::Open { file }, OpenFile::new(file)))
     }
 
     /// `__fput` that doesn't wait: closes a file that the task has open. The last close of a removed file frees it inside level 3, where it is
@@ -220,7 +162,8 @@ impl Task {
         ensures { Performs (CloseOp file cpu false) self.old self.new result }
     {
         let wait = false;
-        outcome(self.run(gates, Op::Close { file, cpu, wait }))
+        let close = ClosePhase::new(file, cpu, self.number(), wait);
+        outcome(self.call(gates, Op::Close { file, cpu, wait }, close))
     }
 
     /// Closes a file that the task has open (`__fput`), and waits while a freeze closes level 3. The last close of a removed file frees it and its
@@ -240,7 +183,9 @@ impl Task {
         ensures { Performs (CloseOp file cpu true) self.old self.new result }
     {
         let wait = true;
-        outcome(self.run_waiting(rt, gates, Op::Close { file, cpu, wait }))
+        let close = ClosePhase::new(file, cpu, self.number(), wait);
+        let op = Op::Close { file, cpu, wait };
+        outcome(self.perform_waiting(rt, gates, op, close, &mut ()))
     }
 
     /// A snapshot of the tree that doesn't wait, which `tree` shows from then on. It takes 4 steps at most, and two for each node, whatever

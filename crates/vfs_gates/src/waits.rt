@@ -9,12 +9,11 @@ use crate::calls::outcome;
 use crate::gates::Gates;
 use crate::task::Task;
 use access_model::{GateError, Holder, Reply};
-use call_ends::{Backoff, Waiting, wait_for_reply};
-use fast_paths::FastPath;
+use call_ends::{Backoff, LinedOp, wait_for_reply};
 use gate_steps::call_events::{Progress, TimedHooks};
 use gate_world::Op;
-use mount_counts::{Want, WantStep};
-use percpu_rwsem::{DownRead, DownReadStep};
+use mount_counts::Want;
+use percpu_rwsem::DownRead;
 use std::sync::Wait;
 
 /// Why the operation was refused, or whether a callback ran.
@@ -94,7 +93,7 @@ impl Task {
     /// Begins an operation that has this first phase, and does its steps until it replies, however long it has to wait, with the hooks of
     /// the file system.
     #[inline(always)]
-    fn perform_waiting<R: Wait, H: TimedHooks, P: Waiting>(
+    pub(crate) fn perform_waiting<R: Wait, H: TimedHooks, P: LinedOp>(
         &mut self,
         rt: &R,
         gates: &Gates,
@@ -120,7 +119,7 @@ impl Task {
     /// Begins an operation that has this first phase and asks no hook, and does its steps in a line. Where one of them finds something
     /// else, it notes where the operation stands and does the rest, however long it has to wait.
     #[inline(always)]
-    fn perform_or_wait<R: Wait, P: FastPath>(
+    fn perform_or_wait<R: Wait, P: LinedOp>(
         &mut self,
         rt: &R,
         gates: &Gates,
@@ -132,7 +131,7 @@ impl Task {
         requires other { is_of_snapshot (P.as_phase first) ≡ false }
         ensures { Performs op self.old self.new result }
     {
-        let begun = self.take_at_once(gates, op, first);
+        let begun = self.perform_at_once(gates, op, first);
         self.finish_begun_waiting(rt, gates, begun)
     }
 
@@ -152,13 +151,7 @@ impl Task {
         ensures { Performs (WantOp mount cpu true) self.old self.new result }
     {
         let wait = true;
-        let step = WantStep::CountsUp;
-        let want = Want {
-            mount,
-            cpu,
-            wait,
-            step,
-        };
+        let want = Want::new(mount, cpu, wait);
         self.perform_or_wait(rt, gates, Op::Want { mount, cpu, wait }, want)
     }
 
@@ -179,13 +172,7 @@ impl Task {
         ensures { Performs (Start level cpu true) self.old self.new result }
     {
         let wait = true;
-        let read = DownRead {
-            level,
-            cpu,
-            task: self.number(),
-            wait,
-            step: DownReadStep::EntersSection,
-        };
+        let read = DownRead::new(level, cpu, self.number(), wait);
         self.perform_or_wait(rt, gates, Op::Start { level, cpu, wait }, read)
     }
 

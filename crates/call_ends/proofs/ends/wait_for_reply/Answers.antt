@@ -13,7 +13,7 @@ step_waiting-requires g c = asking_stands c.begin_in_line-next.ensures c.require
 pub returns-in-Done-clause-seated : goal.returns-in-Done-clause-seated
 returns-in-Done-clause-seated g c =
     subst (λ n. StaysSeated c.args.gates.now (Some c.args.op) (Go (g.P.PendingOp.as_phase c.args.first)) c.args.accesses.now c.args.seat.now
-    (map_next g.P.PendingOp.as_phase n) c.args.accesses.now c.begin_in_line-next.new.seat) c.in-Done.is c.begin_in_line-next.ensures.seated
+    (map_next g.P.PendingOp.as_phase n) c.begin_in_line-next.new.accesses c.begin_in_line-next.new.seat) c.in-Done.is c.begin_in_line-next.ensures.seated
 
 pub returns-in-Done-clause-called : goal.returns-in-Done-clause-called
 returns-in-Done-clause-called g c of start before goes =

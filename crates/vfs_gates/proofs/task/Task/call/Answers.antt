@@ -1,7 +1,6 @@
--- a call at the tree: its beginning, its steps, and what the task shows then
+-- a call that has a most number of steps: its beginning, its steps, and what the task shows then
 use Rattle.std.proofs.Common.{refl, sym, ap, ◌∙◌}
 use Rattle.access_model.specs.declared.replies.Next.TheVariants.{Done}
-use Rattle.gate_world.specs.declared.work.Phase.TheVariants.{Trees}
 use Rattle.gate_steps.specs.call_events.Runs.{the_reply}
 use Rattle.vfs_gates.proofs.{Admitting.{refused_by}, Calling.{Call, Left, call_with, is_agrees, has_begun, ghost_agrees_done, ended_at}}
 use Rattle.vfs_gates.proofs.{Rooming.{room_done}, Waiting.{left_tells, waits_for_nobody}, task.Task.call.Goals.{After-run_to_reply}}
@@ -10,52 +9,54 @@ use Rattle.gate_steps.proofs.call_events.Running.{was_refused, was_done, told_wh
 use Rattle.vfs_gates.proofs.task.Task.call.Goals as goal
 
 -- the call, and what its steps have left
-abbrev call : After-run_to_reply → Call
-call c =
+abbrev call : (g : _) → After-run_to_reply g → Call
+call g c =
     call_with c.args.op c.self.inside c.args.gates.now.words.config c.args.self.now c.self.view_is c.requires.from.1 c.self.invariant.0
-    c.admit.result c.admit.ensures c.in_default.not-Err (Trees c.args.first) c.requires.first
+    c.admit.result c.admit.ensures c.in_default.not-Err (g.P.PendingOp.as_phase c.args.first) c.requires.first
 
-abbrev left : (c : After-run_to_reply) → Left (call c)
-left c = record {
+abbrev left : (g : _) (c : After-run_to_reply g) → Left (call g c)
+left g c = record {
   next = Done c.run_to_reply.result;
   accesses = c.run_to_reply.new.accesses;
   known = c.run_to_reply.new.seat.me.0;
   table = c.run_to_reply.new.seat.table_id;
   agrees = c.run_to_reply.ensures.seated.agrees;
   waits = 0;
-  went = let called = c.run_to_reply.ensures.called (call c).op (call c).start (has_begun (call c)) in
-      (called, waits_for_nobody (call c).start.config (own_number (call c).start.items) (call c).op called.trace c.requires.tries called.waits);
+  went = let called = c.run_to_reply.ensures.called (call g c).op (call g c).start (has_begun (call g c)) in
+      (called, waits_for_nobody (call g c).start.config (own_number (call g c).start.items) (call g c).op called.trace c.requires.tries called.waits);
 }
 
 pub run_to_reply-requires-clause-stands : goal.run_to_reply-requires-clause-stands
-run_to_reply-requires-clause-stands c =
+run_to_reply-requires-clause-stands g c =
     record {
       table = ap (λ (s : SeatedTask). s.table) c.self.view_is ∙ c.requires.from.0;
       agrees =
           is_agrees (call_with c.args.op c.self.inside c.args.gates.now.words.config c.args.self.now c.self.view_is c.requires.from.1 c.self.invariant.0
-          c.admit.result c.admit.ensures c.in_default.not-Err (Trees c.args.first) c.requires.first);
+          c.admit.result c.admit.ensures c.in_default.not-Err (g.P.PendingOp.as_phase c.args.first) c.requires.first);
     }
 
 pub run_to_reply-requires-clause-trying : goal.run_to_reply-requires-clause-trying
-run_to_reply-requires-clause-trying c =
+run_to_reply-requires-clause-trying g c =
     let call = call_with c.args.op c.self.inside c.args.gates.now.words.config c.args.self.now c.self.view_is c.requires.from.1 c.self.invariant.0
-    c.admit.result c.admit.ensures c.in_default.not-Err (Trees c.args.first) c.requires.first in
+    c.admit.result c.admit.ensures c.in_default.not-Err (g.P.PendingOp.as_phase c.args.first) c.requires.first in
     record { op = call.op; start = call.start; goes = has_begun call; tries = c.requires.tries }
 
 pub invariant_of-self : goal.invariant_of-self
-invariant_of-self c = (
-  ghost_agrees_done (call c) (left c) c.run_to_reply.result refl,
-  c.run_to_reply.ensures.seated.same_slots ∙ c.self.invariant.1,
-  room_done (call c) _ c.requires.other c.self.invariant.2 (left c) c.run_to_reply.result refl,
-  left_tells (call c) (left c) 0 refl,
-)
+invariant_of-self g c =
+    let d = (goal.at.invariant_of-self g c).After-run_to_reply in (
+      ghost_agrees_done (call g d) (left g d) c.run_to_reply.result refl,
+      c.run_to_reply.ensures.seated.same_slots ∙ c.self.invariant.1,
+      room_done (call g d) _ c.requires.other c.self.invariant.2 (left g d) c.run_to_reply.result refl,
+      left_tells (call g d) (left g d) 0 refl,
+    )
 
 pub returns : goal.returns
-returns c =
-    was_done the_reply (call c).op (call c).start _ c.run_to_reply.result c.run_to_reply.result (sym (told_whole c.run_to_reply.result))
-    (call c).admitted (ended_at (call c) (left c) c.run_to_reply.result refl)
+returns g c =
+    let d = (goal.at.returns g c).After-run_to_reply in
+    was_done the_reply (call g d).op (call g d).start _ c.run_to_reply.result c.run_to_reply.result (sym (told_whole c.run_to_reply.result))
+    (call g d).admitted (ended_at (call g d) (left g d) c.run_to_reply.result refl)
 
 pub returns-in-Err : goal.returns-in-Err
-returns-in-Err c =
+returns-in-Err g c =
     was_refused the_reply c.args.op c.args.self.now c.args.self.now c.in-Err.refusal
     (refused_by c.args.op c.args.self.now c.in-Err.refusal (sym c.in-Err.is ∙ c.admit.ensures)) refl

@@ -21,7 +21,7 @@ call g c =
 abbrev left : (g : _) (c : After-begin_in_line-next g) → Left (call g c)
 left g c = record {
   next = map_next g.P.PendingOp.as_phase c.begin_in_line-next.result;
-  accesses = c.self.inside.state.accesses;
+  accesses = c.begin_in_line-next.new.accesses;
   known = c.begin_in_line-next.new.seat.me.0;
   table = c.begin_in_line-next.new.seat.table_id;
   agrees = c.begin_in_line-next.ensures.seated.agrees;

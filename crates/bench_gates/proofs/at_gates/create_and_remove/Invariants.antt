@@ -1,0 +1,6 @@
+-- The task comes from the gates.
+use Rattle.vfs_gates.specs.TaskStates.{IsFrom}
+use Rattle.bench_gates.proofs.at_gates.create_and_remove.Given as goal
+
+abbrev pub invariant-loop-round : goal.invariant-loop-round
+invariant-loop-round g l = IsFrom l.task l.gates

@@ -1,0 +1,21 @@
+-- each step of the line goes on from what the one before it left
+use Rattle.std.proofs.Common.{refl}
+use Rattle.std.specs.Prelude.{Ok}
+use Rattle.gate_steps.proofs.call_events.Leading.{led_on, led_once, seated_stands, still_stands}
+use Rattle.call_ends.proofs.changes.begin_change.Goals as goal
+
+pub step_if_at-next-requires : goal.step_if_at-next-requires
+step_if_at-next-requires c = seated_stands c.step_once-next.ensures.seated c.requires
+
+pub step_if_at-next-requires-2 : goal.step_if_at-next-requires-2
+step_if_at-next-requires-2 c = still_stands c.step_if_at-next.ensures (seated_stands c.step_once-next.ensures.seated c.requires)
+
+pub step_if_at-requires : goal.step_if_at-requires
+step_if_at-requires c = still_stands c.step_if_at-next-2.ensures (still_stands c.step_if_at-next.ensures (seated_stands c.step_once-next.ensures.seated c.requires))
+
+pub returns : goal.returns
+returns c =
+    led_on (led_once (Ok tt) refl c.step_once-next.ensures.seated c.step_once-next.ensures.asks)
+    (led_on c.step_if_at-next.ensures
+    (led_on c.step_if_at-next-2.ensures
+    c.step_if_at.ensures))

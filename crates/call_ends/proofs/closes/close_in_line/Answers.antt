@@ -1,0 +1,13 @@
+-- the second step goes on from what the first one left
+use Rattle.std.proofs.Common.{refl}
+use Rattle.std.specs.Prelude.{Ok}
+use Rattle.gate_steps.proofs.call_events.Leading.{led_on, led_once, seated_stands}
+use Rattle.call_ends.proofs.closes.close_in_line.Goals as goal
+
+pub step_if_at-requires : goal.step_if_at-requires
+step_if_at-requires c = seated_stands c.step_once-next.ensures.seated c.requires
+
+pub returns : goal.returns
+returns c =
+    led_on (led_once (Ok tt) refl c.step_once-next.ensures.seated c.step_once-next.ensures.asks)
+    c.step_if_at.ensures

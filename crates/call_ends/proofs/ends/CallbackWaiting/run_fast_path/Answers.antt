@@ -1,8 +1,0 @@
--- its line asks no hook
-use Rattle.std.proofs.Common.{refl}
-use Rattle.gate_steps.proofs.call_events.Leading.{led_unasked}
-use Rattle.call_ends.proofs.ends.CallbackWaiting.run_fast_path.Goals as goal
-
-pub returns : goal.returns
-returns g c =
-    led_unasked c.callback_in_line.ensures refl

@@ -1,0 +1,12 @@
+-- each step of the line goes on from what the one before it left
+use Rattle.std.proofs.Common.{refl}
+use Rattle.std.specs.Prelude.{Ok}
+use Rattle.gate_steps.proofs.call_events.Leading.{led_on, led_once, seated_stands}
+use Rattle.call_ends.proofs.levels.start_in_line.Goals as goal
+
+pub count_in_line-requires : goal.count_in_line-requires
+count_in_line-requires c = seated_stands c.step_once-next.ensures.seated c.requires
+
+pub returns : goal.returns
+returns c =
+    led_on (led_once (Ok tt) refl c.step_once-next.ensures.seated c.step_once-next.ensures.asks) c.count_in_line.ensures

@@ -1,0 +1,17 @@
+-- each step of the line goes on from what the one before it left
+use Rattle.std.proofs.Common.{refl}
+use Rattle.std.specs.Prelude.{Ok}
+use Rattle.gate_steps.proofs.call_events.Leading.{led_on, led_once, seated_stands, still_stands}
+use Rattle.call_ends.proofs.mounts.want_in_line.Goals as goal
+
+pub step_if_at-next-requires : goal.step_if_at-next-requires
+step_if_at-next-requires c = seated_stands c.step_once-next.ensures.seated c.requires
+
+pub ask_in_line-requires : goal.ask_in_line-requires
+ask_in_line-requires c =
+    still_stands c.step_if_at-next.ensures (seated_stands c.step_once-next.ensures.seated c.requires)
+
+pub returns : goal.returns
+returns c =
+    led_on (led_once (Ok tt) refl c.step_once-next.ensures.seated c.step_once-next.ensures.asks)
+    (led_on c.step_if_at-next.ensures c.ask_in_line.ensures)

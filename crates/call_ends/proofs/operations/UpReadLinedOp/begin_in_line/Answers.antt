@@ -1,0 +1,8 @@
+-- its line is its one step, which reads no answer of a hook
+use Rattle.std.proofs.Common.{refl}
+use Rattle.std.specs.Prelude.{Ok}
+use Rattle.gate_steps.proofs.call_events.Leading.{led_once, led_unasked}
+use Rattle.call_ends.proofs.operations.UpReadLinedOp.begin_in_line.Goals as goal
+
+pub returns : goal.returns
+returns g c = led_unasked (led_once (Ok tt) refl c.step_once.ensures.seated c.step_once.ensures.asks) refl

@@ -1,0 +1,30 @@
+-- What comes next of operations whose usual steps are done in a line.
+use Rattle.std.specs.Prelude.{ℕ, Bool, true, false, Ok}
+use Rattle.access_model.specs.{Replies.{map_next}, declared.replies.Next.{Next, TheVariants.{Done}}}
+use Rattle.access_model.specs.declared.replies.Reply.{TheVariants.{Unit as UnitReply}}
+use Rattle.composite_ops.specs.declared.file_closes.phases.ClosePhase.{ClosePhase}
+use Rattle.composite_ops.specs.declared.write_access.phases.WritePhase.{WritePhase, TheVariants.{Takes}}
+use Rattle.gate_world.specs.declared.work.Phase.{Phase, TheVariants.{Closes, DownReads, Mounts}}
+use Rattle.mount_counts.specs.declared.phases.{MountPhase.TheVariants.{Want as Wants}, Want.{Want}}
+use Rattle.percpu_rwsem.specs.declared.readers.{DownRead.{DownRead}, DownReadStep.{DownReadStep}}
+
+-- what comes next of a want of an access at a mount, as phases
+abbrev pub of_want : Next Want → Next Phase
+of_want next = map_next (λ want. Mounts (Wants want)) next
+
+-- the same of a close of a file
+abbrev pub of_close : Next ClosePhase → Next Phase
+of_close next = map_next Closes next
+
+-- the same of a start at a level
+abbrev pub of_read : Next DownRead → Next Phase
+of_read next = map_next DownReads next
+
+-- a taking of write access at this mount, on this processor, by this task, that stands at this step of its start
+abbrev pub taking_at : ℕ → ℕ → ℕ → DownReadStep → WritePhase
+taking_at mount cpu task step = Takes mount (record { level = 1; cpu = cpu; task = task; wait = true; step = step })
+
+-- what comes next of a taking: it is done, or this
+abbrev pub done_or : Bool → Next WritePhase → Next WritePhase
+done_or true rest = Done (Ok UnitReply)
+done_or false rest = rest
