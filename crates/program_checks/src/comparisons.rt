@@ -1,6 +1,6 @@
 //! What a schedule prints, compared with what it says of it.
 
-ghost use Rattle.std.specs.Prelude.{◌≡◌, ◌-◌, IsTrue, true, take};
+ghost use Rattle.std.specs.Prelude.{◌≡◌, ◌-◌, IsTrue, true, take, []};
 ghost use Rattle.race_files.specs.Left.{left_in};
 ghost use Rattle.program_checks.specs.Said.{said_by};
 
@@ -80,11 +80,11 @@ struct Place<'a> {
 }
 
 impl SetUpObserver for Comparison<'_> {
+    ghost takes = { λ old lines printed new left. (left.bytes.items ≡ []) × (IsTrue new.passed → IsTrue old.passed
+        × (printed.bytes.items ≡ said_by (take (lines.done - old.said.done) (left_in old.said).lines))) };
+
     /// Compares all that the last command printed with what the lines between it and the next one say.
-    fn take(&mut self, lines: &Lines<'_>, printed: &mut Output)
-        ensures { IsTrue self.new.passed → IsTrue self.old.passed
-            × (printed.old.bytes.items ≡ said_by (take (lines.now.done - self.old.said.done) (left_in self.old.said).lines)) }
-    {
+    fn take(&mut self, lines: &Lines<'_>, printed: &mut Output) {
         let (number, rest) = (self.said.number(), self.said.rest());
         let count = lines.number().saturating_sub(number);
         let said = read_said(self.alloc, &mut self.said, count);
