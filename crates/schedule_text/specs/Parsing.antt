@@ -2,6 +2,7 @@
 use Rattle.std.specs.Prelude.{ℕ, Bool, true, false, not, ◌==◌, nat_lt, if◌then◌else◌, List, [], ◌∷◌, codes, bytes_eq, Option, Some, None, Result, Ok, Err, ok_or}
 use Rattle.freeze_levels.specs.declared.hooks.HookKind.{HookKind}
 use Rattle.gate_world.specs.declared.config.Config.{Config}
+use Rattle.gate_world.specs.declared.operations.Op.{Op}
 use Rattle.gate_world.specs.declared.operations.Op.TheVariants.{Want as WantOp, DropMount, Start as StartOp, End as EndOp, WantWrite as WantWriteOp, DropWrite as DropWriteOp, ChangeMount, RemountSb, Callback as CallbackOp, Freeze as FreezeOp, Thaw as ThawOp, Create as CreateOp, Remove as RemoveOp, Grow as GrowOp, MoveTo as MoveToOp, Fault as FaultOp, Flush as FlushOp, Open as OpenOp, Close as CloseOp, Snapshot as SnapshotOp}
 use Rattle.access_model.specs.declared.actions.{Holder.{Holder, TheVariants.{User}}, Kind.{Kind}}
 use Rattle.schedule_text.specs.declared.commands.Line.{Line, TheVariants.{Skipped, Config as ConfigLine, Request as RequestLine}}
@@ -67,67 +68,6 @@ task_from (Some number) tasks = if nat_lt (byte_of number) tasks then Some (byte
 unfoldable pub task_of : List ℕ → ℕ → Option ℕ
 task_of word tasks = task_from (number_of word) tasks
 
--- the arguments of `want` and `trywant`: a mount and a processor
-unfoldable pub want_of : List ℕ → Bool → Result TaskCommand Fault
-want_of rest wait = do
-  mount ← byte_at rest
-  cpu ← byte_at (after_word rest)
-  Ok (Begin (WantOp mount cpu wait))
-
--- the arguments of `drop`: a mount and a processor
-unfoldable pub drop_of : List ℕ → Result TaskCommand Fault
-drop_of rest = do
-  mount ← byte_at rest
-  cpu ← byte_at (after_word rest)
-  Ok (Begin (DropMount mount cpu))
-
--- the arguments of `start` and `trystart`: a level and a processor
-unfoldable pub start_of : List ℕ → Bool → Result TaskCommand Fault
-start_of rest wait = do
-  level ← byte_at rest
-  cpu ← byte_at (after_word rest)
-  Ok (Begin (StartOp level cpu wait))
-
--- the arguments of `end`: a level and a processor
-unfoldable pub end_of : List ℕ → Result TaskCommand Fault
-end_of rest = do
-  level ← byte_at rest
-  cpu ← byte_at (after_word rest)
-  Ok (Begin (EndOp level cpu))
-
--- the arguments of `wantwrite`: a mount and a processor
-unfoldable pub want_write_of : List ℕ → Result TaskCommand Fault
-want_write_of rest = do
-  mount ← byte_at rest
-  cpu ← byte_at (after_word rest)
-  Ok (Begin (WantWriteOp mount cpu))
-
--- the arguments of `dropwrite`: a mount and a processor
-unfoldable pub drop_write_of : List ℕ → Result TaskCommand Fault
-drop_write_of rest = do
-  mount ← byte_at rest
-  cpu ← byte_at (after_word rest)
-  Ok (Begin (DropWriteOp mount cpu))
-
--- the arguments of `change` and `trychange`: a mount, and `ro` or `rw`
-unfoldable pub change_of : List ℕ → Bool → Result TaskCommand Fault
-change_of rest wait = do
-  mount ← byte_at rest
-  read_only ← read_only_at (after_word rest)
-  Ok (Begin (ChangeMount mount read_only wait))
-
--- the argument of `remount`: `ro` or `rw`
-unfoldable pub remount_of : List ℕ → Result TaskCommand Fault
-remount_of rest = do
-  read_only ← read_only_at rest
-  Ok (Begin (RemountSb read_only))
-
--- the argument of `callback`: a level
-unfoldable pub callback_of : List ℕ → Result TaskCommand Fault
-callback_of rest = do
-  level ← byte_at rest
-  Ok (Begin (CallbackOp level))
-
 -- the kind of node that comes first
 unfoldable pub kind_at : List ℕ → Result Kind Fault
 kind_at text = ok_or (kind_named (first_word text)) BadWord
@@ -140,17 +80,29 @@ holder_at text = ok_or (holder_named (first_word text)) BadWord
 unfoldable pub holder_given : List ℕ → ℕ → Result Holder Fault
 holder_given rest words = if words == 2 then Ok User else holder_at rest
 
--- the argument of `freeze`: a holder
-unfoldable pub freeze_of : List ℕ → ℕ → Result TaskCommand Fault
-freeze_of rest words = do
-  holder ← holder_given rest words
-  Ok (Begin (FreezeOp holder))
+-- the beginning of the operation that one argument makes
+abbrev pub with_one : {A : Type 0} → Result A Fault → (A → Op) → Result TaskCommand Fault
+with_one argument op = do
+  x ← argument
+  Ok (Begin (op x))
 
--- and of `thaw`
-unfoldable pub thaw_of : List ℕ → ℕ → Result TaskCommand Fault
-thaw_of rest words = do
-  holder ← holder_given rest words
-  Ok (Begin (ThawOp holder))
+-- the first two numbers
+unfoldable pub two_at : List ℕ → Result (ℕ × ℕ) Fault
+two_at rest = do
+  first ← byte_at rest
+  second ← byte_at (after_word rest)
+  Ok (first, second)
+
+-- the beginning of the operation that they make
+abbrev pub with_two : List ℕ → (ℕ → ℕ → Op) → Result TaskCommand Fault
+with_two rest op = with_one (two_at rest) (λ two. op two.0 two.1)
+
+-- the arguments of `change` and `trychange`: a mount, and `ro` or `rw`
+unfoldable pub change_of : List ℕ → Bool → Result TaskCommand Fault
+change_of rest wait = do
+  mount ← byte_at rest
+  read_only ← read_only_at (after_word rest)
+  Ok (Begin (ChangeMount mount read_only wait))
 
 -- the arguments of `create`: a directory, and `file` or `dir`
 unfoldable pub create_of : List ℕ → Result TaskCommand Fault
@@ -159,50 +111,12 @@ create_of rest = do
   kind ← kind_at (after_word rest)
   Ok (Begin (CreateOp dir kind))
 
--- the argument of `remove`: a file
-unfoldable pub remove_of : List ℕ → Result TaskCommand Fault
-remove_of rest = do
-  file ← byte_at rest
-  Ok (Begin (RemoveOp file))
-
 -- the arguments of `grow`: a file, and how many blocks
 unfoldable pub grow_of : List ℕ → Result TaskCommand Fault
 grow_of rest = do
   file ← byte_at rest
   blocks ← number_at (after_word rest)
   Ok (Begin (GrowOp file blocks))
-
--- the arguments of `move`: a file, and a directory
-unfoldable pub move_of : List ℕ → Result TaskCommand Fault
-move_of rest = do
-  file ← byte_at rest
-  dir ← byte_at (after_word rest)
-  Ok (Begin (MoveToOp file dir))
-
--- the argument of `fault`: a file
-unfoldable pub fault_of : List ℕ → Result TaskCommand Fault
-fault_of rest = do
-  file ← byte_at rest
-  Ok (Begin (FaultOp file))
-
--- the argument of `flush`: a file
-unfoldable pub flush_of : List ℕ → Result TaskCommand Fault
-flush_of rest = do
-  file ← byte_at rest
-  Ok (Begin (FlushOp file))
-
--- the argument of `open`: a file
-unfoldable pub open_of : List ℕ → Result TaskCommand Fault
-open_of rest = do
-  file ← byte_at rest
-  Ok (Begin (OpenOp file))
-
--- the arguments of `close` and `tryclose`: a file and a processor
-unfoldable pub close_of : List ℕ → Bool → Result TaskCommand Fault
-close_of rest wait = do
-  file ← byte_at rest
-  cpu ← byte_at (after_word rest)
-  Ok (Begin (CloseOp file cpu wait))
 
 -- the argument of `step`, where there is one: the code by which a hook fails
 unfoldable pub step_of : List ℕ → Result TaskCommand Fault
@@ -219,29 +133,29 @@ run_of rest = do
 
 -- the command of a verb on a line of so many words, from its arguments
 unfoldable pub arguments_of : Verb → List ℕ → ℕ → Result TaskCommand Fault
-arguments_of Want rest words = want_of rest true
-arguments_of TryWant rest words = want_of rest false
-arguments_of Drop rest words = drop_of rest
-arguments_of Start rest words = start_of rest true
-arguments_of TryStart rest words = start_of rest false
-arguments_of End rest words = end_of rest
-arguments_of WantWrite rest words = want_write_of rest
-arguments_of DropWrite rest words = drop_write_of rest
+arguments_of Want rest words = with_two rest (λ mount cpu. WantOp mount cpu true)
+arguments_of TryWant rest words = with_two rest (λ mount cpu. WantOp mount cpu false)
+arguments_of WantWrite rest words = with_two rest (λ mount cpu. WantWriteOp mount cpu)
+arguments_of Drop rest words = with_two rest (λ mount cpu. DropMount mount cpu)
+arguments_of DropWrite rest words = with_two rest (λ mount cpu. DropWriteOp mount cpu)
+arguments_of Start rest words = with_two rest (λ level cpu. StartOp level cpu true)
+arguments_of TryStart rest words = with_two rest (λ level cpu. StartOp level cpu false)
+arguments_of End rest words = with_two rest (λ level cpu. EndOp level cpu)
+arguments_of Callback rest words = with_one (byte_at rest) (λ level. CallbackOp level)
 arguments_of Change rest words = change_of rest true
 arguments_of TryChange rest words = change_of rest false
-arguments_of Remount rest words = remount_of rest
-arguments_of Callback rest words = callback_of rest
-arguments_of Freeze rest words = freeze_of rest words
-arguments_of Thaw rest words = thaw_of rest words
+arguments_of Remount rest words = with_one (read_only_at rest) (λ read_only. RemountSb read_only)
+arguments_of Freeze rest words = with_one (holder_given rest words) (λ holder. FreezeOp holder)
+arguments_of Thaw rest words = with_one (holder_given rest words) (λ holder. ThawOp holder)
 arguments_of Create rest words = create_of rest
-arguments_of Remove rest words = remove_of rest
+arguments_of Remove rest words = with_one (byte_at rest) (λ file. RemoveOp file)
 arguments_of Grow rest words = grow_of rest
-arguments_of Move rest words = move_of rest
-arguments_of FaultVerb rest words = fault_of rest
-arguments_of Flush rest words = flush_of rest
-arguments_of Open rest words = open_of rest
-arguments_of Close rest words = close_of rest true
-arguments_of TryClose rest words = close_of rest false
+arguments_of Move rest words = with_two rest (λ file dir. MoveToOp file dir)
+arguments_of FaultVerb rest words = with_one (byte_at rest) (λ file. FaultOp file)
+arguments_of Flush rest words = with_one (byte_at rest) (λ file. FlushOp file)
+arguments_of Open rest words = with_one (byte_at rest) (λ file. OpenOp file)
+arguments_of Close rest words = with_two rest (λ file cpu. CloseOp file cpu true)
+arguments_of TryClose rest words = with_two rest (λ file cpu. CloseOp file cpu false)
 arguments_of Snapshot rest words = Ok (Begin (SnapshotOp true))
 arguments_of TrySnapshot rest words = Ok (Begin (SnapshotOp false))
 arguments_of Step rest words = if words == 2 then Ok (StepCommand (Ok tt)) else step_of rest

@@ -1,5 +1,5 @@
 -- The commands on a task: what names each, and how many words its line has.
-use Rattle.std.specs.Prelude.{ℕ, Bool, ◌==◌, ◌||◌, List, [], ◌∷◌, codes, Option, bytes_eq, find}
+use Rattle.std.specs.Prelude.{ℕ, Bool, true, false, ◌==◌, ◌||◌, List, [], ◌∷◌, codes, Option, bytes_eq, find}
 use Rattle.schedule_text.specs.declared.verbs.Verb.{Verb, TheVariants.{Run, Step, Want, TryWant, WantWrite, Drop, DropWrite, Start, TryStart, End}}
 use Rattle.schedule_text.specs.declared.verbs.Verb.TheVariants.{Callback, Change, TryChange, Remount, Freeze, Thaw, Create, Remove, Grow, Move}
 use Rattle.schedule_text.specs.declared.verbs.Verb.TheVariants.{Fault, Flush, Open, Close, TryClose, Snapshot, TrySnapshot}
@@ -52,6 +52,15 @@ verb_name verb = (row verb).name
 -- the verb that a word names: each has a name of its own
 unfoldable pub verb_of : List ℕ → Option Verb
 verb_of word = find (λ verb. bytes_eq word (verb_name verb)) verbs
+
+-- whether the operation of a verb waits, where it may: all but those that only try
+abbrev pub waits : Verb → Bool
+waits TryWant = false
+waits TryStart = false
+waits TryChange = false
+waits TryClose = false
+waits TrySnapshot = false
+waits _ = true
 
 -- whether a line with this verb may have so many words
 abbrev pub takes : Verb → ℕ → Bool

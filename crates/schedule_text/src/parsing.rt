@@ -1,8 +1,10 @@
 //! From a line to what it asks for.
 
-ghost use Rattle.std.specs.Prelude.{◌≡◌, ◌≤◌, ◌+◌, List, ℕ, length};
+ghost use Rattle.std.specs.Prelude.{◌≡◌, ◌≤◌, ◌+◌, List, ℕ, Ok, Err, IfOk, IfErr, length};
+ghost use Rattle.gate_world.specs.declared.operations.Op.{Op as OpType};
+ghost use Rattle.schedule_text.specs.declared.commands.TaskCommand.TheVariants.{Begin};
 ghost use Rattle.schedule_lines.specs.Words.{first_word, after_word, word_count};
-ghost use Rattle.schedule_text.specs.Parsing.{parsed, is_skipped, config_line, config_of, command_line, alone, task_line, task_of, arguments_of, want_of, drop_of, start_of, end_of, want_write_of, drop_write_of, change_of, remount_of, callback_of, freeze_of, thaw_of, create_of, remove_of, grow_of, move_of, fault_of, flush_of, open_of, close_of, step_of, run_of, number_at, byte_at, code_at, hook_at, holder_at, holder_given, kind_at, read_only_at, read_only_of};
+ghost use Rattle.schedule_text.specs.Parsing.{parsed, is_skipped, config_line, config_of, command_line, alone, task_line, task_of, arguments_of, two_at, change_of, create_of, grow_of, step_of, run_of, number_at, byte_at, code_at, hook_at, holder_at, holder_given, kind_at, read_only_at, read_only_of};
 
 use crate::commands::{
     HookFailure, Line, Request, TaskCommand, holder_named, hook_named, kind_named,
@@ -152,37 +154,33 @@ fn task_of(word: &[u8], tasks: u8) -> Option<u8>
     if task < tasks { Some(task) } else { None }
 }
 
-/// What a verb asks for, on a line of so many words, from its arguments.
+/// Returns what a verb asks for on a line of so many words, from its arguments.
 #[tactic(auto, unfolding(crate::specs::Parsing::arguments_of))]
 fn arguments_of(verb: Verb, rest: &[u8], words: usize) -> Result<TaskCommand, Fault>
     ensures { result ≡ arguments_of verb rest.now words }
 {
+    let wait = verb.waits();
     match verb {
-        Verb::Want => want_of(rest, true),
-        Verb::TryWant => want_of(rest, false),
-        Verb::Drop => drop_of(rest),
-        Verb::Start => start_of(rest, true),
-        Verb::TryStart => start_of(rest, false),
-        Verb::End => end_of(rest),
-        Verb::WantWrite => want_write_of(rest),
-        Verb::DropWrite => drop_write_of(rest),
-        Verb::Change => change_of(rest, true),
-        Verb::TryChange => change_of(rest, false),
-        Verb::Remount => remount_of(rest),
-        Verb::Callback => callback_of(rest),
-        Verb::Freeze => freeze_of(rest, words),
-        Verb::Thaw => thaw_of(rest, words),
+        Verb::Want | Verb::TryWant => with_two(rest, |mount, cpu| Op::Want { mount, cpu, wait }),
+        Verb::WantWrite => with_two(rest, |mount, cpu| Op::WantWrite { mount, cpu }),
+        Verb::Drop => with_two(rest, |mount, cpu| Op::DropMount { mount, cpu }),
+        Verb::DropWrite => with_two(rest, |mount, cpu| Op::DropWrite { mount, cpu }),
+        Verb::Start | Verb::TryStart => with_two(rest, |level, cpu| Op::Start { level, cpu, wait }),
+        Verb::End => with_two(rest, |level, cpu| Op::End { level, cpu }),
+        Verb::Callback => with_one(byte_at(rest), |level| Op::Callback { level }),
+        Verb::Change | Verb::TryChange => change_of(rest, wait),
+        Verb::Remount => with_one(read_only_at(rest), |read_only| Op::RemountSb { read_only }),
+        Verb::Freeze => with_one(holder_given(rest, words), |holder| Op::Freeze { holder }),
+        Verb::Thaw => with_one(holder_given(rest, words), |holder| Op::Thaw { holder }),
         Verb::Create => create_of(rest),
-        Verb::Remove => remove_of(rest),
+        Verb::Remove => with_one(byte_at(rest), |file| Op::Remove { file }),
         Verb::Grow => grow_of(rest),
-        Verb::Move => move_of(rest),
-        Verb::Fault => fault_of(rest),
-        Verb::Flush => flush_of(rest),
-        Verb::Open => open_of(rest),
-        Verb::Close => close_of(rest, true),
-        Verb::TryClose => close_of(rest, false),
-        Verb::Snapshot => Ok(TaskCommand::Begin(Op::Snapshot { wait: true })),
-        Verb::TrySnapshot => Ok(TaskCommand::Begin(Op::Snapshot { wait: false })),
+        Verb::Move => with_two(rest, |file, dir| Op::MoveTo { file, dir }),
+        Verb::Fault => with_one(byte_at(rest), |file| Op::Fault { file }),
+        Verb::Flush => with_one(byte_at(rest), |file| Op::Flush { file }),
+        Verb::Open => with_one(byte_at(rest), |file| Op::Open { file }),
+        Verb::Close | Verb::TryClose => with_two(rest, |file, cpu| Op::Close { file, cpu, wait }),
+        Verb::Snapshot | Verb::TrySnapshot => Ok(TaskCommand::Begin(Op::Snapshot { wait })),
         Verb::Step if words == 2 => Ok(TaskCommand::Step { hook: Ok(()) }),
         Verb::Step => step_of(rest),
         Verb::Run if words == 2 => Ok(TaskCommand::Run { failure: None }),
@@ -190,58 +188,31 @@ fn arguments_of(verb: Verb, rest: &[u8], words: usize) -> Result<TaskCommand, Fa
     }
 }
 
-#[tactic(auto, unfolding(crate::specs::Parsing::want_of))]
-fn want_of(rest: &[u8], wait: bool) -> Result<TaskCommand, Fault>
-    ensures { result ≡ want_of rest.now wait }
+/// Returns the beginning of the operation that one argument makes, or the argument's fault.
+fn with_one<A, F: FnOnce(A) -> Op + Drop>(
+    argument: Result<A, Fault>,
+    op: F,
+) -> Result<TaskCommand, Fault>
+    requires { F.IsAlwaysCallable op }
+    ensures begins { IfOk argument (λ x. (made : OpType) × F.post op x made × (result ≡ Ok (Begin made))) }
+    ensures fault { IfErr argument (λ fault. result ≡ Err fault) }
 {
-    let mount = byte_at(rest)?;
-    let cpu = byte_at(after_word(rest))?;
-    Ok(TaskCommand::Begin(Op::Want { mount, cpu, wait }))
+    match argument {
+        Ok(argument) => Ok(TaskCommand::Begin(op(argument))),
+        Err(fault) => Err(fault),
+    }
 }
 
-#[tactic(auto, unfolding(crate::specs::Parsing::drop_of))]
-fn drop_of(rest: &[u8]) -> Result<TaskCommand, Fault>
-    ensures { result ≡ drop_of rest.now }
+/// Returns the beginning of the operation that the first two numbers make, or the fault of the first that has one.
+#[tactic(auto, unfolding(crate::specs::Parsing::two_at))]
+fn with_two<F: FnOnce(u8, u8) -> Op + Drop>(rest: &[u8], op: F) -> Result<TaskCommand, Fault>
+    requires { F.IsAlwaysCallable op }
+    ensures begins { IfOk (two_at rest.now) (λ two. (made : OpType) × F.post op two.0 two.1 made × (result ≡ Ok (Begin made))) }
+    ensures fault { IfErr (two_at rest.now) (λ fault. result ≡ Err fault) }
 {
-    let mount = byte_at(rest)?;
-    let cpu = byte_at(after_word(rest))?;
-    Ok(TaskCommand::Begin(Op::DropMount { mount, cpu }))
-}
-
-#[tactic(auto, unfolding(crate::specs::Parsing::start_of))]
-fn start_of(rest: &[u8], wait: bool) -> Result<TaskCommand, Fault>
-    ensures { result ≡ start_of rest.now wait }
-{
-    let level = byte_at(rest)?;
-    let cpu = byte_at(after_word(rest))?;
-    Ok(TaskCommand::Begin(Op::Start { level, cpu, wait }))
-}
-
-#[tactic(auto, unfolding(crate::specs::Parsing::end_of))]
-fn end_of(rest: &[u8]) -> Result<TaskCommand, Fault>
-    ensures { result ≡ end_of rest.now }
-{
-    let level = byte_at(rest)?;
-    let cpu = byte_at(after_word(rest))?;
-    Ok(TaskCommand::Begin(Op::End { level, cpu }))
-}
-
-#[tactic(auto, unfolding(crate::specs::Parsing::want_write_of))]
-fn want_write_of(rest: &[u8]) -> Result<TaskCommand, Fault>
-    ensures { result ≡ want_write_of rest.now }
-{
-    let mount = byte_at(rest)?;
-    let cpu = byte_at(after_word(rest))?;
-    Ok(TaskCommand::Begin(Op::WantWrite { mount, cpu }))
-}
-
-#[tactic(auto, unfolding(crate::specs::Parsing::drop_write_of))]
-fn drop_write_of(rest: &[u8]) -> Result<TaskCommand, Fault>
-    ensures { result ≡ drop_write_of rest.now }
-{
-    let mount = byte_at(rest)?;
-    let cpu = byte_at(after_word(rest))?;
-    Ok(TaskCommand::Begin(Op::DropWrite { mount, cpu }))
+    let first = byte_at(rest)?;
+    let second = byte_at(after_word(rest))?;
+    Ok(TaskCommand::Begin(op(first, second)))
 }
 
 #[tactic(auto, unfolding(crate::specs::Parsing::change_of))]
@@ -257,38 +228,6 @@ fn change_of(rest: &[u8], wait: bool) -> Result<TaskCommand, Fault>
     }))
 }
 
-#[tactic(auto, unfolding(crate::specs::Parsing::remount_of))]
-fn remount_of(rest: &[u8]) -> Result<TaskCommand, Fault>
-    ensures { result ≡ remount_of rest.now }
-{
-    let read_only = read_only_at(rest)?;
-    Ok(TaskCommand::Begin(Op::RemountSb { read_only }))
-}
-
-#[tactic(auto, unfolding(crate::specs::Parsing::callback_of))]
-fn callback_of(rest: &[u8]) -> Result<TaskCommand, Fault>
-    ensures { result ≡ callback_of rest.now }
-{
-    let level = byte_at(rest)?;
-    Ok(TaskCommand::Begin(Op::Callback { level }))
-}
-
-#[tactic(auto, unfolding(crate::specs::Parsing::freeze_of))]
-fn freeze_of(rest: &[u8], words: usize) -> Result<TaskCommand, Fault>
-    ensures { result ≡ freeze_of rest.now words }
-{
-    let holder = holder_given(rest, words)?;
-    Ok(TaskCommand::Begin(Op::Freeze { holder }))
-}
-
-#[tactic(auto, unfolding(crate::specs::Parsing::thaw_of))]
-fn thaw_of(rest: &[u8], words: usize) -> Result<TaskCommand, Fault>
-    ensures { result ≡ thaw_of rest.now words }
-{
-    let holder = holder_given(rest, words)?;
-    Ok(TaskCommand::Begin(Op::Thaw { holder }))
-}
-
 #[tactic(auto, unfolding(crate::specs::Parsing::create_of))]
 fn create_of(rest: &[u8]) -> Result<TaskCommand, Fault>
     ensures { result ≡ create_of rest.now }
@@ -298,14 +237,6 @@ fn create_of(rest: &[u8]) -> Result<TaskCommand, Fault>
     Ok(TaskCommand::Begin(Op::Create { dir, kind }))
 }
 
-#[tactic(auto, unfolding(crate::specs::Parsing::remove_of))]
-fn remove_of(rest: &[u8]) -> Result<TaskCommand, Fault>
-    ensures { result ≡ remove_of rest.now }
-{
-    let file = byte_at(rest)?;
-    Ok(TaskCommand::Begin(Op::Remove { file }))
-}
-
 #[tactic(auto, unfolding(crate::specs::Parsing::grow_of))]
 fn grow_of(rest: &[u8]) -> Result<TaskCommand, Fault>
     ensures { result ≡ grow_of rest.now }
@@ -313,48 +244,6 @@ fn grow_of(rest: &[u8]) -> Result<TaskCommand, Fault>
     let file = byte_at(rest)?;
     let blocks = number_at(after_word(rest))?;
     Ok(TaskCommand::Begin(Op::Grow { file, blocks }))
-}
-
-#[tactic(auto, unfolding(crate::specs::Parsing::move_of))]
-fn move_of(rest: &[u8]) -> Result<TaskCommand, Fault>
-    ensures { result ≡ move_of rest.now }
-{
-    let file = byte_at(rest)?;
-    let dir = byte_at(after_word(rest))?;
-    Ok(TaskCommand::Begin(Op::MoveTo { file, dir }))
-}
-
-#[tactic(auto, unfolding(crate::specs::Parsing::fault_of))]
-fn fault_of(rest: &[u8]) -> Result<TaskCommand, Fault>
-    ensures { result ≡ fault_of rest.now }
-{
-    let file = byte_at(rest)?;
-    Ok(TaskCommand::Begin(Op::Fault { file }))
-}
-
-#[tactic(auto, unfolding(crate::specs::Parsing::flush_of))]
-fn flush_of(rest: &[u8]) -> Result<TaskCommand, Fault>
-    ensures { result ≡ flush_of rest.now }
-{
-    let file = byte_at(rest)?;
-    Ok(TaskCommand::Begin(Op::Flush { file }))
-}
-
-#[tactic(auto, unfolding(crate::specs::Parsing::open_of))]
-fn open_of(rest: &[u8]) -> Result<TaskCommand, Fault>
-    ensures { result ≡ open_of rest.now }
-{
-    let file = byte_at(rest)?;
-    Ok(TaskCommand::Begin(Op::Open { file }))
-}
-
-#[tactic(auto, unfolding(crate::specs::Parsing::close_of))]
-fn close_of(rest: &[u8], wait: bool) -> Result<TaskCommand, Fault>
-    ensures { result ≡ close_of rest.now wait }
-{
-    let file = byte_at(rest)?;
-    let cpu = byte_at(after_word(rest))?;
-    Ok(TaskCommand::Begin(Op::Close { file, cpu, wait }))
 }
 
 #[tactic(auto, unfolding(crate::specs::Parsing::step_of))]

@@ -1,7 +1,7 @@
 //! The commands on a task: one table, for all who read, print or explain a command.
 
 ghost use Rattle.std.specs.Prelude.{◌≡◌, bytes_eq};
-ghost use Rattle.schedule_text.specs.Verbs.{row, takes, verb_name, verb_of};
+ghost use Rattle.schedule_text.specs.Verbs.{row, takes, verb_name, verb_of, waits};
 
 use schedule_lines::words::is_word;
 
@@ -207,6 +207,16 @@ impl Verb {
         ensures { result ≡ verb_of word.now }
     {
         Verb::ALL.iter().find(|verb| verb.is_named(word)).copied()
+    }
+
+    /// Whether the operation that it begins waits, where it may: all do but those of the verbs that begin with `try`.
+    pub fn waits(self) -> bool
+        ensures { result ≡ waits self }
+    {
+        !matches!(
+            self,
+            Verb::TryWant | Verb::TryStart | Verb::TryChange | Verb::TryClose | Verb::TrySnapshot
+        )
     }
 
     /// Whether a line with this verb may have so many words, the task and the verb among them.
