@@ -7,7 +7,7 @@ use crate::contexts::Context;
 use crate::hints::{find, tell_first_line};
 use crate::places::Place;
 use crate::texts::Text;
-use exit_status::{ProgramEnding, SourceName, fault_told, why_told};
+use exit_status::{ProgramEnding, SourceName, report, report_fault};
 use schedule_lines::bytes::ReplayFault;
 use schedule_lines::{Fault, FaultKind};
 use schedule_text::{Front, front_of};
@@ -67,8 +67,8 @@ pub fn tell_faulty<E: Write>(alloc: Global, faulty: Faulty<'_>, errors: &mut E) 
     ensures { result ≡ Refused }
 {
     match diagnosis(alloc, faulty) {
-        Ok(text) => why_told(text.as_str(), errors),
-        Err(AllocError) => fault_told(faulty.fault, faulty.file, errors),
+        Ok(text) => report(text.as_str(), errors),
+        Err(AllocError) => report_fault(faulty.fault, faulty.file, errors),
     }
 }
 

@@ -2,7 +2,7 @@ use Rattle.std.proofs.Common.{◌∙◌, sym, ap, subst, List, ℕ}
 use Rattle.std.specs.Result.{result_and}
 use Rattle.line_players.specs.Replaying.{LinesEnd}
 use Rattle.line_players.proofs.Replaying.{ended_well, ended_by}
-use Rattle.line_players.proofs.line_replay.LineReplay.ended.Goals as goal
+use Rattle.line_players.proofs.line_replay.LineReplay.finish.Goals as goal
 
 pub returns-in-Ok-clause-replayed : goal.returns-in-Ok-clause-replayed
 returns-in-Ok-clause-replayed g c input held left known end =
