@@ -295,15 +295,15 @@ fn replay_of<'a, E: Write>(replay: &ArgMatches<'a>, errors: &mut E) -> ProgramRe
 {
     let Some(form) = form_of(replay) else {
         let (one, other) = first_two(replay, &[EVENTS, COLUMNS, JSON, HTML]);
-        return excluded(one, other, REPLAY_USAGE, errors);
+        return report_conflict(one, other, REPLAY_USAGE, errors);
     };
     let Some(style) = style_of(replay) else {
-        return misused(WHOSE, REPLAY_USAGE, errors);
+        return report_misuse(WHOSE, REPLAY_USAGE, errors);
     };
     if matches!(form, ReplayForm::Plain) && (style.raw || style.kernel_names) {
         let why =
             "the arguments '--raw' and '--names' need '--events', '--columns', '--json' or '--html'";
-        return misused(why, REPLAY_USAGE, errors);
+        return report_misuse(why, REPLAY_USAGE, errors);
     }
     ProgramRequest::Replay(Replay {
         file: replay.get_str(FILE),
@@ -358,16 +358,21 @@ fn first_two(matches: &ArgMatches<'_>, flags: &[&'static str]) -> (&'static str,
     (given[0], given[1])
 }
 
-/// Tells that two flags can't be used together.
-fn excluded<'a, E: Write>(one: &str, other: &str, usage: &str, errors: &mut E) -> ProgramRequest<'a>
+/// Reports that two flags can't be used together.
+fn report_conflict<'a, E: Write>(
+    one: &str,
+    other: &str,
+    usage: &str,
+    errors: &mut E,
+) -> ProgramRequest<'a>
     ensures { ¬ IsPlainOfInput result }
 {
     let why = format_args!("the argument '--{one}' cannot be used with '--{other}'");
-    misused(why, usage, errors)
+    report_misuse(why, usage, errors)
 }
 
-/// Tells a fault that the parser doesn't know, as it tells its own.
-fn misused<'a, D: Display + Drop, E: Write>(
+/// Reports a fault that the parser doesn't know, as it reports its own.
+fn report_misuse<'a, D: Display + Drop, E: Write>(
     why: D,
     usage: &str,
     errors: &mut E,
@@ -395,7 +400,7 @@ fn check_of<'a, E: Write>(
     }
     if files.is_empty() || files.contains(&"-") {
         let why = "the argument '--bless' needs files: standard input can't be written";
-        return Ok(misused(why, "check [OPTIONS] [FILE]...", errors));
+        return Ok(report_misuse(why, "check [OPTIONS] [FILE]...", errors));
     }
     Ok(ProgramRequest::Bless(files))
 }
@@ -438,19 +443,19 @@ fn outcomes_asked<'a, E: Write>(outcomes: &ArgMatches<'a>, errors: &mut E) -> Pr
 {
     let Some(form) = listing_of(outcomes) else {
         let (one, other) = first_two(outcomes, &[JSON, HTML, COLUMNS]);
-        return excluded(one, other, OUTCOMES_USAGE, errors);
+        return report_conflict(one, other, OUTCOMES_USAGE, errors);
     };
     let Some(style) = style_of(outcomes) else {
-        return misused(WHOSE, OUTCOMES_USAGE, errors);
+        return report_misuse(WHOSE, OUTCOMES_USAGE, errors);
     };
     let asked = outcomes_of(outcomes, form, style);
     if asked.save == Some("") {
-        return misused(NO_FOLDER, OUTCOMES_USAGE, errors);
+        return report_misuse(NO_FOLDER, OUTCOMES_USAGE, errors);
     }
     if (style.raw || style.kernel_names) && !asked.names_words() {
         let why =
             "the arguments '--raw' and '--names' need '--schedules', '--columns', '--json', '--html' or '--save'";
-        return misused(why, OUTCOMES_USAGE, errors);
+        return report_misuse(why, OUTCOMES_USAGE, errors);
     }
     ProgramRequest::Outcomes(asked)
 }

@@ -7,8 +7,9 @@ use crate::contexts::Context;
 use crate::hints::{find, tell_first_line};
 use crate::places::Place;
 use crate::texts::Text;
-use exit_status::{ProgramEnding, SourceName, fault_told, why_told};
+use exit_status::{ProgramEnding, SourceName, report, report_fault};
 use schedule_lines::bytes::ReplayFault;
+use schedule_lines::{Fault, FaultKind};
 use schedule_text::{Front, front_of};
 use std::alloc::{AllocError, Global};
 use std::io::Write;
@@ -66,8 +67,8 @@ pub fn tell_faulty<E: Write>(alloc: Global, faulty: Faulty<'_>, errors: &mut E) 
     ensures { result ≡ Refused }
 {
     match diagnosis(alloc, faulty) {
-        Ok(text) => why_told(text.as_str(), errors),
-        Err(AllocError) => fault_told(faulty.fault, faulty.file, errors),
+        Ok(text) => report(text.as_str(), errors),
+        Err(AllocError) => report_fault(faulty.fault, faulty.file, errors),
     }
 }
 
@@ -81,9 +82,9 @@ pub fn diagnosis(alloc: Global, faulty: Faulty<'_>) -> Result<String, AllocError
     let mut help = Text::new(alloc);
     let line = line_of(faulty);
     let place = match line {
-        Some(line) => Some(find(&mut help, faulty.fault.text, line, faulty.context)),
+        Some(line) => Some(find(&mut help, faulty.fault.kind, line, faulty.context)),
         None => {
-            tell_no_line(&mut help, faulty.fault.text);
+            tell_no_line(&mut help, faulty.fault.kind);
             None
         }
     };
@@ -102,10 +103,14 @@ pub fn diagnosis(alloc: Global, faulty: Faulty<'_>) -> Result<String, AllocError
 
 /// Returns the faulty line, if there is one that can be shown.
 fn line_of<'a>(faulty: Faulty<'a>) -> Option<&'a [u8]> {
-    match faulty.fault.text {
-        "too many lines" | "line too long" | "read failed" | "write failed" => None,
-        "cut off" => Some(faulty.rest),
-        "refused" if !matches!(faulty.context, Context::Opening) => None,
+    match faulty.fault.kind {
+        FaultKind::Schedule(
+            Fault::TooManyLines | Fault::LineTooLong | Fault::ReadFailed | Fault::WriteFailed,
+        ) => None,
+        FaultKind::Schedule(Fault::CutOff) => Some(faulty.rest),
+        FaultKind::Schedule(Fault::Refused(_)) if !matches!(faulty.context, Context::Opening) => {
+            None
+        }
         _ => match front_of(faulty.rest) {
             Front::Line(length) => Some(&faulty.rest[..length]),
             _ => None,
@@ -114,12 +119,16 @@ fn line_of<'a>(faulty: Faulty<'a>) -> Option<&'a [u8]> {
 }
 
 /// Tells how to mend a fault that no line shows.
-fn tell_no_line(help: &mut Text, fault: &str) {
+fn tell_no_line(help: &mut Text, fault: FaultKind) {
     match fault {
-        "too many lines" => help.put("a schedule has at most 1048576 lines"),
-        "line too long" => help.put("a line has at most 256 bytes before its newline"),
-        "config expected" => tell_first_line(help),
-        "race expected" => help.put(
+        FaultKind::Schedule(Fault::TooManyLines) => help.put(
+            "a schedule has at most 1048576 lines",
+        ),
+        FaultKind::Schedule(Fault::LineTooLong) => help.put(
+            "a line has at most 256 bytes before its newline",
+        ),
+        FaultKind::Schedule(Fault::ConfigExpected) => tell_first_line(help),
+        FaultKind::RaceExpected => help.put(
             "a race has a line 'race', and behind it what each task calls; 'mntgate replay' plays a schedule",
         ),
         _ => {}
@@ -141,15 +150,9 @@ fn put_source(text: &mut Text, file: Option<&str>, line: u32, place: Option<Plac
 /// Puts the place of a fault and its text.
 fn put_head(text: &mut Text, faulty: Faulty<'_>, place: Option<Place<'_>>) {
     put_source(text, faulty.file, faulty.fault.line, place);
-    text.put(faulty.fault.text);
-    if let Some(cause) = faulty.fault.cause {
-        text.put(" ");
-        text.put(cause.number());
-        text.put(" ");
-        text.put(cause.name());
-    }
+    text.put(faulty.fault.kind);
     if let Some(place) = place
-        && is_of_word(faulty.fault.text)
+        && is_of_word(faulty.fault.kind)
         && is_word(place.part)
     {
         text.put(" '");
@@ -159,10 +162,12 @@ fn put_head(text: &mut Text, faulty: Faulty<'_>, place: Option<Place<'_>>) {
 }
 
 /// Whether a fault is that of one word, which is printed with it.
-fn is_of_word(fault: &str) -> bool {
+fn is_of_word(fault: FaultKind) -> bool {
     matches!(
         fault,
-        "unknown command" | "no such task" | "bad number" | "bad word"
+        FaultKind::Schedule(
+            Fault::UnknownCommand | Fault::NoSuchTask | Fault::BadNumber | Fault::BadWord
+        )
     )
 }
 

@@ -10,15 +10,16 @@ use crate::race_hints::{find_in_race, prefix_length};
 use crate::texts::Text;
 use schedule_lines::numbers::{is_digits, number_of};
 use schedule_lines::words::word_count;
+use schedule_lines::{Fault, FaultKind};
 
 /// Finds the part of a line that is at fault, and tells how to mend it.
 pub(crate) fn find<'a>(
     help: &mut Text,
-    fault: &str,
+    fault: FaultKind,
     line: &'a [u8],
     context: Context,
 ) -> Place<'a> {
-    if fault == "cut off" {
+    if fault == FaultKind::Schedule(Fault::CutOff) {
         help.put("the last line has no newline at its end: add one");
         return end_of(line);
     }
@@ -34,13 +35,15 @@ pub(crate) fn find<'a>(
 /// Finds the line `race` where a schedule is expected.
 fn find_race_given<'a>(
     help: &mut Text,
-    fault: &str,
+    fault: FaultKind,
     line: &'a [u8],
     context: Context,
 ) -> Option<Place<'a>> {
     let race = word_after(line, 0);
     match context {
-        Context::Schedule(_) if fault == "unknown command" && race.part == b"race".as_slice() => {
+        Context::Schedule(_)
+            if fault == FaultKind::Schedule(Fault::UnknownCommand)
+                && race.part == b"race".as_slice() => {
             help.put("this is a race: 'mntgate outcomes' lists its outcomes");
             Some(race)
         }
@@ -87,7 +90,7 @@ fn find_spaces<'a>(help: &mut Text, line: &'a [u8]) -> Option<Place<'a>> {
 }
 
 /// Finds the word at fault.
-fn find_word<'a>(help: &mut Text, fault: &str, line: &'a [u8], context: Context) -> Place<'a> {
+fn find_word<'a>(help: &mut Text, fault: FaultKind, line: &'a [u8], context: Context) -> Place<'a> {
     match context {
         Context::Opening => find_in_config(help, fault, line),
         Context::Schedule(tasks) => find_in_command(help, fault, line, tasks, false),
@@ -99,9 +102,9 @@ fn find_word<'a>(help: &mut Text, fault: &str, line: &'a [u8], context: Context)
 }
 
 /// Finds what is wrong with a first line.
-fn find_in_config<'a>(help: &mut Text, fault: &str, line: &'a [u8]) -> Place<'a> {
+fn find_in_config<'a>(help: &mut Text, fault: FaultKind, line: &'a [u8]) -> Place<'a> {
     match fault {
-        "config expected" => {
+        FaultKind::Schedule(Fault::ConfigExpected) => {
             let first = word_after(line, 0);
             match help.nearest(first.part, CONFIGS.as_slice()) {
                 Some(_) => help.put("did you mean 'config'?"),
@@ -109,11 +112,11 @@ fn find_in_config<'a>(help: &mut Text, fault: &str, line: &'a [u8]) -> Place<'a>
             }
             first
         }
-        "wrong number of words" => {
+        FaultKind::Schedule(Fault::WrongNumberOfWords) => {
             help.quoted("its form is", CONFIG);
             end_or_rest(line, word_count(CONFIG.as_bytes()))
         }
-        "refused" => find_limit(help, line),
+        FaultKind::Schedule(Fault::Refused(_)) => find_limit(help, line),
         _ => find_number(help, line, 1),
     }
 }
@@ -127,7 +130,7 @@ pub(crate) fn tell_first_line(help: &mut Text) {
 /// Finds what is wrong with a line behind the configuration, where there are so many tasks: in a race, or in a schedule.
 fn find_in_command<'a>(
     help: &mut Text,
-    fault: &str,
+    fault: FaultKind,
     line: &'a [u8],
     tasks: u8,
     is_race: bool,
@@ -137,8 +140,10 @@ fn find_in_command<'a>(
         return find_alone(help, fault, line, is_race);
     }
     match fault {
-        "unknown command" => find_verb(help, word_after(line, 1), is_race),
-        "no such task" => {
+        FaultKind::Schedule(Fault::UnknownCommand) => {
+            find_verb(help, word_after(line, 1), is_race)
+        }
+        FaultKind::Schedule(Fault::NoSuchTask) => {
             tell_tasks(help, tasks);
             first
         }
@@ -147,15 +152,17 @@ fn find_in_command<'a>(
 }
 
 /// Finds what is wrong with a line of a race that may have a prefix before its command.
-fn find_in_call<'a>(help: &mut Text, fault: &str, line: &'a [u8], tasks: u8) -> Place<'a> {
+fn find_in_call<'a>(help: &mut Text, fault: FaultKind, line: &'a [u8], tasks: u8) -> Place<'a> {
     let prefix = prefix_length(line);
-    if prefix == 0 || fault == "no such task" {
+    if prefix == 0 || fault == FaultKind::Schedule(Fault::NoSuchTask) {
         return find_in_command(help, fault, line, tasks, true);
     }
     // The last word of the prefix stands where a line without one has its task.
     let call = words_from(line, prefix);
     let place = match fault {
-        "unknown command" => find_verb(help, word_after(call.part, 1), true),
+        FaultKind::Schedule(Fault::UnknownCommand) => {
+            find_verb(help, word_after(call.part, 1), true)
+        }
         _ => find_argument(help, fault, call.part),
     };
     Place {
@@ -165,12 +172,14 @@ fn find_in_call<'a>(help: &mut Text, fault: &str, line: &'a [u8], tasks: u8) -> 
 }
 
 /// Finds what is wrong with a line that doesn't begin with a number.
-fn find_alone<'a>(help: &mut Text, fault: &str, line: &'a [u8], is_race: bool) -> Place<'a> {
+fn find_alone<'a>(help: &mut Text, fault: FaultKind, line: &'a [u8], is_race: bool) -> Place<'a> {
     let first = word_after(line, 0);
     match fault {
-        "config twice" => help.put("a schedule has one configuration, its first line"),
-        "unknown command" => tell_no_command(help, line, is_race),
-        "task under way" => {
+        FaultKind::Schedule(Fault::ConfigTwice) => help.put(
+            "a schedule has one configuration, its first line",
+        ),
+        FaultKind::Schedule(Fault::UnknownCommand) => tell_no_command(help, line, is_race),
+        FaultKind::UnderWay => {
             help.put("each call before 'race' has to end there: 'T run' until it is answered");
         }
         _ => {
@@ -271,19 +280,20 @@ fn tell_tasks(help: &mut Text, tasks: u8) {
 }
 
 /// Finds what is wrong with the arguments of a command on a task. A code is the last of them.
-fn find_argument<'a>(help: &mut Text, fault: &str, line: &'a [u8]) -> Place<'a> {
+fn find_argument<'a>(help: &mut Text, fault: FaultKind, line: &'a [u8]) -> Place<'a> {
     let verb = word_after(line, 1);
     let Some(arguments) = arguments_of(verb.part) else {
         help.put("a command follows the number of its task");
         return verb;
     };
     match fault {
-        "bad word" => find_choice(help, line, arguments),
-        "bad number" if arguments.ends_with("CODE]") || arguments.ends_with(" CODE") => {
+        FaultKind::Schedule(Fault::BadWord) => find_choice(help, line, arguments),
+        FaultKind::Schedule(Fault::BadNumber)
+            if arguments.ends_with("CODE]") || arguments.ends_with(" CODE") => {
             help.put("a code is a number from 1 to 65535");
             word_after(line, word_count(line).saturating_sub(1))
         }
-        "bad number" => find_number(help, line, 2),
+        FaultKind::Schedule(Fault::BadNumber) => find_number(help, line, 2),
         _ => {
             put_form(help, "its form is", verb.part, arguments);
             end_or_rest(line, words_with(arguments))

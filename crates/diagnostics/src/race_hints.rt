@@ -3,23 +3,28 @@
 use crate::forms::{HOOK, put_form};
 use crate::places::{Place, word_after};
 use crate::texts::Text;
+use schedule_lines::FaultKind;
 
 /// Finds what is wrong with a line behind `race` that a schedule's line can't have; None if it is nothing of a race's own.
-pub(crate) fn find_in_race<'a>(help: &mut Text, fault: &str, line: &'a [u8]) -> Option<Place<'a>> {
+pub(crate) fn find_in_race<'a>(
+    help: &mut Text,
+    fault: FaultKind,
+    line: &'a [u8],
+) -> Option<Place<'a>> {
     match fault {
-        "race twice" => help.put("a race has one line 'race'"),
-        "too many calls" => help.put("a task has at most 8 calls"),
-        "hook twice" => help.put(
+        FaultKind::RaceTwice => help.put("a race has one line 'race'"),
+        FaultKind::TooManyCalls => help.put("a task has at most 8 calls"),
+        FaultKind::HookTwice => help.put(
             "one hook of a call may fail: this call has a line 'hook' already",
         ),
-        "ok or refused expected" => {
+        FaultKind::BranchExpected => {
             help.put("'ok' or 'refused' stands behind 'if', as in '0 if ok thaw'");
             return Some(word_after(line, 2));
         }
-        "no call before" => help.put(
+        FaultKind::NoCallBefore => help.put(
             "'if' asks what the task's last call answered, and this is its first",
         ),
-        "call expected" => return Some(find_no_call(help, line)),
+        FaultKind::CallExpected => return Some(find_no_call(help, line)),
         _ => return None,
     }
     Some(word_or_first(line, 1))

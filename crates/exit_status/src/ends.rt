@@ -86,7 +86,7 @@ impl ProgramEnding {
 }
 
 /// Says why the program ends; where that can't be said it ends the same.
-pub fn why_told<D: Display + Drop, E: Write>(why: D, errors: &mut E) -> ProgramEnding
+pub fn report<D: Display + Drop, E: Write>(why: D, errors: &mut E) -> ProgramEnding
     ensures { result ≡ Refused }
 {
     let _ = writeln!(errors, "{why}");
@@ -125,7 +125,7 @@ impl fmt::Display for SourceName<'_> {
 }
 
 /// Says why the program ends, and of which file, if it is of one. Where that can't be said it ends the same.
-pub fn why_told_of<D: Display + Drop, E: Write>(
+pub fn report_of<D: Display + Drop, E: Write>(
     why: D,
     file: Option<&str>,
     errors: &mut E,
@@ -133,76 +133,88 @@ pub fn why_told_of<D: Display + Drop, E: Write>(
     ensures { result ≡ Refused }
 {
     match file {
-        None => why_told(why, errors),
-        Some(_) => why_told(format_args!("{}: {why}", SourceName(file)), errors),
+        None => report(why, errors),
+        Some(_) => report(format_args!("{}: {why}", SourceName(file)), errors),
     }
 }
 
 /// Says at which line a schedule ended, of which file, if it has one, and why.
-pub fn fault_told<E: Write>(fault: ReplayFault, file: Option<&str>, errors: &mut E) -> ProgramEnding
+pub fn report_fault<E: Write>(
+    fault: ReplayFault,
+    file: Option<&str>,
+    errors: &mut E,
+) -> ProgramEnding
     ensures { result ≡ Refused }
 {
-    why_told_of(fault, file, errors)
+    report_of(fault, file, errors)
 }
 
 /// Says why a file, or standard input where none is named, can't be opened or read.
-pub fn unopened<E: Write>(file: Option<&str>, error: &io::Error, errors: &mut E) -> ProgramEnding
+pub fn report_unopened<E: Write>(
+    file: Option<&str>,
+    error: &io::Error,
+    errors: &mut E,
+) -> ProgramEnding
     ensures { result ≡ Refused }
 {
     let name = SourceName(file);
     match error.kind() {
-        io::ErrorKind::OutOfMemory => refused_of(GateError::NoMemory, file, errors),
-        io::ErrorKind::IsADirectory => why_told(format_args!("{name}: {IS_FOLDER}"), errors),
-        _ => why_told(format_args!("{name}: {error}"), errors),
+        io::ErrorKind::OutOfMemory => report_refusal_of(GateError::NoMemory, file, errors),
+        io::ErrorKind::IsADirectory => report(format_args!("{name}: {IS_FOLDER}"), errors),
+        _ => report(format_args!("{name}: {error}"), errors),
     }
 }
 
 /// Says that a folder was named in the place of a file.
-pub fn folder_told<E: Write>(file: &str, errors: &mut E) -> ProgramEnding
+pub fn report_folder<E: Write>(file: &str, errors: &mut E) -> ProgramEnding
     ensures { result ≡ Refused }
 {
-    why_told_of(IS_FOLDER, Some(file), errors)
+    report_of(IS_FOLDER, Some(file), errors)
 }
 
 /// Writes the text that was asked for of the program itself, as its version, to the end if the ending is `Told`.
-pub fn text_told<W: Write, E: Write>(text: &str, writer: &mut W, errors: &mut E) -> ProgramEnding
+pub fn write_text<W: Write, E: Write>(text: &str, writer: &mut W, errors: &mut E) -> ProgramEnding
     ensures ending { (result ≡ Told) ⊎ (result ≡ Refused) }
     ensures told { result ≡ Told → Appends (W.contents writer.old) (W.contents writer.new) text.now }
 {
     match write_out(writer, text.as_bytes()) {
         Ok(()) => ProgramEnding::Told,
-        Err(fault) => why_told(fault.text(), errors),
+        Err(fault) => report(fault.text(), errors),
     }
 }
 
 /// Says why a run ended.
-pub fn refused<E: Write>(refusal: GateError, errors: &mut E) -> ProgramEnding
+pub fn report_refusal<E: Write>(refusal: GateError, errors: &mut E) -> ProgramEnding
     ensures { result ≡ Refused }
 {
-    refused_of(refusal, None, errors)
+    report_refusal_of(refusal, None, errors)
 }
 
 /// Says why the program ends that was refused something, and of which file, if it is of one.
-pub fn refused_of<E: Write>(refusal: GateError, file: Option<&str>, errors: &mut E) -> ProgramEnding
+pub fn report_refusal_of<E: Write>(
+    refusal: GateError,
+    file: Option<&str>,
+    errors: &mut E,
+) -> ProgramEnding
     ensures { result ≡ Refused }
 {
     let (number, name) = (refusal.number(), refusal.name());
-    why_told_of(format_args!("refused {number} {name}"), file, errors)
+    report_of(format_args!("refused {number} {name}"), file, errors)
 }
 
 /// Says that there are no words: an argument is no text, or there was no memory for them.
-pub fn unreadable<E: Write>(error: &io::Error, errors: &mut E) -> ProgramEnding
+pub fn report_unreadable<E: Write>(error: &io::Error, errors: &mut E) -> ProgramEnding
     ensures { (result ≡ Refused) ⊎ (result ≡ Misused) }
 {
     match error.kind() {
         io::ErrorKind::InvalidData => {
-            why_told(
+            report(
                 "error: invalid UTF-8 was detected in one or more arguments",
                 errors,
             );
             ProgramEnding::Misused
         }
-        io::ErrorKind::OutOfMemory => refused(GateError::NoMemory, errors),
-        _ => why_told(format_args!("error: {error}"), errors),
+        io::ErrorKind::OutOfMemory => report_refusal(GateError::NoMemory, errors),
+        _ => report(format_args!("error: {error}"), errors),
     }
 }

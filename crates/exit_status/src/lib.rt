@@ -7,8 +7,8 @@ pub mod reading;
 pub mod writing;
 
 pub use ends::{
-    Printable, ProgramEnding, SourceName, fault_told, folder_told, refused, refused_of, text_told,
-    unopened, unreadable, why_told, why_told_of,
+    Printable, ProgramEnding, SourceName, report, report_fault, report_folder, report_of,
+    report_refusal, report_refusal_of, report_unopened, report_unreadable, write_text,
 };
 pub use reading::{is_input, read_bytes};
 pub use writing::{expect_file, replace_file, write_file};

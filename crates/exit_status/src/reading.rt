@@ -4,7 +4,7 @@ ghost use Rattle.std.specs.Prelude.{◌≡◌, ◌↔◌, IsTrue, IfOk, IfErr, I
 ghost use Rattle.exit_status.specs.Endings.{IsInput};
 ghost use Rattle.exit_status.specs.declared.ends.ProgramEnding.TheVariants.{Refused};
 
-use crate::ends::{ProgramEnding, unopened};
+use crate::ends::{ProgramEnding, report_unopened};
 use schedule_lines::{LINE_BYTES, LINES};
 use std::alloc::Global;
 use std::fs::OpenFile;
@@ -45,9 +45,9 @@ pub fn read_bytes<R: Files + Alloc<A = Global>, I: Read, E: Write>(
 {
     match file {
         Some(file) if !is_input(Some(file)) => {
-            read_file(rt, alloc, file).map_err(|error| unopened(Some(file), &error, errors))
+            read_file(rt, alloc, file).map_err(|error| report_unopened(Some(file), &error, errors))
         }
-        _ => read_all(alloc, reader).map_err(|error| unopened(None, &error, errors)),
+        _ => read_all(alloc, reader).map_err(|error| report_unopened(None, &error, errors)),
     }
 }
 

@@ -6,7 +6,7 @@ ghost use Rattle.gate_runs.specs.Told.{WasRun};
 
 use crate::runs::run_plan;
 use access_model::GateError;
-use exit_status::{ProgramEnding, refused, why_told};
+use exit_status::{ProgramEnding, report, report_refusal};
 use run_plans::rows::{ROWS, add_rows};
 use run_plans::{Plan, RunObserver};
 use schedule_lines::bytes::write_out;
@@ -35,15 +35,15 @@ pub fn run_told<R: Threads + Wait + Clock + Sync, P: RunObserver + Sync, W: Writ
     let start = Instant::now(rt).ok();
     let (totals, details) = match run_plan(rt, alloc, plan, watch) {
         Ok((totals, details, _)) => (totals, details),
-        Err(refusal) => return refused(refusal, errors),
+        Err(refusal) => return report_refusal(refusal, errors),
     };
     let took = start.and_then(|start| start.elapsed(rt).ok());
     let mut lines = String::new(alloc);
     if add_rows(&mut lines, count, totals, details, took).is_err() {
-        return refused(GateError::NoMemory, errors);
+        return report_refusal(GateError::NoMemory, errors);
     }
     match write_out(writer, lines.as_bytes()) {
         Ok(()) => ProgramEnding::Ran,
-        Err(fault) => why_told(fault.text(), errors),
+        Err(fault) => report(fault.text(), errors),
     }
 }

@@ -1,29 +1,22 @@
--- The texts and causes of a history's faults, and where the first one stands.
-use Rattle.std.specs.Prelude.{◌≡◌, ◌⊎◌, ℕ, ◌+◌, List, [], ◌∷◌, ◌++◌, length, codes, Option, None, Result, Ok, Err}
-use Rattle.access_model.specs.declared.errors.GateError.{GateError, TheVariants.{NoMemory}}
-use Rattle.race_files.specs.{Faults.{cause_told as race_cause, text_told as race_text}, Left.{Left}, declared.faults.RaceFault.TheVariants.{Schedule}}
+-- The kinds of a history's faults, and where the first one stands.
+use Rattle.std.specs.Prelude.{◌≡◌, ◌⊎◌, ℕ, ◌+◌, List, [], ◌∷◌, ◌++◌, length, Option, None, Result, Ok, Err}
+use Rattle.access_model.specs.declared.errors.GateError.TheVariants.{NoMemory}
+use Rattle.race_files.specs.{Faults.{kind_of as race_kind}, Left.{Left}, declared.faults.RaceFault.TheVariants.{Schedule}}
 use Rattle.schedule_lines.specs.declared.{bytes.replay_faults.ReplayFault.{ReplayFault}, faults.Fault.{Fault, TheVariants.{Refused}}}
+use Rattle.schedule_lines.specs.declared.faults.FaultKind.{FaultKind, TheVariants.{HistoryExpected as HistoryExpectedKind, NothingUnderWay as NothingUnderWayKind, BadAnswer as BadAnswerKind}}
 use Rattle.history_files.specs.{Records.{Reading, ended, nothing_read, reading_after, reading_of}, declared.faults.HistoryFault.{HistoryFault, TheVariants.{Race, HistoryExpected, NothingUnderWay, BadAnswer}}}
 
--- the text that is printed of a fault
-abbrev pub text_told : HistoryFault → List ℕ
-text_told (Race fault) = race_text fault
-text_told HistoryExpected = codes "history expected"
-text_told NothingUnderWay = codes "nothing under way"
-text_told BadAnswer = codes "bad answer"
-
--- why a line was refused that was understood
-abbrev pub cause_told : HistoryFault → Option GateError
-cause_told (Race fault) = race_cause fault
-cause_told HistoryExpected = None
-cause_told NothingUnderWay = None
-cause_told BadAnswer = None
+-- the kind that is told of a fault
+abbrev pub kind_of : HistoryFault → FaultKind
+kind_of (Race fault) = race_kind fault
+kind_of HistoryExpected = HistoryExpectedKind
+kind_of NothingUnderWay = NothingUnderWayKind
+kind_of BadAnswer = BadAnswerKind
 
 -- the answer tells this fault, at the line of this number
 pub record IsFaultAt (number : ℕ) (fault : HistoryFault) (answer : ReplayFault) : Type 0 where
   pub line : answer.line ≡ number
-  pub text : answer.text.now ≡ text_told fault
-  pub cause : answer.cause ≡ cause_told fault
+  pub kind : answer.kind ≡ kind_of fault
 
 -- memory was refused
 abbrev pub IsMemory : HistoryFault → Type 0

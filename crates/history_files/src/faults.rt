@@ -2,8 +2,8 @@
 
 ghost use Rattle.std.specs.Prelude.{◌≡◌};
 
-use access_model::GateError;
 use race_files::RaceFault;
+use schedule_lines::FaultKind;
 use schedule_lines::bytes::ReplayFault;
 use schedule_text::Fault;
 
@@ -21,27 +21,17 @@ pub enum HistoryFault {
 }
 
 impl HistoryFault {
-    ghost use Rattle.history_files.specs.Faults.{IsFaultAt, cause_told, text_told};
+    ghost use Rattle.history_files.specs.Faults.{IsFaultAt, kind_of};
 
-    /// The text that is printed of the fault.
-    pub fn text(self) -> &'static str
-        ensures { result.now ≡ text_told self }
+    /// Returns the kind of the fault.
+    pub fn kind(self) -> FaultKind
+        ensures { result ≡ kind_of self }
     {
         match self {
-            HistoryFault::Race(fault) => fault.text(),
-            HistoryFault::HistoryExpected => "history expected",
-            HistoryFault::NothingUnderWay => "nothing under way",
-            HistoryFault::BadAnswer => "bad answer",
-        }
-    }
-
-    /// Why the line was refused, where it was understood.
-    pub fn cause(self) -> Option<GateError>
-        ensures { result ≡ cause_told self }
-    {
-        match self {
-            HistoryFault::Race(fault) => fault.cause(),
-            _ => None,
+            HistoryFault::Race(fault) => fault.kind(),
+            HistoryFault::HistoryExpected => FaultKind::HistoryExpected,
+            HistoryFault::NothingUnderWay => FaultKind::NothingUnderWay,
+            HistoryFault::BadAnswer => FaultKind::BadAnswer,
         }
     }
 
@@ -51,8 +41,7 @@ impl HistoryFault {
     {
         ReplayFault {
             line,
-            text: self.text(),
-            cause: self.cause(),
+            kind: self.kind(),
         }
     }
 }

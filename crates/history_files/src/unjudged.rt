@@ -6,6 +6,7 @@ use exploration::Stop;
 use schedule_lines::bytes::ReplayFault;
 use schedule_lines::numbers::is_digits;
 use schedule_lines::words::{first_word, is_word};
+use schedule_lines::{Fault, FaultKind};
 use schedule_text::{Front, front_of};
 use std::alloc::{AllocError, Global};
 
@@ -42,7 +43,7 @@ pub fn fault_text<'a>(
     let (context, rest) = Context::find(bytes, fault.line);
     let is_behind = find_history(bytes).is_some_and(|place| place.number < fault.line);
     if let Front::Line(length) = front_of(rest)
-        && let Some(told) = told_of(fault.text, &rest[..length], is_behind)
+        && let Some(told) = told_of(fault.kind, &rest[..length], is_behind)
     {
         let marked = Marked {
             file,
@@ -50,7 +51,7 @@ pub fn fault_text<'a>(
             line: &rest[..length],
             before: told.before,
             length: told.length,
-            error: fault.text,
+            error: fault.kind.text(),
             help: told.help,
         };
         return marked.told(alloc);
@@ -73,7 +74,7 @@ struct HistoryHelp {
 }
 
 /// What is told of a fault that only a history has; None if a schedule or a race has it too, at such a line.
-fn told_of(fault: &str, line: &[u8], is_behind: bool) -> Option<HistoryHelp> {
+fn told_of(fault: FaultKind, line: &[u8], is_behind: bool) -> Option<HistoryHelp> {
     if let Some(help) = help_of(fault, line) {
         return Some(HistoryHelp {
             before: 0,
@@ -85,7 +86,7 @@ fn told_of(fault: &str, line: &[u8], is_behind: bool) -> Option<HistoryHelp> {
         return None;
     }
     let first = first_word(line);
-    if fault == "unknown command" && !is_digits(first) {
+    if fault == FaultKind::Schedule(Fault::UnknownCommand) && !is_digits(first) {
         return Some(HistoryHelp {
             before: 0,
             length: first.len(),
@@ -103,25 +104,25 @@ fn told_of(fault: &str, line: &[u8], is_behind: bool) -> Option<HistoryHelp> {
 }
 
 /// How to mend a fault that only a history has; None if a schedule or a race has it too.
-fn help_of(fault: &str, line: &[u8]) -> Option<&'static str> {
+fn help_of(fault: FaultKind, line: &[u8]) -> Option<&'static str> {
     let help = match fault {
-        "history expected" => {
+        FaultKind::HistoryExpected => {
             "a history has a line 'history', and behind it what was recorded of each call"
         }
-        "task under way" if is_word(line, "history") => {
+        FaultKind::UnderWay if is_word(line, "history") => {
             "each call before 'history' has to end there: 'T run' until it is answered"
         }
-        "task under way" => {
+        FaultKind::UnderWay => {
             "the task's last call has not returned: 'T ok', 'T refused' or 'T ?' stands before its next one"
         }
-        "nothing under way" => {
+        FaultKind::NothingUnderWay => {
             "the task has no call under way here: the line by which it begins stands before this one"
         }
-        "bad answer" => {
+        FaultKind::BadAnswer => {
             "an answer is 'ok', 'ok node N', 'ok ran', 'ok none', 'refused', 'refused ERRNO', 'refused ERRNO NAME', 'refused hook CODE' or '?'"
         }
-        "too many calls" => "a call stands for at most 8 operations",
-        "hook twice" => "one hook of a call may fail: this call has a line 'hook' already",
+        FaultKind::TooManyCalls => "a call stands for at most 8 operations",
+        FaultKind::HookTwice => "one hook of a call may fail: this call has a line 'hook' already",
         _ => return None,
     };
     Some(help)

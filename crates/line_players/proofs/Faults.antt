@@ -7,7 +7,7 @@ use Rattle.schedule_text.specs.declared.commands.Line.{Line, TheVariants.{Config
 use Rattle.schedule_text.specs.declared.commands.{Request.{Request, TheVariants.{Words, Tree, Model, Task}}, TaskCommand.{TaskCommand}}
 use Rattle.schedule_text.specs.declared.verbs.Verb.{Verb}
 use Rattle.schedule_text.specs.declared.verbs.Verb.TheVariants.{Want, TryWant, Drop, Start, TryStart, End, WantWrite, DropWrite, Change, TryChange, Remount, Callback, Freeze, Thaw, Create, Remove, Grow, Move, Fault as FaultVerb, Flush, Open, Close, TryClose, Snapshot, TrySnapshot, Step, Run}
-use Rattle.schedule_text.specs.Parsing.{◌>>=◌, expect, number_at, byte_at, code_at, hook_at, holder_at, holder_given, read_only_at, want_of, drop_of, start_of, end_of, want_write_of, drop_write_of, change_of, remount_of, callback_of, freeze_of, thaw_of, kind_at, create_of, remove_of, grow_of, move_of, fault_of, flush_of, open_of, close_of, step_of, run_of, arguments_of, task_line, alone, command_line, config_of, config_line, line_for, parsed, task_of}
+use Rattle.schedule_text.specs.Parsing.{◌>>=◌, expect, number_at, byte_at, code_at, hook_at, holder_at, holder_given, read_only_at, two_at, change_of, kind_at, create_of, grow_of, step_of, run_of, arguments_of, task_line, alone, command_line, config_of, config_line, line_for, parsed, task_of}
 use Rattle.schedule_text.specs.Verbs.{takes, verb_of}
 use Rattle.schedule_lines.specs.declared.faults.Fault.{Fault}
 use Rattle.schedule_lines.specs.declared.faults.Fault.TheVariants.{ConfigExpected, ConfigTwice, UnknownCommand, WrongNumberOfWords, NoSuchTask, BadNumber, BadWord, ReadFailed, WriteFailed, Refused}
@@ -89,50 +89,15 @@ read_only_own : (text : List ℕ) → FailsByOwn (read_only_at text)
 unfolding read_only_at
 read_only_own text = or_own _ BadWord refl
 
--- the arguments of a want
-want_own : (rest : List ℕ) (wait : Bool) → FailsByOwn (want_of rest wait)
-unfolding want_of
-want_own rest wait = then_own _ _ (byte_own rest) (λ (m : ℕ). then_own _ _ (byte_own (after_word rest)) (λ (c : ℕ). ok_own _))
-
--- the arguments of a drop
-drop_own : (rest : List ℕ) → FailsByOwn (drop_of rest)
-unfolding drop_of
-drop_own rest = then_own _ _ (byte_own rest) (λ (m : ℕ). then_own _ _ (byte_own (after_word rest)) (λ (c : ℕ). ok_own _))
-
--- the arguments of a start
-start_own : (rest : List ℕ) (wait : Bool) → FailsByOwn (start_of rest wait)
-unfolding start_of
-start_own rest wait = then_own _ _ (byte_own rest) (λ (i : ℕ). then_own _ _ (byte_own (after_word rest)) (λ (c : ℕ). ok_own _))
-
--- the arguments of an end
-end_own : (rest : List ℕ) → FailsByOwn (end_of rest)
-unfolding end_of
-end_own rest = then_own _ _ (byte_own rest) (λ (i : ℕ). then_own _ _ (byte_own (after_word rest)) (λ (c : ℕ). ok_own _))
-
--- the arguments of a taking of write access
-want_write_own : (rest : List ℕ) → FailsByOwn (want_write_of rest)
-unfolding want_write_of
-want_write_own rest = then_own _ _ (byte_own rest) (λ (m : ℕ). then_own _ _ (byte_own (after_word rest)) (λ (c : ℕ). ok_own _))
-
--- the arguments of a return of write access
-drop_write_own : (rest : List ℕ) → FailsByOwn (drop_write_of rest)
-unfolding drop_write_of
-drop_write_own rest = then_own _ _ (byte_own rest) (λ (m : ℕ). then_own _ _ (byte_own (after_word rest)) (λ (c : ℕ). ok_own _))
+-- two numbers
+two_own : (rest : List ℕ) → FailsByOwn (two_at rest)
+unfolding two_at
+two_own rest = then_own _ _ (byte_own rest) (λ (first : ℕ). then_own _ _ (byte_own (after_word rest)) (λ (second : ℕ). ok_own _))
 
 -- the arguments of a change
 change_own : (rest : List ℕ) (wait : Bool) → FailsByOwn (change_of rest wait)
 unfolding change_of
 change_own rest wait = then_own _ _ (byte_own rest) (λ (m : ℕ). then_own _ _ (read_only_own (after_word rest)) (λ (b : Bool). ok_own _))
-
--- the argument of a remount
-remount_own : (rest : List ℕ) → FailsByOwn (remount_of rest)
-unfolding remount_of
-remount_own rest = then_own _ _ (read_only_own rest) (λ (b : Bool). ok_own _)
-
--- the argument of a callback
-callback_own : (rest : List ℕ) → FailsByOwn (callback_of rest)
-unfolding callback_of
-callback_own rest = then_own _ _ (byte_own rest) (λ (i : ℕ). ok_own _)
 
 -- who holds a freeze
 holder_own : (text : List ℕ) → FailsByOwn (holder_at text)
@@ -144,16 +109,6 @@ given_own : (rest : List ℕ) (words : ℕ) → FailsByOwn (holder_given rest wo
 unfolding holder_given
 given_own rest words = if_own _ _ _ (ok_own _) (holder_own rest)
 
--- the argument of a freeze
-freeze_own : (rest : List ℕ) (words : ℕ) → FailsByOwn (freeze_of rest words)
-unfolding freeze_of
-freeze_own rest words = then_own _ _ (given_own rest words) (λ _. ok_own _)
-
--- the argument of a thaw
-thaw_own : (rest : List ℕ) (words : ℕ) → FailsByOwn (thaw_of rest words)
-unfolding thaw_of
-thaw_own rest words = then_own _ _ (given_own rest words) (λ _. ok_own _)
-
 -- the kind of a node
 kind_own : (text : List ℕ) → FailsByOwn (kind_at text)
 unfolding kind_at
@@ -164,40 +119,10 @@ create_own : (rest : List ℕ) → FailsByOwn (create_of rest)
 unfolding create_of
 create_own rest = then_own _ _ (byte_own rest) (λ (d : ℕ). then_own _ _ (kind_own (after_word rest)) (λ _. ok_own _))
 
--- the argument of a removal
-remove_own : (rest : List ℕ) → FailsByOwn (remove_of rest)
-unfolding remove_of
-remove_own rest = then_own _ _ (byte_own rest) (λ (n : ℕ). ok_own _)
-
 -- the arguments of a growth
 grow_own : (rest : List ℕ) → FailsByOwn (grow_of rest)
 unfolding grow_of
 grow_own rest = then_own _ _ (byte_own rest) (λ (n : ℕ). then_own _ _ (number_own (after_word rest)) (λ (b : ℕ). ok_own _))
-
--- the arguments of a move
-move_own : (rest : List ℕ) → FailsByOwn (move_of rest)
-unfolding move_of
-move_own rest = then_own _ _ (byte_own rest) (λ (n : ℕ). then_own _ _ (byte_own (after_word rest)) (λ (d : ℕ). ok_own _))
-
--- the argument of a fault on a page
-page_fault_own : (rest : List ℕ) → FailsByOwn (fault_of rest)
-unfolding fault_of
-page_fault_own rest = then_own _ _ (byte_own rest) (λ (n : ℕ). ok_own _)
-
--- the argument of a flush
-flush_own : (rest : List ℕ) → FailsByOwn (flush_of rest)
-unfolding flush_of
-flush_own rest = then_own _ _ (byte_own rest) (λ (n : ℕ). ok_own _)
-
--- the argument of an opening
-open_own : (rest : List ℕ) → FailsByOwn (open_of rest)
-unfolding open_of
-open_own rest = then_own _ _ (byte_own rest) (λ (n : ℕ). ok_own _)
-
--- the arguments of a closing
-close_own : (rest : List ℕ) (wait : Bool) → FailsByOwn (close_of rest wait)
-unfolding close_of
-close_own rest wait = then_own _ _ (byte_own rest) (λ (n : ℕ). then_own _ _ (byte_own (after_word rest)) (λ (p : ℕ). ok_own _))
 
 -- the argument of a step
 step_own : (rest : List ℕ) → FailsByOwn (step_of rest)
@@ -212,29 +137,29 @@ run_own rest = then_own _ _ (hook_own rest) (λ _. then_own _ _ (code_own (after
 -- the arguments of a verb
 arguments_own : (verb : Verb) (rest : List ℕ) (words : ℕ) → FailsByOwn (arguments_of verb rest words)
 unfolding arguments_of
-arguments_own Want rest words = want_own rest true
-arguments_own TryWant rest words = want_own rest false
-arguments_own Drop rest words = drop_own rest
-arguments_own Start rest words = start_own rest true
-arguments_own TryStart rest words = start_own rest false
-arguments_own End rest words = end_own rest
-arguments_own WantWrite rest words = want_write_own rest
-arguments_own DropWrite rest words = drop_write_own rest
+arguments_own Want rest words = then_own _ _ (two_own rest) (λ _. ok_own _)
+arguments_own TryWant rest words = then_own _ _ (two_own rest) (λ _. ok_own _)
+arguments_own WantWrite rest words = then_own _ _ (two_own rest) (λ _. ok_own _)
+arguments_own Drop rest words = then_own _ _ (two_own rest) (λ _. ok_own _)
+arguments_own DropWrite rest words = then_own _ _ (two_own rest) (λ _. ok_own _)
+arguments_own Start rest words = then_own _ _ (two_own rest) (λ _. ok_own _)
+arguments_own TryStart rest words = then_own _ _ (two_own rest) (λ _. ok_own _)
+arguments_own End rest words = then_own _ _ (two_own rest) (λ _. ok_own _)
+arguments_own Callback rest words = then_own _ _ (byte_own rest) (λ _. ok_own _)
 arguments_own Change rest words = change_own rest true
 arguments_own TryChange rest words = change_own rest false
-arguments_own Remount rest words = remount_own rest
-arguments_own Callback rest words = callback_own rest
-arguments_own Freeze rest words = freeze_own rest words
-arguments_own Thaw rest words = thaw_own rest words
+arguments_own Remount rest words = then_own _ _ (read_only_own rest) (λ _. ok_own _)
+arguments_own Freeze rest words = then_own _ _ (given_own rest words) (λ _. ok_own _)
+arguments_own Thaw rest words = then_own _ _ (given_own rest words) (λ _. ok_own _)
 arguments_own Create rest words = create_own rest
-arguments_own Remove rest words = remove_own rest
+arguments_own Remove rest words = then_own _ _ (byte_own rest) (λ _. ok_own _)
 arguments_own Grow rest words = grow_own rest
-arguments_own Move rest words = move_own rest
-arguments_own FaultVerb rest words = page_fault_own rest
-arguments_own Flush rest words = flush_own rest
-arguments_own Open rest words = open_own rest
-arguments_own Close rest words = close_own rest true
-arguments_own TryClose rest words = close_own rest false
+arguments_own Move rest words = then_own _ _ (two_own rest) (λ _. ok_own _)
+arguments_own FaultVerb rest words = then_own _ _ (byte_own rest) (λ _. ok_own _)
+arguments_own Flush rest words = then_own _ _ (byte_own rest) (λ _. ok_own _)
+arguments_own Open rest words = then_own _ _ (byte_own rest) (λ _. ok_own _)
+arguments_own Close rest words = then_own _ _ (two_own rest) (λ _. ok_own _)
+arguments_own TryClose rest words = then_own _ _ (two_own rest) (λ _. ok_own _)
 arguments_own Snapshot rest words = ok_own _
 arguments_own TrySnapshot rest words = ok_own _
 arguments_own Step rest words = if_own _ _ _ (ok_own _) (step_own rest)

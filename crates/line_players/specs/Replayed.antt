@@ -2,7 +2,7 @@
 use Rattle.std.specs.Prelude.{◌≡◌, ◌≤◌, ℕ, ◌+◌, ◌⊎◌, List, ◌++◌, length, Option, Some, None, Result, Ok, Err, IfSome, count_by}
 use Rattle.std.specs.Io.KnownBytes.{Appends, Consumes}
 use Rattle.access_model.specs.declared.errors.GateError.TheVariants.{NoMemory}
-use Rattle.schedule_lines.specs.{Faults.{text_of, cause_of}, Lines.{is_newline}, declared.faults.Fault.{Fault}}
+use Rattle.schedule_lines.specs.{Lines.{is_newline}, declared.faults.{Fault.{Fault}, FaultKind.TheVariants.{Schedule}}}
 use Rattle.schedule_lines.specs.declared.faults.Fault.TheVariants.{CutOff, ConfigExpected, ReadFailed, WriteFailed, Refused}
 use Rattle.schedule_lines.specs.declared.bytes.replay_faults.ReplayFault.{ReplayFault}
 use Rattle.transcripts.specs.Transcript.{transcript}
@@ -66,9 +66,8 @@ EndsBy input taken written line WriteFailed =
 EndsBy input taken written line fault = EndsWhole input taken written line fault
 
 -- the answer reports this fault
-pub record Reports (answer : ReplayFault) (fault : Fault) : Type 0 where
-  pub text : answer.text.now ≡ text_of fault
-  pub cause : answer.cause ≡ cause_of fault
+abbrev pub Reports : ReplayFault → Fault → Type 0
+Reports answer fault = answer.kind ≡ Schedule fault
 
 -- how a replay ends: well, with the whole transcript written, or by a fault
 abbrev pub EndsAs : Option (List ℕ) → List ℕ → List ℕ → Result (Unit {0}) ReplayFault → Type 0

@@ -61,12 +61,12 @@ impl<P: Player> LineReplay<P> {
         for done in 0..LINES {
             match self.do_line(reader, writer) {
                 Ok(true) => {}
-                Ok(false) => return self.ended(done, Ok(()), writer),
-                Err(fault) => return self.ended(done, Err(fault), writer),
+                Ok(false) => return self.finish(done, Ok(()), writer),
+                Err(fault) => return self.finish(done, Err(fault), writer),
             }
         }
         let outcome = self.expect_end(reader, writer);
-        self.ended(LINES, outcome, writer)
+        self.finish(LINES, outcome, writer)
     }
 
     /// Reads a line and does it; says whether there was one.
@@ -220,9 +220,9 @@ impl<P: Player> LineReplay<P> {
         written
     }
 
-    /// Prints what stands behind all lines, and writes out what was printed, as the lines have ended after so many. Where that fails, this is
-    /// the fault.
-    fn ended<W: Write>(
+    /// Ends the replay, whose lines have ended after so many: prints what stands behind all lines, and writes out
+    /// what was printed. Where that fails, this is the fault.
+    fn finish<W: Write>(
         &mut self,
         done: u32,
         outcome: Result<(), Fault>,

@@ -10,7 +10,7 @@ ghost use Rattle.line_players.specs.Replayed.{Replayed};
 use crate::outcomes::run_outcomes;
 use crate::validation::run_validation;
 use command_line::{Numbers, ProgramRequest, RunReport, read_words};
-use exit_status::{ProgramEnding, refused, text_told};
+use exit_status::{ProgramEnding, report_refusal, write_text};
 use gate_runs::{Plan, run_told};
 use program_checks::{run_blessings, run_checks};
 use program_replay::{Terminal, run_replay};
@@ -98,7 +98,7 @@ fn do_asked<
             let watched = person.watches;
             Ok(run_threads(rt, alloc, *numbers, *tells, writer, errors, watched))
         }
-        ProgramRequest::Told(text) => Ok(text_told(text.as_str(), writer, errors)),
+        ProgramRequest::Told(text) => Ok(write_text(text.as_str(), writer, errors)),
         ProgramRequest::Misused => Ok(ProgramEnding::Misused),
     }
 }
@@ -134,7 +134,7 @@ fn run_threads<R: Threads + Wait + Clock + Sync, W: Write, E: Write>(
     } = numbers;
     let plan = match Plan::new(tasks, processors, rounds, freezes) {
         Ok(plan) => plan.with_patience(patience),
-        Err(refusal) => return refused(refusal, errors),
+        Err(refusal) => return report_refusal(refusal, errors),
     };
     let progress = watched.and_then(|stderr| Progress::new(
         rt, tasks, rounds, freezes, stderr,

@@ -9,7 +9,7 @@ pub mod validation;
 
 use crate::dispatch::run;
 use access_model::GateError;
-use exit_status::{ProgramEnding, refused, unreadable};
+use exit_status::{ProgramEnding, report_refusal, report_unreadable};
 use program_replay::Terminal;
 use std::alloc::Global;
 use std::io::{IsTerminal, Stderr};
@@ -37,7 +37,7 @@ fn main(rt: HostRuntime) -> ExitCode {
                 &mut errors,
                 person,
             );
-            ended.unwrap_or_else(|_| refused(GateError::NoMemory, &mut errors))
+            ended.unwrap_or_else(|_| report_refusal(GateError::NoMemory, &mut errors))
         }
         Err(ending) => ending,
     };
@@ -54,8 +54,8 @@ fn words_of(
     alloc: Global,
     errors: &mut Stderr,
 ) -> Result<Vec<String>, ProgramEnding> {
-    let words = std::env::args(rt).map_err(|error| unreadable(&error, errors))?;
+    let words = std::env::args(rt).map_err(|error| report_unreadable(&error, errors))?;
     words
         .collect(alloc)
-        .map_err(|_| refused(GateError::NoMemory, errors))
+        .map_err(|_| report_refusal(GateError::NoMemory, errors))
 }

@@ -60,7 +60,7 @@ pub fn run_outcomes<R: Files + Clock + Alloc<A = Global>, I: Read, W: Write, E: 
             let bytes = bytes.as_slice();
             match answer_outcomes(rt, asked, bytes, writer, errors, watched) {
                 Ok(ending) => Ok(ending),
-                Err(why) => Ok(why.told(alloc, asked, bytes, errors)),
+                Err(why) => Ok(why.report(alloc, asked, bytes, errors)),
             }
         }
         Err(ending) => Ok(ending),

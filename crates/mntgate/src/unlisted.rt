@@ -6,7 +6,7 @@ ghost use Rattle.exit_status.specs.declared.ends.ProgramEnding.TheVariants.{Refu
 use access_model::GateError;
 use command_line::Outcomes;
 use diagnostics::{Context, Faulty, tell_faulty};
-use exit_status::{ProgramEnding, refused_of, why_told, why_told_of};
+use exit_status::{ProgramEnding, report, report_of, report_refusal_of};
 use exploration::Stop;
 use schedule_lines::Fault;
 use schedule_lines::bytes::ReplayFault;
@@ -39,8 +39,8 @@ impl From<Stop> for Unlisted {
 }
 
 impl Unlisted {
-    /// Tells why on the writer of faults, and returns how the program ends. The race is that of these bytes.
-    pub fn told<E: Write>(
+    /// Reports why on the writer of faults, and returns how the program ends. The race is that of these bytes.
+    pub fn report<E: Write>(
         self,
         alloc: Global,
         asked: Outcomes<'_>,
@@ -50,17 +50,17 @@ impl Unlisted {
         ensures { result ≡ Refused }
     {
         match self {
-            Unlisted::Faulty(fault) => tell_fault(alloc, bytes, fault, asked.file, errors),
-            Unlisted::BadClaim(text) => why_told(text.as_str(), errors),
-            Unlisted::Stopped(stop) => stopped(stop, asked, errors),
+            Unlisted::Faulty(fault) => report_fault(alloc, bytes, fault, asked.file, errors),
+            Unlisted::BadClaim(text) => report(text.as_str(), errors),
+            Unlisted::Stopped(stop) => report_stop(stop, asked, errors),
             Unlisted::Unsaved => ProgramEnding::Refused,
-            Unlisted::Unwritten(fault) => why_told(fault.text(), errors),
+            Unlisted::Unwritten(fault) => report(fault.text(), errors),
         }
     }
 }
 
-/// Tells the fault of a race in these bytes, with its line and how to mend it.
-fn tell_fault<E: Write>(
+/// Reports the fault of a race in these bytes, with its line and how to mend it.
+fn report_fault<E: Write>(
     alloc: Global,
     bytes: &[u8],
     fault: ReplayFault,
@@ -79,15 +79,15 @@ fn tell_fault<E: Write>(
     tell_faulty(alloc, faulty, errors)
 }
 
-/// Tells why a search was stopped.
-fn stopped<E: Write>(stop: Stop, asked: Outcomes<'_>, errors: &mut E) -> ProgramEnding
+/// Reports why a search was stopped.
+fn report_stop<E: Write>(stop: Stop, asked: Outcomes<'_>, errors: &mut E) -> ProgramEnding
     ensures { result ≡ Refused }
 {
     match stop {
-        Stop::NoMemory => refused_of(GateError::NoMemory, asked.file, errors),
+        Stop::NoMemory => report_refusal_of(GateError::NoMemory, asked.file, errors),
         Stop::TooMany => {
             let limit = asked.limit;
-            why_told_of(format_args!("more than {limit} states"), asked.file, errors)
+            report_of(format_args!("more than {limit} states"), asked.file, errors)
         }
     }
 }

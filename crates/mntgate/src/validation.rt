@@ -9,7 +9,7 @@ ghost use Rattle.schedule_lines.specs.bytes.Writing.{AppendsPart};
 use crate::progress::SearchProgress;
 use access_model::GateError;
 use command_line::Validation;
-use exit_status::{ProgramEnding, fault_told, read_bytes, refused_of, why_told, why_told_of};
+use exit_status::{ProgramEnding, read_bytes, report, report_fault, report_of, report_refusal_of};
 use history_files::{Told, Unjudged, Unvalidated, fault_text, validate};
 use schedule_lines::bytes::{ReplayFault, write_out};
 use std::alloc::{AllocError, Global};
@@ -51,10 +51,10 @@ fn write_told<W: Write, E: Write>(told: &Told, writer: &mut W, errors: &mut E) -
         ⊎ AppendsPart (W.contents writer.old) (W.contents writer.new) told.now.text.bytes.items)) }
 {
     if let Some(fault) = &told.fault {
-        let _ = why_told(fault.text.as_str(), errors);
+        let _ = report(fault.text.as_str(), errors);
     }
     if let Err(fault) = write_out(writer, told.text.bytes.as_slice()) {
-        return why_told(fault.text(), errors);
+        return report(fault.text(), errors);
     }
     match &told.fault {
         Some(_) => ProgramEnding::Refused,
@@ -75,11 +75,11 @@ fn tell_unvalidated<E: Write>(
     match why {
         Unvalidated::Faulty(fault) => tell_fault(alloc, asked, bytes, fault, errors),
         Unvalidated::Unjudged(Unjudged::NoMemory) => {
-            refused_of(GateError::NoMemory, asked.file, errors)
+            report_refusal_of(GateError::NoMemory, asked.file, errors)
         }
         Unvalidated::Unjudged(Unjudged::TooMany) => {
             let limit = asked.limit;
-            why_told_of(format_args!("more than {limit} states"), asked.file, errors)
+            report_of(format_args!("more than {limit} states"), asked.file, errors)
         }
     }
 }
@@ -95,7 +95,7 @@ fn tell_fault<E: Write>(
     ensures { result ≡ Refused }
 {
     match fault_text(alloc, asked.file, bytes, fault) {
-        Ok(text) => why_told(text.as_str(), errors),
-        Err(AllocError) => fault_told(fault, asked.file, errors),
+        Ok(text) => report(text.as_str(), errors),
+        Err(AllocError) => report_fault(fault, asked.file, errors),
     }
 }

@@ -7,7 +7,7 @@ ghost use Rattle.race_outcomes.specs.Methods.{next_by};
 
 use crate::executions::{execution_of, movers_of};
 use access_model::GateError;
-use exit_status::{ProgramEnding, refused_of, unopened, why_told_of, write_file};
+use exit_status::{ProgramEnding, report_of, report_refusal_of, report_unopened, write_file};
 use race_files::RaceSource;
 use race_outcomes::{Outcome, OutcomeListing, runs_for};
 use replay_forms::Style;
@@ -42,13 +42,13 @@ pub fn save_outcomes<R: Files + Alloc<A = Global>, E: Write>(
     ensures { IfErr result (λ ending. ending ≡ Refused) }
 {
     let runs = runs_for(source.alloc, &source.calls.race, &listing.all.found, true).map_err(
-        |_| refused_of(GateError::NoMemory, Some(folder), errors),
+        |_| report_refusal_of(GateError::NoMemory, Some(folder), errors),
     )?;
     let mut number = 1u64;
     for outcome in &listing.outcomes {
         let file = movers_of(source, listing, &runs, outcome.end)
             .and_then(|movers| file_of(source, outcome, movers.as_slice(), style))
-            .map_err(|_| refused_of(GateError::NoMemory, Some(folder), errors))?;
+            .map_err(|_| report_refusal_of(GateError::NoMemory, Some(folder), errors))?;
         save_file(
             rt,
             source.alloc,
@@ -72,7 +72,7 @@ fn save_file<R: Files + Alloc<A = Global>, E: Write>(
     ensures { IfErr result (λ ending. ending ≡ Refused) }
 {
     let name = name_of(alloc, place, errors)?;
-    write_file(rt, name.as_str(), bytes).map_err(|error| unopened(
+    write_file(rt, name.as_str(), bytes).map_err(|error| report_unopened(
         Some(name.as_str()),
         &error,
         errors,
@@ -88,7 +88,7 @@ fn name_of<E: Write>(
     ensures { IfErr result (λ ending. ending ≡ Refused) }
 {
     let (folder, number) = place;
-    format!(in alloc; "{folder}/{number}.schedule").map_err(|_| refused_of(
+    format!(in alloc; "{folder}/{number}.schedule").map_err(|_| report_refusal_of(
         GateError::NoMemory,
         Some(folder),
         errors,
@@ -106,7 +106,7 @@ fn tell_older<R: Files, E: Write>(
 {
     let name = name_of(alloc, place, errors)?;
     if fs::symlink_metadata(rt, name.as_str()).is_ok() {
-        why_told_of(OLDER, Some(name.as_str()), errors);
+        report_of(OLDER, Some(name.as_str()), errors);
     }
     Ok(())
 }

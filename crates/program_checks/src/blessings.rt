@@ -7,8 +7,8 @@ use crate::blessed::blessed;
 use crate::playing::{STATES, Source, Stopped};
 use access_model::GateError;
 use exit_status::{
-    ProgramEnding, expect_file, fault_told, read_bytes, refused, refused_of, replace_file,
-    unopened, why_told, why_told_of,
+    ProgramEnding, expect_file, read_bytes, replace_file, report, report_fault, report_of,
+    report_refusal, report_refusal_of, report_unopened,
 };
 use schedule_lines::bytes::write_out;
 use schedule_text::Output;
@@ -45,12 +45,12 @@ impl Counts {
         told.numbered(b" unchanged, ", self.failed);
         told.text(b" failed\n");
         if told.settled().is_err() {
-            return refused(GateError::NoMemory, errors);
+            return report_refusal(GateError::NoMemory, errors);
         }
         match write_out(writer, told.bytes.as_slice()) {
             Ok(()) if self.failed == 0 => ProgramEnding::Blessed,
             Ok(()) => ProgramEnding::Refused,
-            Err(fault) => why_told(fault.text(), errors),
+            Err(fault) => report(fault.text(), errors),
         }
     }
 }
@@ -90,7 +90,7 @@ fn bless<R: Files + Alloc<A = Global>, I: Read, E: Write>(
     // A pipe would be read, and can't be replaced.
     fs::metadata(rt, file)
         .and_then(|found| expect_file(&found))
-        .map_err(|error| unopened(Some(file), &error, errors))?;
+        .map_err(|error| report_unopened(Some(file), &error, errors))?;
     let bytes = read_bytes(rt, alloc, Some(file), reader, errors)?;
     let source = Source {
         file: Some(file),
@@ -111,15 +111,15 @@ fn tell_stopped<E: Write>(
 ) -> ProgramEnding {
     match stopped {
         Stopped::Fault(fault) => match source.fault_text(alloc, fault) {
-            Ok(text) => why_told(text.as_str(), errors),
-            Err(AllocError) => fault_told(fault, source.file, errors),
+            Ok(text) => report(text.as_str(), errors),
+            Err(AllocError) => report_fault(fault, source.file, errors),
         },
-        Stopped::TooMany => why_told_of(
+        Stopped::TooMany => report_of(
             format_args!("more than {STATES} states"),
             source.file,
             errors,
         ),
-        Stopped::NoMemory => refused_of(GateError::NoMemory, source.file, errors),
+        Stopped::NoMemory => report_refusal_of(GateError::NoMemory, source.file, errors),
     }
 }
 
@@ -132,12 +132,12 @@ fn write_new<R: Files + Alloc<A = Global>, E: Write>(
     errors: &mut E,
 ) -> Result<bool, ProgramEnding> {
     if lines.settled().is_err() {
-        return Err(refused_of(GateError::NoMemory, Some(file), errors));
+        return Err(report_refusal_of(GateError::NoMemory, Some(file), errors));
     }
     if lines.bytes.as_slice() == others {
         return Ok(false);
     }
-    replace_file(rt, file, lines.bytes.as_slice()).map_err(|error| unopened(
+    replace_file(rt, file, lines.bytes.as_slice()).map_err(|error| report_unopened(
         Some(file),
         &error,
         errors,

@@ -9,7 +9,7 @@ ghost use Rattle.exit_status.specs.declared.ends.ProgramEnding.TheVariants.{Pass
 use crate::comparisons::check;
 use crate::playing::Source;
 use access_model::GateError;
-use exit_status::{ProgramEnding, read_bytes, refused, refused_of, why_told};
+use exit_status::{ProgramEnding, read_bytes, report, report_refusal, report_refusal_of};
 use schedule_lines::bytes::write_out;
 use schedule_text::{Fault, Output};
 use std::alloc::{AllocError, Global};
@@ -68,7 +68,7 @@ impl Checks {
             }
             Err(AllocError) => {
                 self.failed += 1;
-                let _ = refused_of(GateError::NoMemory, source.file, errors);
+                let _ = report_refusal_of(GateError::NoMemory, source.file, errors);
             }
         }
     }
@@ -94,11 +94,11 @@ impl Checks {
         let mut counts = Output::new(self.alloc);
         tell_counts(self.passed, self.failed, &mut counts);
         if counts.settled().is_err() {
-            return refused(GateError::NoMemory, errors);
+            return report_refusal(GateError::NoMemory, errors);
         }
         self.write(counts.bytes.as_slice(), writer);
         if !self.is_written {
-            return why_told(Fault::WriteFailed.text(), errors);
+            return report(Fault::WriteFailed.text(), errors);
         }
         if self.failed == 0 {
             ProgramEnding::Passed

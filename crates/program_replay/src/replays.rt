@@ -10,7 +10,7 @@ ghost use Rattle.command_line.specs.declared.words.ReplayForm.TheVariants.{Plain
 use crate::gates_driver::GatesDriver;
 use crate::telling::{Telling, replay_gates_told, replay_told, show_told};
 use command_line::{Replay, ReplayForm};
-use exit_status::{ProgramEnding, folder_told, unopened};
+use exit_status::{ProgramEnding, report_folder, report_unopened};
 use gate_core::Core;
 use replay_forms::{Form, Look, Style};
 use std::alloc::Global;
@@ -81,9 +81,9 @@ fn open_file<R: Files, E: Write>(
     if let Ok(metadata) = fs::metadata(rt, file)
         && metadata.is_dir()
     {
-        return Err(folder_told(file, errors));
+        return Err(report_folder(file, errors));
     }
-    fs::open(rt, file).map_err(|error| unopened(Some(file), &error, errors))
+    fs::open(rt, file).map_err(|error| report_unopened(Some(file), &error, errors))
 }
 
 /// Replays the schedule of standard input; a person who is to type it is told so.

@@ -6,7 +6,7 @@ ghost use Rattle.line_players.specs.Replayed.{Replayed};
 
 use crate::gates_driver::{GatesDriver, replay_gates};
 use diagnostics::{Context, Faulty, tell_faulty};
-use exit_status::fault_told;
+use exit_status::report_fault;
 use gate_core::Driver;
 use line_players::{LineReplay, replay_to_end};
 use replay_forms::{Form, Look, ScreenPlayer, html};
@@ -64,7 +64,7 @@ pub fn replay_gates_told<R: Read, W: Write, E: Write>(
     }
     let ended = replay_gates(telling.alloc, reader, writer);
     if let Err(fault) = ended {
-        let _ = fault_told(fault, telling.file, errors);
+        let _ = report_fault(fault, telling.file, errors);
     }
     ended
 }
@@ -143,6 +143,6 @@ fn tell<E: Write>(
     let _ = if explains {
         tell_faulty(alloc, faulty, errors)
     } else {
-        fault_told(fault, file, errors)
+        report_fault(fault, file, errors)
     };
 }

@@ -2,7 +2,7 @@
 
 ghost use Rattle.std.specs.Prelude.{◌≡◌, ◌≤◌};
 
-use access_model::GateError;
+use schedule_lines::FaultKind;
 use schedule_lines::bytes::ReplayFault;
 use schedule_text::Fault;
 
@@ -30,32 +30,22 @@ pub enum RaceFault {
 }
 
 impl RaceFault {
-    ghost use Rattle.race_files.specs.Faults.{text_told, cause_told, IsFaultAfter};
+    ghost use Rattle.race_files.specs.Faults.{IsFaultAfter, kind_of};
 
-    /// The text that is printed of the fault.
-    pub fn text(self) -> &'static str
-        ensures { result.now ≡ text_told self }
+    /// Returns the kind of the fault.
+    pub fn kind(self) -> FaultKind
+        ensures { result ≡ kind_of self }
     {
         match self {
-            RaceFault::Schedule(fault) => fault.text(),
-            RaceFault::RaceExpected => "race expected",
-            RaceFault::RaceTwice => "race twice",
-            RaceFault::UnderWay => "task under way",
-            RaceFault::CallExpected => "call expected",
-            RaceFault::TooManyCalls => "too many calls",
-            RaceFault::HookTwice => "hook twice",
-            RaceFault::BranchExpected => "ok or refused expected",
-            RaceFault::NoCallBefore => "no call before",
-        }
-    }
-
-    /// Why the line was refused, where it was understood.
-    pub fn cause(self) -> Option<GateError>
-        ensures { result ≡ cause_told self }
-    {
-        match self {
-            RaceFault::Schedule(fault) => fault.cause(),
-            _ => None,
+            RaceFault::Schedule(fault) => FaultKind::Schedule(fault),
+            RaceFault::RaceExpected => FaultKind::RaceExpected,
+            RaceFault::RaceTwice => FaultKind::RaceTwice,
+            RaceFault::UnderWay => FaultKind::UnderWay,
+            RaceFault::CallExpected => FaultKind::CallExpected,
+            RaceFault::TooManyCalls => FaultKind::TooManyCalls,
+            RaceFault::HookTwice => FaultKind::HookTwice,
+            RaceFault::BranchExpected => FaultKind::BranchExpected,
+            RaceFault::NoCallBefore => FaultKind::NoCallBefore,
         }
     }
 
@@ -66,8 +56,7 @@ impl RaceFault {
     {
         ReplayFault {
             line: done + 1,
-            text: self.text(),
-            cause: self.cause(),
+            kind: self.kind(),
         }
     }
 }

@@ -9,7 +9,7 @@ use crate::rows::RefusalRow;
 use crate::table::{gates, tasks, trees};
 use access_model::GateError;
 use diagnostics::Text;
-use exit_status::{ProgramEnding, refused, text_told, why_told};
+use exit_status::{ProgramEnding, report, report_refusal, write_text};
 use schedule_text::Verb;
 use std::alloc::{AllocError, Global};
 use std::io::Write;
@@ -59,11 +59,11 @@ pub fn run_explanation<W: Write, E: Write>(
         _ => put_rows(&mut text, asked),
     };
     if !is_found {
-        return unknown(alloc, asked, errors);
+        return report_unknown(alloc, asked, errors);
     }
     match text.ended() {
-        Ok(text) => text_told(text.as_str(), writer, errors),
-        Err(AllocError) => refused(GateError::NoMemory, errors),
+        Ok(text) => write_text(text.as_str(), writer, errors),
+        Err(AllocError) => report_refusal(GateError::NoMemory, errors),
     }
 }
 
@@ -227,8 +227,8 @@ fn put_columns(text: &mut Text, cause: GateError, errno: &str) {
     text.repeated(' ', 8usize.saturating_sub(errno.len()));
 }
 
-/// Tells that a call or a refusal isn't known, or that the call is never refused so.
-fn unknown<E: Write>(alloc: Global, asked: RefusalQuery<'_>, errors: &mut E) -> ProgramEnding
+/// Reports that a call or a refusal isn't known, or that the call is never refused so.
+fn report_unknown<E: Write>(alloc: Global, asked: RefusalQuery<'_>, errors: &mut E) -> ProgramEnding
     ensures { (result ≡ Refused) ⊎ (result ≡ Misused) }
 {
     let mut text = Text::new(alloc);
@@ -240,10 +240,10 @@ fn unknown<E: Write>(alloc: Global, asked: RefusalQuery<'_>, errors: &mut E) -> 
     text.put("\n\nUsage: mntgate explain [CALL] [REFUSAL]\n\nFor more information, try '--help'.");
     match text.ended() {
         Ok(text) => {
-            let _ = why_told(text.as_str(), errors);
+            let _ = report(text.as_str(), errors);
             ProgramEnding::Misused
         }
-        Err(AllocError) => refused(GateError::NoMemory, errors),
+        Err(AllocError) => report_refusal(GateError::NoMemory, errors),
     }
 }
 

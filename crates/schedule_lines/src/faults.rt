@@ -1,13 +1,14 @@
-//! Why a schedule is refused.
+//! Why a schedule, a race or a history is refused.
 
 ghost use Rattle.std.specs.Prelude.{◌≡◌};
-ghost use Rattle.schedule_lines.specs.Faults.{text_of, cause_of};
+ghost use Rattle.schedule_lines.specs.Faults.{kind_text, text_of};
 
 use access_model::GateError;
+use std::fmt;
 
 /// Why a schedule is refused at a line. The first reason in the order of this list is the one that is given, but that the
 /// last three are found by whoever reads, writes and does the lines.
-#[derive(Clone, Copy)]
+#[derive(Clone, Copy, PartialEq, Eq, Debug)]
 pub enum Fault {
     /// One line more than a schedule may have.
     TooManyLines,
@@ -37,8 +38,37 @@ pub enum Fault {
     Refused(GateError),
 }
 
+/// The kind of a fault in the text of a schedule, a race or a history.
+#[derive(Clone, Copy, PartialEq, Eq, Debug)]
+pub enum FaultKind {
+    /// One that a schedule may have, and so the lines of a race or a history too.
+    Schedule(Fault),
+    /// The input ends with no line `race`.
+    RaceExpected,
+    /// A second line `race`.
+    RaceTwice,
+    /// An operation is under way at the line `race` or `history`, or a task's last call at its next one.
+    UnderWay,
+    /// After `race`: neither a call nor a hook, a hook of a task that has no call yet, or no call behind `if ok`, `if refused` or `retry`.
+    CallExpected,
+    /// A ninth call of a task, or a ninth operation of a call.
+    TooManyCalls,
+    /// A second hook of one call.
+    HookTwice,
+    /// `if` without `ok` or `refused` behind it.
+    BranchExpected,
+    /// `if` before a task's first call.
+    NoCallBefore,
+    /// The input ends with no line `history`, or has a line `race` before it.
+    HistoryExpected,
+    /// A return, or a hook, of a task that has no call under way.
+    NothingUnderWay,
+    /// A return whose answer is none that a call can have.
+    BadAnswer,
+}
+
 impl Fault {
-    /// The text that is printed of the fault.
+    /// Returns the text that is printed of the fault, without the cause of a refusal.
     pub fn text(self) -> &'static str
         ensures { result.now ≡ text_of self }
     {
@@ -58,14 +88,40 @@ impl Fault {
             Fault::Refused(_) => "refused",
         }
     }
+}
 
-    /// Why the line was refused, where it was understood.
-    pub fn cause(self) -> Option<GateError>
-        ensures { result ≡ cause_of self }
+impl FaultKind {
+    /// Returns the text that is printed of the fault, without the cause of a refusal.
+    pub fn text(self) -> &'static str
+        ensures { result.now ≡ kind_text self }
     {
         match self {
-            Fault::Refused(cause) => Some(cause),
-            _ => None,
+            FaultKind::Schedule(fault) => fault.text(),
+            FaultKind::RaceExpected => "race expected",
+            FaultKind::RaceTwice => "race twice",
+            FaultKind::UnderWay => "task under way",
+            FaultKind::CallExpected => "call expected",
+            FaultKind::TooManyCalls => "too many calls",
+            FaultKind::HookTwice => "hook twice",
+            FaultKind::BranchExpected => "ok or refused expected",
+            FaultKind::NoCallBefore => "no call before",
+            FaultKind::HistoryExpected => "history expected",
+            FaultKind::NothingUnderWay => "nothing under way",
+            FaultKind::BadAnswer => "bad answer",
+        }
+    }
+}
+
+/// Prints the text, and behind `refused` the number and the name of the cause, as in `refused 22 Invalid`.
+impl fmt::Display for FaultKind {
+    fn fmt<W: fmt::Write>(&self, f: &mut fmt::Formatter<W>) -> fmt::Result {
+        let text = self.text();
+        match self {
+            FaultKind::Schedule(Fault::Refused(cause)) => {
+                let (number, name) = (cause.number(), cause.name());
+                write!(f, "{text} {number} {name}")
+            }
+            _ => f.write_str(text),
         }
     }
 }

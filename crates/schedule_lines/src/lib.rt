@@ -10,6 +10,6 @@ pub mod numbers;
 pub mod output;
 pub mod words;
 
-pub use faults::Fault;
+pub use faults::{Fault, FaultKind};
 pub use lines::{Front, LINE_BYTES, LINES, front_of};
 pub use output::Output;

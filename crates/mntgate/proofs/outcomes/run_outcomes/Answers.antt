@@ -10,4 +10,4 @@ returns-in-Ok-answer_outcomes-clause-told g c = λ text pairs.
 pub returns-in-Ok-clause-told : goal.returns-in-Ok-clause-told
 returns-in-Ok-clause-told g c = λ text pairs.
     IsUnwritten c.as_slice-bytes.result.now c.in-Err-answer_outcomes.why (λ none. subst (λ bytes. IfSome (g.I.Read.remaining c.args.reader.now) (λ all. bytes ≡ all))
-    (sym c.as_slice-bytes.ensures.value) (c.in-Ok.ensures.read none)) (c.in-Err-answer_outcomes.ensures.why text pairs) c.told.ensures
+    (sym c.as_slice-bytes.ensures.value) (c.in-Ok.ensures.read none)) (c.in-Err-answer_outcomes.ensures.why text pairs) c.report.ensures

@@ -14,10 +14,10 @@ loop-done-init g c known =
 
 pub returns-in-Ok-false-clause-replayed : goal.returns-in-Ok-false-clause-replayed
 returns-in-Ok-false-clause-replayed g c known =
-    c.ended.ensures.replayed _ _ _ known
+    c.finish.ensures.replayed _ _ _ known
     (c.do_line.ensures.ends _ _ c.loop-done.done c.loop-done-test.true (c.loop-done.invariant known) (cc))
 
 pub returns-clause-replayed : goal.returns-clause-replayed
 returns-clause-replayed g c known =
     let all : c.loop-done.done ≡ 1048576 = omega arith in
-    c.ended-2.ensures.replayed _ _ _ known (c.expect_end-outcome.ensures _ _ (rw all at (c.loop-done.invariant known)))
+    c.finish-2.ensures.replayed _ _ _ known (c.expect_end-outcome.ensures _ _ (rw all at (c.loop-done.invariant known)))

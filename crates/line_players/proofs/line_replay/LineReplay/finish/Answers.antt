@@ -1,8 +1,8 @@
 use Rattle.std.proofs.Common.{◌∙◌, sym, ap, subst, List, ℕ}
 use Rattle.std.specs.Result.{result_and}
-use Rattle.line_players.specs.{Replayed.{Reports}, Replaying.{LinesEnd}}
+use Rattle.line_players.specs.Replaying.{LinesEnd}
 use Rattle.line_players.proofs.Replaying.{ended_well, ended_by}
-use Rattle.line_players.proofs.line_replay.LineReplay.ended.Goals as goal
+use Rattle.line_players.proofs.line_replay.LineReplay.finish.Goals as goal
 
 pub returns-in-Ok-clause-replayed : goal.returns-in-Ok-clause-replayed
 returns-in-Ok-clause-replayed g c input held left known end =
@@ -21,6 +21,5 @@ returns-in-Err-clause-replayed g c input held left known end =
     let first = c.and.ensures ∙ ap (λ r. result_and r c.write_out-written.result) (quiet.done known) in
     let wrote = c.write_out-written.ensures in
     let told = c.fault_after.ensures in
-    let reports : Reports c.fault_after.result c.in-Err.fault = record { text = told.text; cause = told.cause } in
     ended_by input held left holds _ _ c.args.done c.write_out-written.result c.args.outcome c.in-Err.fault c.fault_after.result here wrote.all wrote.part
-    wrote.fault (ap (λ r. result_and r c.args.outcome) (sym first) ∙ sym c.and-2.ensures ∙ c.in-Err.is) reports told.line
+    wrote.fault (ap (λ r. result_and r c.args.outcome) (sym first) ∙ sym c.and-2.ensures ∙ c.in-Err.is) told.kind told.line
