@@ -34,7 +34,7 @@ fn word_name(asked: WordRecord) -> Option<WordName>
         11 => WordName::Section(first),
         12 => WordName::Used,
         13 => WordName::Node(first),
-        14 | 17.. => WordName::Kids(first),
+        14 => WordName::Kids(first),
         _ => return None,
     };
     Some(name)
@@ -77,7 +77,6 @@ impl TaskHandle {
         ensures why { IfErr result (CloseIsRefused self.old.state self.new.full self.new.state) }
     {
         if !self.member().task.has_all() {
-            drop(self.take(alloc));
             return Err(GateError::Order);
         }
         match Box::into_inner(self.take(alloc)).close() {
