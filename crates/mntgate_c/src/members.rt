@@ -55,8 +55,7 @@ impl Member {
         ensures invalid { ¬ IsWithin config → result ≡ Err Invalid }
         ensures memory { IsWithin config → IfErr result (λ e. e ≡ NoMemory) }
     {
-        let (gates, mut task) = Gates::new(alloc, config)?;
-        let _lost = task.split(alloc, &gates);
+        let (gates, task) = Gates::new(alloc, config)?;
         let gates = Arc::new(alloc, gates).map_err(|_| GateError::NoMemory)?;
         boxed(alloc, Member { gates, task })
     }
@@ -73,7 +72,7 @@ impl Member {
         ensures rests { IfOk result (λ b. Rests b.value × Rests self.new) }
         ensures refused { IfErr result (SplitIsRefused self.old self.new) }
     {
-        let task = self.task.split(alloc, &self.gates).map_err(|_| GateError::NoMemory)?;
+        let task = self.task.split(alloc, &self.gates)?;
         match Arc::try_clone(&self.gates) {
             Ok(gates) => self.boxed_or_absorbed(alloc, Member { gates, task }),
             Err(_) => {
