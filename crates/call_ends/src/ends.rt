@@ -1,6 +1,6 @@
 //! Operations done to their end, step after step, each in the form of its own kind, with nothing written down in between.
 
-ghost use Rattle.std.specs.Prelude.{◌≡◌, Some, None};
+ghost use Rattle.std.specs.Prelude.{Some, None};
 ghost use Rattle.access_model.specs.Replies.{map_next};
 ghost use Rattle.access_model.specs.declared.replies.Next.TheVariants.{Done, Go};
 ghost use Rattle.gate_world.specs.declared.operations.Op.{Op as OpType};

@@ -7,7 +7,7 @@ ghost use Rattle.gate_steps.specs.call_events.Led.{Led, Stands};
 use access_model::Next;
 use gate_steps::call_events::{GateWords, GhostSeat, step_once};
 use gate_transitions::PendingOp;
-use gate_world::{Accesses, Op};
+use gate_world::Accesses;
 
 /// An operation that asks no hook, and whose line goes on only where it finds it at a place.
 pub(crate) trait Checkpointed: PendingOp {

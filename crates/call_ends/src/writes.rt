@@ -1,6 +1,6 @@
 //! A taking of write access, and its return, in a line.
 
-ghost use Rattle.std.specs.Prelude.{◌≡◌, IfSome, IsTrue, Some, None, Ok};
+ghost use Rattle.std.specs.Prelude.{◌≡◌, IsTrue, Some, None, Ok};
 ghost use Rattle.access_model.specs.declared.replies.Next.TheVariants.{Done, Go};
 ghost use Rattle.access_model.specs.declared.replies.Reply.TheVariants.{Unit as UnitReply};
 ghost use Rattle.gate_world.specs.declared.operations.Op.TheVariants.{WantWrite};
