@@ -92,10 +92,7 @@ pub fn run<R: Threads + Wait + Sync>(rt: &R, alloc: Global) -> Result<(Report, C
     );
     let (writer, backup, last) = (first.number(), second.number(), third.number());
     let both = join(&gates, first, second);
-    let task = join(&gates, third, both);
-    let (others, mut one) = Gates::new(alloc, config)?;
-    let two = one.split(alloc, &others)?;
-    let (_strange, copied) = copy_at_the_end(rt, &others, one, two, &file);
+    let (task, copied) = copy_at_the_end(rt, &gates, third, both, &file);
     let told = Report {
         writer,
         writes: WRITES,
