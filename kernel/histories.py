@@ -16,6 +16,8 @@ import schedules
 # Three threads draw calls, and a fourth keeps them going.
 THREADS = 4
 DRAWERS = 3
+# The longest line that mntgate reads, in bytes.
+LINE = 256
 # So many lines of an execution are shown.
 SHOWN = 20
 # Whether single mounts are changed, or the superblock is remounted. Both in one history would meet a known difference (docs/kernel.md).
@@ -128,6 +130,12 @@ def compare(options, program, guest):
     return len(paths) - counts[Verdict.POSSIBLE]
 
 
+def head_of(guest, seed):
+    """What stands before a history's calls. The kernel's text about itself is cut where the line would be longer than one that mntgate reads."""
+    about = f"# {datetime.date.today()}, {guest.processors} processors, seed {seed}, {guest.version}"
+    return [about[:LINE], f"config {THREADS} {guest.processors} {gate_schedules.MOUNTS} 2 8", "history"]
+
+
 def record(options, guest):
     """Records this guest's half of the histories into files, and hands out their paths."""
     os.makedirs(options.into, exist_ok=True)
@@ -140,8 +148,6 @@ def record(options, guest):
         name = f"{'.'.join(map(str, guest.release[:2]))}-{guest.processors}-{changes}-{seed}.history"
         paths.append(f"{options.into}/{name}")
         with open(paths[-1], "w", encoding="utf-8") as file:
-            file.write(f"# {datetime.date.today()}, {guest.version}, {guest.processors} processors, seed {seed}\n")
-            file.write(f"config {THREADS} {guest.processors} {gate_schedules.MOUNTS} 2 8\nhistory\n")
-            file.writelines(f"{line}\n" for line in as_history(lines, guest.release))
+            file.writelines(f"{line}\n" for line in [*head_of(guest, seed), *as_history(lines, guest.release)])
         print(f"{name}: {len(lines) // 2} calls", flush=True)
     return paths

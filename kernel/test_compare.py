@@ -197,6 +197,12 @@ class Calls(unittest.TestCase):
         lines = iter(["1 0 begins want"])
         self.assertRaises(schedules.Unreadable, histories.read_history, guest, 1)
 
+    def test_the_head_of_a_history(self):
+        guest = argparse.Namespace(version=f"Linux version 6.12.117+deb12-amd64 {'(a compiler)' * 20} #1 SMP", processors=4)
+        head = histories.head_of(guest, 7)
+        self.assertIn("4 processors, seed 7, Linux version 6.12.117+deb12-amd64 ", head[0])
+        self.assertEqual(([len(head[0]), *head[1:]]), [256, "config 4 4 3 2 8", "history"])
+
     def test_verdicts(self):
         options, none = argparse.Namespace(limit=9), "x:6:1: error: no execution has this line"
         said = {"echo possible: 2 calls": histories.Verdict.POSSIBLE, f"echo '{none}' >&2; echo 1 run; exit 1": histories.Verdict.IMPOSSIBLE,
