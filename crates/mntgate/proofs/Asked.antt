@@ -123,7 +123,7 @@ some_told zero held holds told = record { others = 0; told = told }
 some_told (suc n) held holds told = record { others = n; told = told }
 
 -- a replay that ended well
-answered : (answer : Result (Unit {0}) ReplayFault) → ending_of answer ≡ Done → answer ≡ Ok tt
+answered : (answer : Result (Unit {0}) ReplayFault) → ending_of false answer ≡ Done → answer ≡ Ok tt
 answered (Ok x) e = refl
 answered (Err fault) e = cc
 
@@ -192,9 +192,10 @@ module _ (input left held holds : Option (List ℕ)) where
 
   -- a plain replay of standard input is one
   pub replays : (asked : ProgramRequest) → IsPlainOfInput asked → (ending : ProgramEnding) → EndsAsked asked input left held holds ending →
-      EndsReplayed input left held holds ending
+      EndsReplayed false input left held holds ending
   replays asked p ending ends =
-      (subst (λ (a : ProgramRequest). EndsAsked a input left held holds ending) p.is ends).plain p.plain p.of_input
+      let replay : EndsReplay p.replay input left held holds ending = subst (λ (a : ProgramRequest). EndsAsked a input left held holds ending) p.is ends in
+      subst (λ (over_gates : Bool). EndsReplayed over_gates input left held holds ending) p.plain.core (replay.plain p.plain.form p.of_input)
 
   -- what ends with `Done` was a replay that ended well
   pub replayed : (asked : ProgramRequest) (ending : ProgramEnding) → EndsAsked asked input left held holds ending → ending ≡ Done →

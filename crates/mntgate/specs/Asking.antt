@@ -1,9 +1,9 @@
 -- What the program does that is asked for something, and how it ends.
-use Rattle.std.specs.{Prelude.{◌≡◌, ◌⊎◌, ℕ, suc, false, true, List, Option, Some, None, codes, vec_len}, Borrow.{Bor}}
-use Rattle.program_replay.specs.Replays.{EndsReplayed, EndsReplayedFile, EndsReplayedNamed, EndsReplayedOverGates, IsRefusedUnread, done_in, done_of}
+use Rattle.std.specs.{Prelude.{◌≡◌, ◌⊎◌, ℕ, suc, false, List, Option, Some, None, codes, vec_len}, Borrow.{Bor}}
+use Rattle.program_replay.specs.Replays.{EndsReplayed, EndsReplayedFile, EndsReplayedNamed, IsRefusedUnread, done_in, done_of}
 use Rattle.program_checks.specs.Checks.{TellsPassed, count_checked}
 use Rattle.mntgate.specs.{Outcomes.{EndsTold}, Validated.{EndsValidated}}
-use Rattle.command_line.specs.{CommandLine.{IsPlain}, declared.words.{OutcomeForm.TheVariants.{Text}, Numbers.{Numbers}}}
+use Rattle.command_line.specs.declared.words.{OutcomeForm.TheVariants.{Text}, Numbers.{Numbers}}
 use Rattle.command_line.specs.declared.words.ReplayForm.TheVariants.{Plain}
 use Rattle.command_line.specs.declared.words.{Outcomes.{Outcomes}, Replay.{Replay}, ProgramRequest.{ProgramRequest}}
 use Rattle.command_line.specs.declared.words.ProgramRequest.TheVariants as ask
@@ -14,11 +14,11 @@ use Rattle.run_plans.specs.{Meetings.{unseen}, Plans.{MayRun}}
 -- How a replay ends, where its reader had and has this left, and its writer held and holds this.
 pub record EndsReplay (r : Replay) (input left held holds : Option (List ℕ)) (ending : ProgramEnding) : Type 0 where
   pub ends : (ending ≡ done_of r.file (done_in r.form r.over_gates)) ⊎ (ending ≡ Refused)
-  pub plain : IsPlain r → r.file ≡ None → EndsReplayed input left held holds ending
-  pub over_gates : r.form ≡ Plain → r.over_gates ≡ true → r.file ≡ None → EndsReplayedOverGates input left held holds ending
-  pub of_file : (file : Bor (List ℕ)) → IsPlain r → r.file ≡ Some file →
-      EndsReplayedFile held holds ending ⊎ IsRefusedUnread input left held holds ending
-  pub named : (file : Bor (List ℕ)) → IsPlain r → r.file ≡ Some file → file.now ≡ codes "-" → EndsReplayedNamed input left held holds ending
+  pub plain : r.form ≡ Plain → r.file ≡ None → EndsReplayed r.over_gates input left held holds ending
+  pub of_file : (file : Bor (List ℕ)) → r.form ≡ Plain → r.file ≡ Some file →
+      EndsReplayedFile r.over_gates held holds ending ⊎ IsRefusedUnread input left held holds ending
+  pub named : (file : Bor (List ℕ)) → r.form ≡ Plain → r.file ≡ Some file → file.now ≡ codes "-" →
+      EndsReplayedNamed r.over_gates input left held holds ending
 
 -- How checks of so many schedules end: where they passed, what is written ends with the line that says so of as many as were asked for.
 pub record EndsChecks (count : ℕ) (held holds : Option (List ℕ)) (ending : ProgramEnding) : Type 0 where

@@ -1,6 +1,6 @@
 //! From the words of a command line to how the program ends.
 
-ghost use Rattle.std.specs.Prelude.{◌≡◌, ◌≤◌, ◌⊎◌, true, IfOk, Ok, map, string_bytes};
+ghost use Rattle.std.specs.Prelude.{◌≡◌, ◌≤◌, ◌⊎◌, true, false, IfOk, Ok, map, string_bytes};
 ghost use Rattle.command_line.specs.CommandLine.{MayAskPlainly, ask_plainly};
 ghost use Rattle.exit_status.specs.declared.ends.ProgramEnding.TheVariants.{Done, Passed, Ran};
 ghost use Rattle.program_replay.specs.Replays.{EndsReplayed};
@@ -44,7 +44,7 @@ pub fn run<
     errors: &mut E,
     person: Terminal,
 ) -> Result<ProgramEnding, AllocError>
-    ensures plain { ask_plainly (map string_bytes words.now) ≡ true → IfOk result (λ ending. EndsReplayed
+    ensures plain { ask_plainly (map string_bytes words.now) ≡ true → IfOk result (λ ending. EndsReplayed false
         (I.remaining reader.old) (I.remaining reader.new) (W.contents writer.old) (W.contents writer.new) ending) }
     ensures only { IfOk result (λ ending. ending ≡ Done → MayAskPlainly (map string_bytes words.now)) }
     ensures done { IfOk result (λ ending. ending ≡ Done →

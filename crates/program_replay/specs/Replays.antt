@@ -17,40 +17,29 @@ abbrev pub done_of : Option (Bor (List ℕ)) → ProgramEnding → ProgramEnding
 done_of None ending = ending
 done_of (Some file) ending = of_file ending
 
--- how a plain replay ends, by its answer
-abbrev pub ending_of : Result (Unit {0}) ReplayFault → ProgramEnding
-ending_of (Ok done) = Done
-ending_of (Err fault) = Refused
-
--- the same over the gates that threads use
-abbrev pub over_gates_ending_of : Result (Unit {0}) ReplayFault → ProgramEnding
-over_gates_ending_of (Ok done) = DoneOverGates
-over_gates_ending_of (Err fault) = Refused
+-- how a plain replay ends, by its answer, over the core or over the gates that threads use
+abbrev pub ending_of : (over_gates : Bool) → Result (Unit {0}) ReplayFault → ProgramEnding
+ending_of over_gates (Ok done) = done_in Plain over_gates
+ending_of over_gates (Err fault) = Refused
 
 -- A plain replay of standard input: what it read, wrote and answered is a replay's, and the ending says which answer it was.
-pub record EndsReplayed (input left held holds : Option (List ℕ)) (ending : ProgramEnding) : Type 0 where
+pub record EndsReplayed (over_gates : Bool) (input left held holds : Option (List ℕ)) (ending : ProgramEnding) : Type 0 where
   pub answer : Result (Unit {0}) ReplayFault
   pub replayed : Replayed input left held holds answer
-  pub ends : ending ≡ ending_of answer
-
--- The same over the gates that threads use.
-pub record EndsReplayedOverGates (input left held holds : Option (List ℕ)) (ending : ProgramEnding) : Type 0 where
-  pub answer : Result (Unit {0}) ReplayFault
-  pub replayed : Replayed input left held holds answer
-  pub ends : ending ≡ over_gates_ending_of answer
+  pub ends : ending ≡ ending_of over_gates answer
 
 -- A plain replay of a file, whose bytes no contract tells.
-pub record EndsReplayedFile (held holds : Option (List ℕ)) (ending : ProgramEnding) : Type 0 where
+pub record EndsReplayedFile (over_gates : Bool) (held holds : Option (List ℕ)) (ending : ProgramEnding) : Type 0 where
   pub input : Option (List ℕ)
   pub left : Option (List ℕ)
   pub answer : Result (Unit {0}) ReplayFault
   pub replayed : Replayed input left held holds answer
-  pub ends : ending ≡ of_file (ending_of answer)
+  pub ends : ending ≡ of_file (ending_of over_gates answer)
 
 -- A plain replay of standard input that was named `-`: it is that of standard input, and ends as one of a file.
-pub record EndsReplayedNamed (input left held holds : Option (List ℕ)) (ending : ProgramEnding) : Type 0 where
+pub record EndsReplayedNamed (over_gates : Bool) (input left held holds : Option (List ℕ)) (ending : ProgramEnding) : Type 0 where
   pub unnamed : ProgramEnding
-  pub replayed : EndsReplayed input left held holds unnamed
+  pub replayed : EndsReplayed over_gates input left held holds unnamed
   pub ends : ending ≡ of_file unnamed
 
 -- nothing was read or written, and the ending is a refusal

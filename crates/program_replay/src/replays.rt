@@ -1,10 +1,9 @@
 //! A replay, as the command line asks for it: of a file or of standard input, in whatever form, over the core or over the gates that threads use.
 
-ghost use Rattle.std.specs.Prelude.{◌≡◌, ◌⊎◌, ℕ, List, None, Some, true, IfErr, codes};
+ghost use Rattle.std.specs.Prelude.{◌≡◌, ◌⊎◌, ℕ, List, None, Some, IfErr, codes};
 ghost use Rattle.std.specs.Borrow.{Bor};
-ghost use Rattle.command_line.specs.CommandLine.{IsPlain};
 ghost use Rattle.exit_status.specs.declared.ends.ProgramEnding.TheVariants.{Refused};
-ghost use Rattle.program_replay.specs.Replays.{EndsReplayed, EndsReplayedFile, EndsReplayedNamed, EndsReplayedOverGates, IsRefusedUnread, done_in, done_of};
+ghost use Rattle.program_replay.specs.Replays.{EndsReplayed, EndsReplayedFile, EndsReplayedNamed, IsRefusedUnread, done_in, done_of};
 ghost use Rattle.command_line.specs.declared.words.ReplayForm.TheVariants.{Plain};
 
 use crate::gates_driver::GatesDriver;
@@ -45,14 +44,13 @@ pub fn run_replay<R: Files, I: Read, W: Write, E: Write>(
     person: &Terminal,
 ) -> ProgramEnding
     ensures ends { (result ≡ done_of asked.entry.file (done_in asked.entry.form asked.entry.over_gates)) ⊎ (result ≡ Refused) }
-    ensures plain { IsPlain asked.entry → asked.entry.file ≡ None → EndsReplayed
+    ensures plain { asked.entry.form ≡ Plain → asked.entry.file ≡ None → EndsReplayed asked.entry.over_gates
         (I.remaining reader.old) (I.remaining reader.new) (W.contents writer.old) (W.contents writer.new) result }
-    ensures over_gates { asked.entry.form ≡ Plain → asked.entry.over_gates ≡ true → asked.entry.file ≡ None → EndsReplayedOverGates
-        (I.remaining reader.old) (I.remaining reader.new) (W.contents writer.old) (W.contents writer.new) result }
-    ensures of_file { (file : Bor (List ℕ)) → IsPlain asked.entry → asked.entry.file ≡ Some file →
-        EndsReplayedFile (W.contents writer.old) (W.contents writer.new) result
+    ensures of_file { (file : Bor (List ℕ)) → asked.entry.form ≡ Plain → asked.entry.file ≡ Some file →
+        EndsReplayedFile asked.entry.over_gates (W.contents writer.old) (W.contents writer.new) result
         ⊎ IsRefusedUnread (I.remaining reader.old) (I.remaining reader.new) (W.contents writer.old) (W.contents writer.new) result }
-    ensures named { (file : Bor (List ℕ)) → IsPlain asked.entry → asked.entry.file ≡ Some file → file.now ≡ codes "-" → EndsReplayedNamed
+    ensures named { (file : Bor (List ℕ)) → asked.entry.form ≡ Plain → asked.entry.file ≡ Some file → file.now ≡ codes "-" →
+        EndsReplayedNamed asked.entry.over_gates
         (I.remaining reader.old) (I.remaining reader.new) (W.contents writer.old) (W.contents writer.new) result }
 {
     let telling = Telling {
@@ -96,9 +94,7 @@ fn replay_input<I: Read, W: Write, E: Write>(
     person: &Terminal,
 ) -> ProgramEnding
     ensures ends { (result ≡ done_in asked.entry.form asked.entry.over_gates) ⊎ (result ≡ Refused) }
-    ensures plain { IsPlain asked.entry → EndsReplayed
-        (I.remaining reader.old) (I.remaining reader.new) (W.contents writer.old) (W.contents writer.new) result }
-    ensures over_gates { asked.entry.form ≡ Plain → asked.entry.over_gates ≡ true → EndsReplayedOverGates
+    ensures plain { asked.entry.form ≡ Plain → EndsReplayed asked.entry.over_gates
         (I.remaining reader.old) (I.remaining reader.new) (W.contents writer.old) (W.contents writer.new) result }
 {
     if person.types {
@@ -116,9 +112,7 @@ fn replay_as<I: Read, W: Write, E: Write>(
     errors: &mut E,
 ) -> ProgramEnding
     ensures ends { (result ≡ done_in asked.entry.form asked.entry.over_gates) ⊎ (result ≡ Refused) }
-    ensures plain { IsPlain asked.entry → EndsReplayed
-        (I.remaining reader.old) (I.remaining reader.new) (W.contents writer.old) (W.contents writer.new) result }
-    ensures over_gates { asked.entry.form ≡ Plain → asked.entry.over_gates ≡ true → EndsReplayedOverGates
+    ensures plain { asked.entry.form ≡ Plain → EndsReplayed asked.entry.over_gates
         (I.remaining reader.old) (I.remaining reader.new) (W.contents writer.old) (W.contents writer.new) result }
 {
     let form = match asked.form {

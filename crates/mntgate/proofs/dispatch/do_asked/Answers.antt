@@ -9,7 +9,6 @@ pub returns-in-Replay : goal.returns-in-Replay
 returns-in-Replay g c = replay_ended _ _ _ _ _ _ _ c.in-Replay.is record {
   ends = c.run_replay.ensures.ends;
   plain = c.run_replay.ensures.plain;
-  over_gates = c.run_replay.ensures.over_gates;
   of_file = c.run_replay.ensures.of_file;
   named = c.run_replay.ensures.named;
 }
