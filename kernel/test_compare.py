@@ -4,6 +4,8 @@ calls): no kernel runs, and no mntgate."""
 
 import argparse
 import contextlib
+import importlib.machinery
+import importlib.util
 import io
 import os
 import re
@@ -27,6 +29,14 @@ def read_log(name):
 
 LOG = read_log("recorded.log")
 CALLS_LOG = read_log("recorded-module.log")
+
+
+def read_command():
+    """kernel/compare as a module."""
+    loader = importlib.machinery.SourceFileLoader("compare", f"{os.path.dirname(os.path.realpath(__file__))}/compare")
+    command = importlib.util.module_from_spec(importlib.util.spec_from_loader("compare", loader))
+    loader.exec_module(command)
+    return command
 
 
 def schedules_of(log):
@@ -261,6 +271,14 @@ class Readings(unittest.TestCase):
         self.assertEqual(told[0], schedules.CONFIG)
         self.assertTrue(told[-1].startswith("# "))
         self.assertEqual([line for line in log if line == f"replay> {told[-3]}"][:1], [f"replay> {told[-3]}"])
+
+    def test_an_end_that_fails_hides_no_difference(self):
+        guest, command = unittest.mock.Mock(), read_command()
+        guest.end.side_effect = machine.Failed("the guest's end")
+        with contextlib.redirect_stderr(io.StringIO()) as told:
+            command.end_guest(guest, 1)
+        self.assertIn("the guest's end", told.getvalue())
+        self.assertRaises(machine.Failed, command.end_guest, guest, 0)
 
     def test_guests_that_are_made_at_once(self):
         with tempfile.TemporaryDirectory() as folder, unittest.mock.patch("machine.OUT", f"{folder}/out"):
