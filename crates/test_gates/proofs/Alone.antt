@@ -1,14 +1,15 @@
 -- What closed gates tell of a task with their only number.
-use Rattle.std.proofs.Common.{◌≡◌, ℕ, ◌<◌, true, List, [], inl, refl, sym, ap, ◌∙◌, subst, arith}
+use Rattle.std.proofs.Common.{◌≡◌, ℕ, ◌<◌, true, false, List, [], ◌∷◌, inl, refl, sym, ap, ◌∙◌, subst, arith}
 use Rattle.std.specs.Prelude.{Option, Some, None, Result, Ok, Err, OnOk}
 use Rattle.access_model.specs.declared.{actions.{Action.{Action}, Holder.{Holder, TheVariants.{Kernel, User}}, Holders.{Holders}}, errors.GateError.{GateError, TheVariants.{Busy, Invalid}}, replies.Reply.{Reply}}
-use Rattle.access_model.specs.Holders.{held_by, with_holder}
+use Rattle.access_model.specs.Holders.{held_by, nobody, with_holder}
+use Rattle.gate_steps.specs.Seating.{DealtNumbers, HaveHistory}
 use Rattle.gate_world.specs.declared.{config.Config.{Config}, operations.Op.{Op, TheVariants.{Freeze as FreezeOp, Snapshot as SnapshotOp}}}
-use Rattle.vfs_gates.specs.{Ended.{EndedWith}, Frozen.{holders_of, MayFreeze}, Held.{own_actions}, Runs.{told_as, unit_of, Called, Performs}}
-use Rattle.vfs_gates.specs.TaskStates.{SeatedTask, own_number, refusal_at}
+use Rattle.vfs_gates.specs.{Ended.{EndedWith}, Frozen.{holders_of, MayFreeze}, Held.{own_actions}, Meetings.{Entry, HasDone}}
+use Rattle.vfs_gates.specs.{Runs.{told_as, unit_of, Called, Performs}, TaskStates.{SeatedTask, own_number, own_view, refusal_at}}
 use Rattle.vfs_gates.proofs.{Grown.{same_stays_seen}, Returning.{was_done}, Rounds.{own_stays}}
-use Rattle.vfs_gates.proofs.{call_laws.TreeStays.{tree_stays_between}, Holding.{adds}, several_tasks.{FreezesBeside.{not_busy}, FrozenUntilThawed.{stands}}}
-use Rattle.test_gates.specs.InTime.{StayedFrozen}
+use Rattle.vfs_gates.proofs.{call_laws.TreeStays.{tree_stays, tree_stays_between}, Holding.{adds}, several_tasks.{FreezesBeside.{not_busy}, FrozenUntilThawed.{stands}}}
+use Rattle.test_gates.specs.InTime.{LeftFrozen, StayedFrozen}
 use Rattle.test_gates.proofs.InTime.{where_done}
 
 -- there is no other number
@@ -48,6 +49,21 @@ now_held User held = refl
 none_held : (h : Holder) → MayFreeze h []
 none_held Kernel = (inl refl, refl)
 none_held User = (inl refl, refl)
+
+nobody_holds : (h : Holder) → held_by nobody h ≡ false
+nobody_holds Kernel = refl
+nobody_holds User = refl
+
+-- a list that leaves a freeze has something done
+not_nothing : (h : Holder) (list : List Action) → held_by (holders_of list) h ≡ true → list ≡ [] → ⊥
+not_nothing h list holds none =
+    let held = ap (λ (l : List Action). held_by (holders_of l) h) none in
+    let never = nobody_holds h in cc
+
+-- a task's own number has its list
+own_done : (items : DealtNumbers) → ((own_view items).actions ≡ [] → ⊥) → HasDone (own_number items) (own_view items).actions items
+own_done [] some = absurd (some refl)
+own_done (x ∷ xs) some = record { place = 0; view = x.view; there = refl; done = refl }
 
 module _ (h : Holder) (old : SeatedTask) (one : old.config.tasks ≡ 1) (own : own_number old.items ≡ 0) where
   -- a freeze of a task that has done nothing
@@ -104,3 +120,34 @@ module _ (h : Holder) (old : SeatedTask) (one : old.config.tasks ≡ 1) (own : o
 
     pub frozen_still_alone : OnOk copied (StayedFrozen h (SnapshotOp true))
     frozen_still_alone = where_done copied (StayedFrozen h (SnapshotOp true)) still_done
+
+  -- what gates leave that are closed while all is frozen
+  pub left_frozen_alone : (frozen : SeatedTask) → Performs (FreezeOp h) old frozen (Ok tt) → (ws : List ℕ) →
+      EndedWith frozen.config ws frozen.items frozen.seen → LeftFrozen h ws
+  left_frozen_alone frozen froze ws ended =
+      let c : Config = old.config in
+      let n : ℕ = own_number frozen.items in
+      let was = was_done (FreezeOp h) old frozen froze in
+      let e : EndedWith c ws frozen.items frozen.seen = subst (λ (d : Config). EndedWith d ws frozen.items frozen.seen) froze.config ended in
+      let entries : List Entry = e.ended.history.reached.entries in
+      let whole : HaveHistory c frozen.items (entries ∷ []) = record {
+        within = e.ended.ruled.within;
+        world = e.ended.world;
+        good = e.ended.ruled.good;
+        history = e.ended.history;
+        mine = e.mine;
+        last = refl;
+      } in
+      let holds : held_by (holders_of (own_actions frozen)) h ≡ true =
+      ap (λ (l : List Action). held_by (holders_of l) h) (adds (FreezeOp h) old frozen (Ok was.reply) was.called) ∙ now_held h _ in
+      let there : HasDone n (own_actions frozen) frozen.items = own_done frozen.items (not_nothing h (own_actions frozen) holds) in
+      record {
+        old = old;
+        frozen = frozen;
+        reply = was.reply;
+        first = was.called;
+        ended = e.ended;
+        still = tree_stays h c n frozen.items frozen.items frozen.items frozen.seen (entries ∷ []) (entries ∷ []) was.called.history whole whole
+            (own_actions frozen) [] (λ k earlier at. (0, entries, refl, e.goes_on.goes_on k earlier at)) (same_stays_seen (entries ∷ [])) there there
+            holds tt (λ t lt other. absurd (no_other n t c.tasks (own_stays froze ∙ own) one lt other));
+      }

@@ -1,11 +1,11 @@
 -- What callers know of their calls in the order of time.
-use Rattle.std.specs.Prelude.{◌≡◌, true, Some, None, Result, Ok, Err, ◌++◌}
+use Rattle.std.specs.Prelude.{◌≡◌, ℕ, List, true, Some, None, Result, Ok, Err, ◌++◌}
 use Rattle.access_model.specs.Laws.{IsFrozenStill}
 use Rattle.access_model.specs.declared.{actions.Holder.{Holder}, errors.GateError.{GateError}, replies.Reply.{Reply}}
 use Rattle.gate_steps.specs.call_events.{Runs.{Called, Performs}, Spans.{AreInOrder, HasItsCauseDuring, IsTreeDuring, TakesEffect}}
 use Rattle.gate_world.specs.declared.{operations.Op.{Op, TheVariants.{Freeze as FreezeOp, Snapshot as SnapshotOp}}, views.Snapshot.{Snapshot}}
 use Rattle.gate_world.specs.{Shown.{shown}, Worlds.{World}, traces.TraceStates.{state_of_trace}}
-use Rattle.vfs_gates.specs.Ended.{ClosedState, IsLeftAfter}
+use Rattle.vfs_gates.specs.Ended.{ClosedState, Ended, IsLeftAfter}
 use Rattle.vfs_gates.specs.{FoundSo.{WasSoDuring}, Held.{own_actions}, Meetings.{ComesAfterList}}
 use Rattle.vfs_gates.specs.TaskStates.{SeatedTask, own_number, own_view, refusal_at}
 
@@ -72,3 +72,12 @@ pub record StayedFrozen (h : Holder) (op : Op) : Type 0 where
   pub first : Called (FreezeOp h) old frozen (Ok reply)
   pub last : Called op frozen left answer
   pub still : IsFrozenStill h (shown old.config first.history.world) (shown frozen.config last.history.world)
+
+-- A task has frozen all for a holder, and in the state that closed gates leave all is frozen still, with the same tree.
+pub record LeftFrozen (h : Holder) (words : List ℕ) : Type 0 where
+  pub old : SeatedTask
+  pub frozen : SeatedTask
+  pub reply : Reply
+  pub first : Called (FreezeOp h) old frozen (Ok reply)
+  pub ended : Ended old.config words
+  pub still : IsFrozenStill h (shown old.config first.history.world) (shown old.config ended.world)

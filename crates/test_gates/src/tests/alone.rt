@@ -2,7 +2,7 @@
 //! `vfs_gates::laws::in_time` that closed gates tell, and isn't met without it. docs/testing.md says which bodies each refuses.
 
 ghost use Rattle.std.specs.Prelude.{◌≡◌, true, Err, IfOk, OnOk};
-ghost use Rattle.test_gates.specs.InTime.{StayedFrozen};
+ghost use Rattle.test_gates.specs.InTime.{LeftFrozen, StayedFrozen};
 ghost use Rattle.vfs_gates.specs.GateError.TheVariants.{Busy, Invalid};
 ghost use Rattle.vfs_gates.specs.Op.TheVariants.{Snapshot};
 ghost use Rattle.access_model.specs.declared.actions.Holder.TheVariants.{User};
@@ -62,7 +62,21 @@ fn copy_alone<R: Wait>(rt: &R, alloc: Global) -> Result<Result<(), GateError>, G
     Ok(copied)
 }
 
+/// Freezes, and closes the gates, where nobody else can thaw. What they leave is frozen still, with the tree as it was
+/// (`a_frozen_tree_stays_until_it_is_thawed`, of states).
+fn freeze_and_close<R: Wait>(rt: &R, alloc: Global) -> Result<Closed, GateError>
+    ensures { IfOk result (λ closed. LeftFrozen User closed.words) }
+{
+    let (gates, mut task) = Gates::new(alloc, CONFIG)?;
+    task.freeze(rt, &gates, Holder::User, &mut ())?;
+    close(gates, task)
+}
+
 #[test]
 fn a_task_alone_freezes_and_copies(rt: HostRuntime) -> Result<(), Fail> {
-    passed(freeze_alone(&rt, rt.alloc()) == Ok(Ok(())) && copy_alone(&rt, rt.alloc()) == Ok(Ok(())))
+    passed(
+        freeze_alone(&rt, rt.alloc()) == Ok(Ok(()))
+            && copy_alone(&rt, rt.alloc()) == Ok(Ok(()))
+            && freeze_and_close(&rt, rt.alloc()).is_ok(),
+    )
 }
