@@ -1,14 +1,11 @@
 -- Nobody holds what is closed, action by action.
-use Rattle.std.proofs.Common.{◌≡◌, ℕ, zero, suc, ◌+◌, ◌-◌, ◌<◌, ◌≤◌, Bool, true, false, refl, sym, subst, ◌∙◌, inl, inr, arith}
-use Rattle.std.proofs.lemmas.Bool.{both_ways, false≢true, Decides.{eqb_tells}}
-use Rattle.std.specs.Prelude.{List, [], ◌∷◌, Option}
-use Rattle.finite_sums.specs.Sums.{update}
-use Rattle.finite_sums.proofs.Totals.{update_off, each_updated}
-use Rattle.access_model.specs.declared.actions.Action.{Action}
-use Rattle.access_model.specs.declared.actions.Action.TheVariants.{Grant, Return, MountRo, MountRw, SbRo, SbRw, Stage, Hold, Leave, Pass, Reopen, Create, Remove, Grow, MoveTo, Dirty, Clean, Open, Close}
-use Rattle.access_model.specs.{declared.actions.{Gate.TheVariants.{Mount, Level}, NodeInfo.{NodeInfo}}, States.{Limits, State}}
-use Rattle.access_model.specs.{Actions.{MayStage, MayDo, after_action}, Histories.{Done, end_of, IsLegal}}
-use Rattle.access_model.specs.Laws.{IsReadOnly, NobodyHoldsClosed}
+use Rattle.std.proofs.Common.{Bool, arith, false, inl, inr, refl, subst, suc, sym, true, zero, ℕ, ◌+◌, ◌-◌, ◌<◌, ◌∙◌, ◌≡◌, ◌≤◌}
+use Rattle.std.{proofs.lemmas.Bool.{Decides.eqb_tells, both_ways, false≢true}, specs.Prelude.{List, Option, [], ◌∷◌}}
+use Rattle.finite_sums.{proofs.Totals.{each_updated, update_off}, specs.Sums.update}
+use Rattle.access_model.specs.{Actions.{MayDo, MayStage, after_action}, Histories.{Done, IsLegal, end_of}, Laws.{IsReadOnly, NobodyHoldsClosed}}
+use Rattle.access_model.specs.{States.{Limits, State}, declared.actions.Action.{Action, TheVariants.{Clean, Close, Create, Dirty, Grant, Grow, Hold}}}
+use Rattle.access_model.specs.declared.actions.Action.TheVariants.{Leave, MountRo, MountRw, MoveTo, Open, Pass, Remove, Reopen, Return, SbRo, SbRw}
+use Rattle.access_model.specs.declared.actions.{Action.TheVariants.Stage, Gate.TheVariants.{Level, Mount}, NodeInfo.NodeInfo}
 
 -- a mount whose flags are both clear is not read-only
 is_open : (s : State) (m : ℕ) → s.mount_ro m ≡ false → s.sb_ro ≡ false → IsReadOnly s m → ⊥

@@ -1,16 +1,15 @@
 -- What is frozen is shut, and so its tree stays, action by action.
-use Rattle.std.proofs.Common.{◌≡◌, ℕ, zero, suc, ◌<◌, ◌≤◌, Bool, true, false, refl, sym, ◌∙◌, inl, inr, arith}
-use Rattle.std.proofs.lemmas.Bool.{both_ways, cases_Bool, false≢true, Decides.eqb_tells}
-use Rattle.std.specs.Prelude.{◌==◌, ◌&&◌, option_map, Option, Some, None, List, [], ◌∷◌, ◌++◌}
+use Rattle.std.proofs.{Common.{Bool, arith, false, inl, inr, refl, suc, sym, true, zero, ℕ, ◌<◌, ◌∙◌, ◌≡◌, ◌≤◌}, lemmas.Bool.Decides.eqb_tells}
+use Rattle.std.{proofs.lemmas.Bool.{both_ways, cases_Bool, false≢true}, specs.Prelude.{List, None, Option, Some, [], option_map, ◌&&◌, ◌++◌, ◌==◌}}
+use Rattle.std.specs.Prelude.{◌∷◌}
 use Rattle.finite_sums.proofs.Totals.{each_updated}
-use Rattle.access_model.specs.declared.actions.Action.{Action}
-use Rattle.access_model.specs.declared.actions.Action.TheVariants.{Grant, Return, MountRo, MountRw, SbRo, SbRw, Stage, Hold, Leave, Pass, Reopen, Create, Remove, Grow, MoveTo, Dirty, Clean, Open, Close}
-use Rattle.access_model.specs.declared.actions.{Holder.{Holder, TheVariants.{Kernel, User}}, NodeInfo.NodeInfo}
-use Rattle.access_model.specs.{Holders.{held_by, nobody}, States.{Limits, State, IsClean, NoneRemoved, is_dirty, is_removed}}
-use Rattle.access_model.specs.Actions.{HoldsSomeMount, MayStage, MayDo, IsAllowed, after_action, after_close, marked}
-use Rattle.access_model.specs.Histories.{Done, end_of, IsLegal}
-use Rattle.access_model.specs.Laws.{NobodyHoldsClosed, FrozenIsShut, TreeStays, NeverLeaves, IsFrozenStill}
-use Rattle.access_model.proofs.{Closed.{closed}, Held.{some_held, stays_frozen}}
+use Rattle.access_model.{proofs.{Closed.closed, Held.{some_held, stays_frozen}}, specs.Actions.{HoldsSomeMount, IsAllowed, MayDo, MayStage}}
+use Rattle.access_model.specs.{Actions.{after_action, after_close, marked}, Histories.{Done, IsLegal, end_of}, Holders.{held_by, nobody}}
+use Rattle.access_model.specs.{Laws.{FrozenIsShut, IsFrozenStill, NeverLeaves, NobodyHoldsClosed, TreeStays}, States.{IsClean, Limits, NoneRemoved}}
+use Rattle.access_model.specs.{States.{State, is_dirty, is_removed}, declared.actions.Action.{Action, TheVariants.{Clean, Close, Create, Dirty}}}
+use Rattle.access_model.specs.declared.actions.Action.TheVariants.{Grant, Grow, Hold, Leave, MountRo, MountRw, MoveTo, Open, Pass, Remove, Reopen}
+use Rattle.access_model.specs.declared.actions.{Action.TheVariants.{Return, SbRo, SbRw, Stage}, Holder.{Holder, TheVariants.{Kernel, User}}}
+use Rattle.access_model.specs.declared.actions.NodeInfo.{NodeInfo}
 
 -- a node whose mark is cleared is clean, and removed as before; and where it was clean it is the same
 marked_clean : (node : Option NodeInfo) → is_dirty (option_map (marked false) node) ≡ false
@@ -66,37 +65,29 @@ module _ (l : Limits) (s : State) (t : ℕ) (lt : t < l.tasks) (k : NobodyHoldsC
   other_tree opens tree clean none =
       record { shut = i.shut; shutting = i.shutting; clean = clean; none_removed = none; frozen = i.frozen }
 
+  -- below stage 3 nothing has to be shut or clean, and nobody holds a freeze
+  below_three : (n : ℕ) → n < 3 → ((h : Holder) → held_by s.holders h ≡ true → ⊥) → FrozenIsShut l (after_action s t (Stage n))
+  below_three n low none = record {
+    shut = λ e. absurd (omega (arith, e, low));
+    shutting = λ e. absurd (omega (arith, e, low));
+    clean = λ e. absurd (omega (arith, e, low));
+    none_removed = i.none_removed;
+    frozen = λ h own. absurd (none h own);
+  }
+
   staged : (n : ℕ) → MayStage l s n → FrozenIsShut l (after_action s t (Stage n))
-  staged zero may = record {
-    shut = λ e. absurd (omega (arith, e));
-    shutting = λ e. absurd (omega (arith, e));
-    clean = λ e. absurd (omega (arith, e));
-    none_removed = i.none_removed;
-    frozen = λ h own. elim may [
-      | inl two ↦ absurd (omega (arith, two.0, i.frozen h own))
-      | inr more ↦ elim more [
-        | inl three ↦ absurd (omega (arith, three.0, i.frozen h own))
-        | inr most ↦ elim most [
-          | inl four ↦ absurd (some_held h s.holders.kernel s.holders.user four.1 own)
-          | inr early ↦ absurd (omega (arith, early.0, i.frozen h own))
-        ]
+  staged zero may = below_three 0 (omega arith) (λ h own. elim may [
+    | inl two ↦ omega (arith, two.0, i.frozen h own)
+    | inr more ↦ elim more [
+      | inl three ↦ omega (arith, three.0, i.frozen h own)
+      | inr most ↦ elim most [
+        | inl four ↦ some_held h s.holders.kernel s.holders.user four.1 own
+        | inr early ↦ omega (arith, early.0, i.frozen h own)
       ]
-    ];
-  }
-  staged (suc zero) may = record {
-    shut = λ e. absurd (omega (arith, e));
-    shutting = λ e. absurd (omega (arith, e));
-    clean = λ e. absurd (omega (arith, e));
-    none_removed = i.none_removed;
-    frozen = λ h own. absurd (omega (arith, may.0, i.frozen h own));
-  }
-  staged (suc (suc zero)) may = record {
-    shut = λ e. absurd (omega (arith, e));
-    shutting = λ e. absurd (omega (arith, e));
-    clean = λ e. absurd (omega (arith, e));
-    none_removed = i.none_removed;
-    frozen = λ h own. absurd (omega (arith, may.0, i.frozen h own));
-  }
+    ]
+  ])
+  staged (suc zero) may = below_three 1 (omega arith) (λ h own. omega (arith, may.0, i.frozen h own))
+  staged (suc (suc zero)) may = below_three 2 (omega arith) (λ h own. omega (arith, may.0, i.frozen h own))
   staged (suc (suc (suc zero))) may = record {
     shut = λ e. absurd (omega (arith, e));
     shutting = λ e. omega (arith, may.1);

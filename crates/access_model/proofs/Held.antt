@@ -1,10 +1,7 @@
 -- What one holder has frozen stays frozen until that holder leaves, action by action.
-use Rattle.std.proofs.{Common.{◌≡◌, ℕ, Bool, true, false, arith}, lemmas.Bool.{false≢true}}
-use Rattle.access_model.specs.declared.actions.Action.{Action}
-use Rattle.access_model.specs.declared.actions.Action.TheVariants.{Leave}
-use Rattle.access_model.specs.declared.actions.{Holder.{Holder, TheVariants.{Kernel, User}}}
-use Rattle.access_model.specs.{Holders.{held_by, is_unheld}, States.{Limits, State}, Actions.{MayDo, after_action}}
-use Rattle.access_model.specs.Laws.{IsFrozenFor, StaysFrozen}
+use Rattle.std.proofs.{Common.{Bool, arith, false, true, ℕ, ◌≡◌}, lemmas.Bool.false≢true}
+use Rattle.access_model.specs.{Actions.{MayDo, after_action}, Holders.{held_by, is_unheld}, Laws.{IsFrozenFor, StaysFrozen}, States.{Limits, State}}
+use Rattle.access_model.specs.declared.actions.{Action.{Action, TheVariants.Leave}, Holder.{Holder, TheVariants.{Kernel, User}}}
 
 -- who holds a freeze isn't nobody
 pub some_held : (h : Holder) (kernel user : Bool) → is_unheld (record { kernel = kernel; user = user }) ≡ true →

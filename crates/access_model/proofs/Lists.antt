@@ -1,9 +1,8 @@
 -- What a task holds is what its own list leaves.
-use Rattle.std.proofs.{Common.{◌≡◌, ℕ, refl, sym, ap, ◌∙◌, subst, inl, inr, arith}, lemmas.Bool.Decides.{eqb_tells}}
-use Rattle.std.specs.Prelude.{cond, List, [], ◌∷◌}
-use Rattle.access_model.specs.declared.actions.Action.{Action}
-use Rattle.access_model.specs.{States.{State}, Actions.{after_action, mounts_after, levels_after, opens_after}}
-use Rattle.access_model.specs.{Histories.{Done, end_of, own_part, mounts_of, levels_of, opens_of}, Laws.{FollowsOwnList}}
+use Rattle.std.{proofs.{Common.{ap, arith, inl, inr, refl, subst, sym, ℕ, ◌∙◌, ◌≡◌}, lemmas.Bool.Decides.eqb_tells}, specs.Prelude.{List, [], cond}}
+use Rattle.std.specs.Prelude.{◌∷◌}
+use Rattle.access_model.specs.{Actions.{after_action, levels_after, mounts_after, opens_after}, Histories.{Done, end_of, levels_of, mounts_of}}
+use Rattle.access_model.specs.{Histories.{opens_of, own_part}, Laws.FollowsOwnList, States.State, declared.actions.Action.Action}
 
 -- an action leaves its own task's accesses as `mounts_after` says
 mounts_own : (s : State) (t : ℕ) (a : Action) → (after_action s t a).mounts t ≡ mounts_after a (s.mounts t)

@@ -1,38 +1,33 @@
 -- What follows from a command line that was parsed.
-use Rattle.std.proofs.Common.{◌≡◌, refl, sym, ap, ap₂, ◌∙◌, ℕ, ◌<◌, ◌≤◌, ◌+◌, Bool, true, false, ◌&&◌, List, [], ◌∷◌, ◌++◌, length, map, take}
-use Rattle.std.proofs.{Common.{Bor, get_or, Option, Some, None, codes, option_map}, lemmas.{Bool.false≢true, List.{map-append, take_all, take_more}}}
-use Rattle.std.proofs.lemmas.Slice.Eq.{bytes_eq-Decides}
-use Rattle.std.specs.{Option.option_map_or, Prelude.{IsSomeAnd, not, is_some}, Str.bytes_eq}
-use Rattle.clap.specs.{Simple.new_shape, Words.{AddsArg, AddsSubcommand, App, Row, Rule, Shape, Text, app_of, first_of, is_simple, rule_of, with_rule, with_subcommand}}
-use Rattle.clap.specs.declared.builder.{action.ArgAction.ArgAction, arg.Arg.Arg, command.Command.Command, range.ValueRange.ValueRange, texts.Texts.TheVariants.One, value_parser.ValueParser.ValueParser}
-use Rattle.clap.proofs.OnLiterals.{clap_on_literals}
+use Rattle.std.proofs.Common.{Bool, Bor, List, None, Option, Some, [], ap, ap₂, arith, codes, false, get_or, length, map, option_map, refl, sym, take}
+use Rattle.std.proofs.{Common.{true, ℕ, ◌&&◌, ◌++◌, ◌+◌, ◌<◌, ◌∙◌, ◌∷◌, ◌≡◌, ◌≤◌}, lemmas.List.{map-append, take_all, take_more}}
+use Rattle.std.{proofs.lemmas.Slice.Eq.bytes_eq-Decides, specs.{Option.option_map_or, Prelude.{IsSomeAnd, is_some, not}, Str.bytes_eq}}
+use Rattle.clap.{proofs.OnLiterals.clap_on_literals, specs.{Simple.new_shape, Words.{AddsArg, AddsSubcommand, App, Row, Rule, Shape, Text, app_of}}}
+use Rattle.clap.specs.{Words.{first_of, is_simple, rule_of, with_rule, with_subcommand}, declared.builder.{action.ArgAction.ArgAction, arg.Arg.Arg}}
+use Rattle.clap.specs.declared.builder.{command.Command.Command, range.ValueRange.ValueRange, texts.Texts.TheVariants.One}
+use Rattle.clap.specs.declared.builder.value_parser.ValueParser.{ValueParser}
 use Rattle.command_line.specs.CommandLine.{alone, are_plain, are_usual, argument_rule, ask_plainly, is_off, mntgate_app, subcommand_shape}
-use Rattle.command_line.specs.declared.words.{ProgramRequest.TheVariants.Replay as AsksReplay, ReplayForm.ReplayForm, Replay.Replay}
-use Rattle.command_line.specs.declared.arguments.{Argument.Argument, Subcommand.Subcommand}
+use Rattle.command_line.specs.declared.{arguments.{Argument.Argument, Subcommand.Subcommand}, words.ProgramRequest.TheVariants.Replay as AsksReplay}
+use Rattle.command_line.specs.declared.words.{Replay.Replay, ReplayForm.ReplayForm}
 
 -- both of two tests
 pub and_left : (a b : Bool) → (a && b) ≡ true → a ≡ true
-and_left true b h = refl
-and_left false b h = absurd (false≢true h)
+and_left a b h = grind arith
 
 pub and_right : (a b : Bool) → (a && b) ≡ true → b ≡ true
-and_right true b h = h
-and_right false b h = absurd (false≢true h)
+and_right a b h = grind arith
 
 -- what isn't so is false
 pub is_false : (b : Bool) → not b ≡ true → b ≡ false
-is_false true h = absurd (false≢true h)
-is_false false h = refl
+is_false b h = grind arith
 
 -- nothing is there
 pub is_none : {A : Type 0} (o : Option A) → not (is_some o) ≡ true → o ≡ None
-is_none None h = refl
-is_none (Some x) h = absurd (false≢true h)
+is_none o h = grind arith
 
 -- nothing was there before it was mapped
 pub unmapped : {A B : Type 0} (f : A → B) (o : Option A) → option_map f o ≡ None → o ≡ None
-unmapped f None h = refl
-unmapped f (Some x) h = cc
+unmapped f o h = grind arith
 
 -- a flag that is off is false
 pub off_false : (o : Option Text) (r : Bool) → option_map_or (λ text. bytes_eq text (codes "false")) o true ≡ true →
@@ -101,50 +96,34 @@ pub record IsMade (a : Arg) (r : Rule) : Type 0 where
 
 -- the steps of its making
 module _ (a b : Arg) (r : Rule) (made : IsMade a r) where
-  is_local : (c : Arg) → b ≡ c → c.global ≡ a.global → b.global ≡ false
-  is_local c is same = ap (λ (x : Arg). x.global) is ∙ same ∙ made.local
+  kept : {c : Arg} {s : Rule} → b ≡ c → rule_of c ≡ s → c.global ≡ a.global → IsMade b s
+  kept is rule same = record { rule = ap rule_of is ∙ rule; local = ap (λ (x : Arg). x.global) is ∙ same ∙ made.local }
 
   pub helped : (help : Bor (List ℕ)) → b ≡ record a { help = Some help } → IsMade b r
-  helped help is = record { rule = ap rule_of is ∙ made.rule; local = is_local _ is refl }
+  helped help is = kept is made.rule refl
 
   pub named : (name : Bor (List ℕ)) → b ≡ record a { long = Some name } → IsMade b (record r { long = Some name.now })
-  named name is = record {
-    rule = ap rule_of is ∙ ap (λ (r : Rule). let x : Rule = record r { long = Some name.now } in x) made.rule;
-    local = is_local _ is refl;
-  }
+  named name is = kept is (ap (λ (r : Rule). let x : Rule = record r { long = Some name.now } in x) made.rule) refl
 
   pub acted : (action : ArgAction) → b ≡ record a { action = Some action } → IsMade b (record r { action = Some action })
-  acted action is = record {
-    rule = ap rule_of is ∙ ap (λ (r : Rule). let x : Rule = record r { action = Some action } in x) made.rule;
-    local = is_local _ is refl;
-  }
+  acted action is = kept is (ap (λ (r : Rule). let x : Rule = record r { action = Some action } in x) made.rule) refl
 
   pub valued : (value : Bor (List ℕ)) → b ≡ record a { val_names = One value } → IsMade b (record r { value_names = 1 })
-  valued value is = record {
-    rule = ap rule_of is ∙ ap (λ (r : Rule). let x : Rule = record r { value_names = 1 } in x) made.rule;
-    local = is_local _ is refl;
-  }
+  valued value is = kept is (ap (λ (r : Rule). let x : Rule = record r { value_names = 1 } in x) made.rule) refl
 
   pub parsed : (parser : Option ValueParser) → b ≡ record a { value_parser = b.value_parser } → b.value_parser ≡ parser →
       IsMade b (record r { parser = parser })
-  parsed parser is by = record {
-    rule = ap rule_of is ∙ ap (λ (r : Rule). let x : Rule = record r { parser = b.value_parser } in x) made.rule
-        ∙ ap (λ (p : Option ValueParser). let x : Rule = record r { parser = p } in x) by;
-    local = is_local _ is refl;
-  }
+  parsed parser is by =
+      kept is (ap (λ (r : Rule). let x : Rule = record r { parser = b.value_parser } in x) made.rule
+      ∙ ap (λ (p : Option ValueParser). let x : Rule = record r { parser = p } in x) by) refl
 
   pub ranged : (range : Option ValueRange) → b ≡ record a { num_vals = b.num_vals } → b.num_vals ≡ range → IsMade b (record r { range = range })
-  ranged range is by = record {
-    rule = ap rule_of is ∙ ap (λ (r : Rule). let x : Rule = record r { range = b.num_vals } in x) made.rule
-        ∙ ap (λ (o : Option ValueRange). let x : Rule = record r { range = o } in x) by;
-    local = is_local _ is refl;
-  }
+  ranged range is by =
+      kept is (ap (λ (r : Rule). let x : Rule = record r { range = b.num_vals } in x) made.rule
+      ∙ ap (λ (o : Option ValueRange). let x : Rule = record r { range = o } in x) by) refl
 
   pub required : (needed : Bool) → b ≡ record a { required = needed } → IsMade b (record r { required = needed })
-  required needed is = record {
-    rule = ap rule_of is ∙ ap (λ (r : Rule). let x : Rule = record r { required = needed } in x) made.rule;
-    local = is_local _ is refl;
-  }
+  required needed is = kept is (ap (λ (r : Rule). let x : Rule = record r { required = needed } in x) made.rule) refl
 
 -- a command with one argument more
 pub added : (old : Command) (a : Arg) (new : Command) (s : Shape) (r : Rule) → AddsArg old a new → a.global ≡ false →

@@ -1,26 +1,24 @@
 -- What the calls of a run's tasks answer, and how they leave their tasks: at rest, or with the write access that was granted.
-use Rattle.std.proofs.Common.{◌≡◌, ◌≢◌, inl, inr, ℕ, zero, suc, ◌+◌, ◌<◌, true, List, [], ◌∷◌, ◌++◌, refl, sym, ap, ◌∙◌, subst, arith, lt-ltb}
-use Rattle.std.specs.Prelude.{◌⊎◌, if◌then◌else◌, Bool, false, None, Some, Result, Ok, Err}
-use Rattle.access_model.specs.{Holders.{held_by, nobody}, Histories.{mounts_of, levels_of}, declared.actions.Action.{Action, TheVariants.{Grant, Hold, Leave, Reopen, Stage}}}
-use Rattle.access_model.specs.declared.actions.{Gate.TheVariants.{Mount, Level}, Holder.TheVariants.{User}, Kind.TheVariants.{File}}
-use Rattle.access_model.specs.declared.errors.GateError.{GateError}
-use Rattle.access_model.specs.declared.errors.GateError.TheVariants.{Again, Hook, Invalid, IsDir, NoEntry, NoSpace, Order, ReadOnly, TooMany}
-use Rattle.access_model.specs.declared.replies.Reply.{Reply}
-use Rattle.gate_world.specs.{Holdings.{Holdings, holdings_of, held_after}, Operations.{some_mount}, traces.{Found.{found_complete, found_sealed, found_shared}, Traces.{IsHonestAnswer}}}
-use Rattle.gate_world.specs.declared.{config.Config.{Config}, operations.Op.{Op}}
-use Rattle.gate_world.specs.declared.operations.Op.TheVariants.{WantWrite, DropWrite, Callback, Freeze, Thaw, Create, Grow, Snapshot}
-use Rattle.gate_world.specs.declared.views.Traced.{Traced}
+use Rattle.gate_runs.proofs.Prelude.{Action, Again, Bool, Called, CallsBack, Config, Create, DealtNumbers, Does, DropWrite, Err, File, Freeze}
+use Rattle.gate_runs.proofs.Prelude.{GateError, Gates, Grow, HasWriteAccess, IsRefused, List, MayFreeze, NeverFreezes, None, Ok, Op, Performs}
+use Rattle.gate_runs.proofs.Prelude.{ReadOnly, Repeats, Reply, Rests, Result, SeatedTask, Some, Traced, User, WantWrite, WriterRefused, [], adds, ap}
+use Rattle.gate_runs.proofs.Prelude.{arith, false, inl, inr, own_actions, refl, refusal_at, subst, suc, sym, true, zero, ℕ, ◌++◌, ◌+◌, ◌<◌, ◌∙◌, ◌∷◌}
+use Rattle.gate_runs.proofs.Prelude.{◌≡◌, ◌⊎◌}
+use Rattle.gate_runs.{proofs.Keeping.either_way, specs.Refusals.{CreateRefused, EndsCreate, EndsGrow}}
+use Rattle.std.{proofs.Common.{lt-ltb, ◌≢◌}, specs.Prelude.if◌then◌else◌}
+use Rattle.access_model.specs.{Histories.{levels_of, mounts_of}, Holders.{held_by, nobody}, declared.actions.Action.TheVariants.{Grant, Hold, Leave}}
+use Rattle.access_model.specs.declared.actions.{Action.TheVariants.{Reopen, Stage}, Gate.TheVariants.{Level, Mount}}
+use Rattle.access_model.specs.declared.errors.GateError.TheVariants.{Hook, Invalid, IsDir, NoEntry, NoSpace, Order, TooMany}
+use Rattle.gate_world.specs.{Holdings.{Holdings, held_after, holdings_of}, Operations.some_mount, declared.operations.Op.TheVariants.Callback}
+use Rattle.gate_world.specs.{declared.operations.Op.TheVariants.{Snapshot, Thaw}, traces.Found.{found_complete, found_sealed, found_shared}}
+use Rattle.gate_world.specs.traces.Traces.{IsHonestAnswer}
 use Rattle.cpu_words.specs.Hooks.{HookAnswer}
-use Rattle.freeze_levels.specs.declared.hooks.HookCall.{HookCall, TheVariants.{UnfreezeFs}}
-use Rattle.gate_steps.specs.call_events.{Asked.{AskedByRefused, failed}, Asking.{Ask, PerformsAsking, WereAsked, asks_of}}
-use Rattle.gate_steps.proofs.call_events.ThawAsks.{refused_thaw}
-use Rattle.gate_runs.specs.Refusals.{CreateRefused, EndsCreate, EndsGrow, HasWriteAccess, WriterRefused}
-use Rattle.gate_runs.specs.Rounds.{CallsBack, Does, IsRefused, Repeats}
-use Rattle.vfs_gates.specs.{Frozen.{MayFreeze, NeverFreezes, holders_of, stage_of}, Grown.{StaySeen}, Held.{Rests, own_actions, takes_nothing}}
-use Rattle.vfs_gates.specs.{Runs.{Called, Performs, Replies, told_as, unit_of}, Seating.{DealtNumbers}, TaskStates.{SeatedTask, refusal_at}, declared.Gates.{Gates}}
-use Rattle.vfs_gates.proofs.{Grown.{call_stays_seen}, Holding.{adds, as_before_twice, keeps, refused_call_keeps, rests_on, unchanged}}
-use Rattle.vfs_gates.proofs.Returning.{done_idle, return_restores, was_done}
-use Rattle.gate_runs.proofs.Keeping.{either_way}
+use Rattle.freeze_levels.specs.declared.hooks.HookCall.{HookCall, TheVariants.UnfreezeFs}
+use Rattle.gate_steps.{proofs.call_events.ThawAsks.refused_thaw, specs.call_events.{Asked.{AskedByRefused, failed}, Asking.{Ask, PerformsAsking}}}
+use Rattle.gate_steps.specs.call_events.Asking.{WereAsked, asks_of}
+use Rattle.vfs_gates.proofs.{Grown.call_stays_seen, Holding.{as_before_twice, keeps, refused_call_keeps, rests_on, unchanged}, Returning.done_idle}
+use Rattle.vfs_gates.{proofs.Returning.{return_restores, was_done}, specs.{Frozen.{holders_of, stage_of}, Grown.StaySeen, Held.takes_nothing}}
+use Rattle.vfs_gates.specs.Runs.{Replies, told_as, unit_of}
 
 -- a call that takes nothing leaves a task at rest, whatever it answers
 pub rests_by : {A : Type 0} (read : Reply → A) (op : Op) (first last : SeatedTask) (outcome : Result A GateError) → takes_nothing op ≡ true →

@@ -1,28 +1,25 @@
 -- What the calls of a run's first task can't find: that the mount is read-only before any task has done anything, or that the root is no directory.
-use Rattle.std.proofs.Common.{◌≡◌, ℕ, zero, suc, ◌+◌, ◌<◌, ◌≤◌, Bool, true, false, List, [], ◌∷◌, ◌++◌, length, refl, sym, ap, ◌∙◌, subst, inl, inr, arith}
-use Rattle.std.proofs.lemmas.Bool.{and_parts, false≢true, Decides.eqb_tells}
-use Rattle.std.specs.Prelude.{◌==◌, ◌⊎◌, if◌then◌else◌, Some, None, Result, Err}
+use Rattle.gate_runs.proofs.Prelude.{Action, Again, Bool, Called, Config, Create, Err, File, GateError, Gives, HasBegun, List, None, Op, ReadOnly}
+use Rattle.gate_runs.proofs.Prelude.{Reply, Result, SeatedTask, Some, Traced, View, WantWrite, [], adds, ap, arith, false, inl, inr, length}
+use Rattle.gate_runs.proofs.Prelude.{own_actions, own_number, own_view, refl, spare_of, subst, suc, sym, true, zero, ℕ, ◌++◌, ◌+◌, ◌<◌, ◌∙◌, ◌∷◌, ◌≡◌}
+use Rattle.gate_runs.proofs.Prelude.{◌≤◌, ◌⊎◌}
+use Rattle.gate_runs.{proofs.Keeping.called_stays, specs.Refusals.EndsCreate}
+use Rattle.std.{proofs.lemmas.Bool.{Decides.eqb_tells, and_parts, false≢true}, specs.Prelude.{if◌then◌else◌, ◌==◌}}
 use lib.ListN.{get_elem?}
 use Rattle.finite_sums.proofs.Totals.{each_updated}
-use Rattle.access_model.specs.{Actions.{after_action}, Histories.{Done, end_of, IsLegal, own_part}, Laws.{IsReadOnly}}
-use Rattle.access_model.specs.States.{Limits, State, IsDirectory}
-use Rattle.access_model.specs.declared.actions.{Action.{Action}, Kind.TheVariants.{File, Dir}}
-use Rattle.access_model.specs.declared.{errors.GateError.{GateError}, replies.Reply.{Reply}}
-use Rattle.access_model.specs.declared.errors.GateError.TheVariants.{Again, NoEntry, NoSpace, NotDir, ReadOnly}
-use Rattle.cpu_words.specs.{Words.{read}, declared.{events.{Event.{Event}, Touch.{Touch, TheVariants.{Load}}}, names.WordName.{WordName, TheVariants.{Node}}}}
+use Rattle.access_model.specs.{Actions.after_action, Histories.{Done, IsLegal, end_of, own_part}, Laws.IsReadOnly, States.{IsDirectory, Limits}}
+use Rattle.access_model.specs.{States.State, declared.{actions.Kind.TheVariants.Dir, errors.GateError.TheVariants.{NoEntry, NoSpace, NotDir}}}
+use Rattle.cpu_words.specs.{Words.read, declared.{events.{Event.Event, Touch.{TheVariants.Load, Touch}}, names.WordName.{TheVariants.Node, WordName}}}
 use Rattle.gated_tree.specs.Refusals.{finds_file, finds_free, loads_node}
 use Rattle.node_words.specs.Nodes.{dirty_in, kind_in, node_shown, parent_in, removed_in, size_in}
-use Rattle.gate_world.specs.{Configs.{IsWithin, model_limits}, Headline.{world_after, actions_so_far, actions_since}, Rules.{Tree}, Shown.{shown}, Work.{next_of}}
-use Rattle.gate_world.specs.traces.{Found.{is_load, says_read_only}, Traces.{actions_of, IsHonestAnswer}}
-use Rattle.gate_world.specs.declared.entries.Entry.{Entry, TheVariants.{Steps}}
-use Rattle.gate_world.specs.declared.{config.Config.{Config}, operations.Op.{Op, TheVariants.{Create, WantWrite}}, views.{Traced.{Traced}, View.{View}}}
+use Rattle.gate_world.specs.{Configs.{IsWithin, model_limits}, Headline.{actions_since, actions_so_far, world_after}, Rules.Tree, Shown.shown}
+use Rattle.gate_world.specs.{Work.next_of, declared.entries.Entry.{Entry, TheVariants.Steps}, traces.Found.{is_load, says_read_only}}
+use Rattle.gate_world.specs.traces.Traces.{IsHonestAnswer, actions_of}
 use Rattle.gate_schedules.proofs.schedules.HeadlineProof.{whole_rule, whole_run}
-use Rattle.gate_steps.specs.{Seating.{DealtNumbers, HaveHistory, HaveViews, one_if, times}, call_events.{Runs.{AreMoves}, Spans.{IsEventDuring}}}
-use Rattle.gate_steps.proofs.call_events.{Grown.{only}, Moments.{actions_append}, Spanning.{each_event}}
-use Rattle.vfs_gates.specs.{Held.{own_actions}, Runs.{Called}, Splitting.{Gives, HasBegun, HaveDoneNothing}, TaskStates.{SeatedTask, own_number, own_view, spare_of}}
-use Rattle.vfs_gates.proofs.{several_tasks.Enclosed.{read_only_found}, several_tasks.FrozenUntilThawed.{SomeSays, load_finds, some_of}, Holding.{adds}}
-use Rattle.gate_runs.specs.Refusals.{EndsCreate}
-use Rattle.gate_runs.proofs.Keeping.{called_stays}
+use Rattle.gate_steps.{proofs.call_events.{Grown.only, Moments.actions_append, Spanning.each_event}, specs.Seating.{DealtNumbers, HaveHistory}}
+use Rattle.gate_steps.specs.{Seating.{HaveViews, one_if, times}, call_events.{Runs.AreMoves, Spans.IsEventDuring}}
+use Rattle.vfs_gates.proofs.several_tasks.{Enclosed.read_only_found, FrozenUntilThawed.{SomeSays, load_finds, some_of}}
+use Rattle.vfs_gates.specs.Splitting.{HaveDoneNothing}
 
 -- A load of a call that says this, and the schedule after which it happened: that with which the call returns goes on from there.
 record LoadedSo (first last : SeatedTask) (Says : Event → Type 0) : Type 0 where

@@ -1,14 +1,9 @@
 -- What a task that came home has done, once its number was taken back, and what all have done together.
-use Rattle.std.proofs.Common.{◌≡◌, ℕ, suc, ◌+◌, ◌-◌, refl, subst, sym, ◌∙◌, arith, inl, inr}
-use Rattle.std.specs.Prelude.{◌⊎◌, Result, Ok, Err, IfErr, IfOk}
-use Rattle.access_model.specs.declared.errors.GateError.{GateError}
-use Rattle.run_plans.specs.declared.{counts.{Remounts.{Remounts}, Writes.{Writes}}, plans.Plan.{Plan}}
-use Rattle.gate_runs.specs.{Counts.{both}, Keeping.{FreezesNothing}, Observers.{was_held}}
-use Rattle.gate_runs.specs.{Refusals.{WriterRefused}, declared.threads.Met.{Met, TheVariants.{Remounter, Writer}}}
-use Rattle.gate_runs.specs.Homes.{ComesHome, DoesRounds, IsReady, NeverFroze, TaskShare, TookBack, with_met}
-use Rattle.gate_runs.specs.Parts.{Among, Remounted, Wrote, AllWrote}
-use Rattle.gate_runs.proofs.Staying.{all_wrote_before, all_wrote_on, remounted_on, remounter_part, writer_part}
-use Rattle.vfs_gates.specs.{declared.Gates.{Gates}, Splitting.{HasBegun}, TaskStates.{SeatedTask}}
+use Rattle.gate_runs.proofs.Prelude.{Among, Err, GateError, Gates, HasBegun, IfErr, IfOk, Ok, Plan, Remounts, Result, SeatedTask, WriterRefused}
+use Rattle.gate_runs.proofs.Prelude.{Writes, arith, inl, inr, refl, subst, suc, sym, ℕ, ◌+◌, ◌-◌, ◌∙◌, ◌≡◌, ◌⊎◌}
+use Rattle.gate_runs.{proofs.Staying.{all_wrote_before, all_wrote_on, remounted_on, remounter_part, writer_part}, specs.Counts.both}
+use Rattle.gate_runs.specs.{Homes.{ComesHome, DoesRounds, IsReady, NeverFroze, TaskShare, TookBack, with_met}, Keeping.FreezesNothing}
+use Rattle.gate_runs.specs.{Observers.was_held, Parts.{AllWrote, Remounted, Wrote}, declared.threads.Met.{Met, TheVariants.{Remounter, Writer}}}
 
 -- a task that freezes and thaws nothing comes back with its number
 pub comes_back : (gates : Gates) (plan : Plan) (number : ℕ) (first last : SeatedTask) → IsReady gates plan number first → FreezesNothing first last →

@@ -1,14 +1,13 @@
 -- What a task has that took back the numbers of others, and why it found nothing frozen or thawed by them.
-use Rattle.std.proofs.Common.{◌≡◌, ℕ, zero, suc, ◌+◌, ◌<◌, ◌≤◌, false, List, [], ◌∷◌, ◌++◌, length, refl, sym, ◌∙◌, subst, inl, inr, arith}
-use Rattle.std.proofs.lemmas.Bool.Decides.{eqb_tells}
-use Rattle.access_model.specs.declared.actions.{Action.{Action, TheVariants.{Leave}}, Holder.TheVariants.{User}}
-use Rattle.gate_world.specs.declared.{config.Config.{Config}, views.View.{View}}
-use Rattle.vfs_gates.specs.{Frozen.{IsBesideFreezes, NeverFreezes, NeverThaws}, Grown.{StaySeen}, Ended.{EndedWith, HasAll}}
-use Rattle.vfs_gates.specs.{Seating.{DealtNumbers, HaveViews, one_if, times}, TaskStates.{SeatedTask, own_number, spare_of}}
-use Rattle.vfs_gates.proofs.{Grown.{both_stay_seen, same_stays_seen, stays_seen_on}, Rounds.{own_times, times-append}}
-use Rattle.vfs_gates.proofs.{several_tasks.FreezesBeside.{not_busy}, several_tasks.FrozenUntilThawed.{stands}}
-use Rattle.gate_runs.specs.{Keeping.{HaveNotFrozen}, Refusals.{FoundOthers}}
+use Rattle.gate_runs.proofs.Prelude.{Action, Config, DealtNumbers, FoundOthers, HaveNotFrozen, List, NeverFreezes, SeatedTask, User, View, [], arith}
+use Rattle.gate_runs.proofs.Prelude.{false, inl, inr, length, own_number, refl, spare_of, subst, suc, sym, zero, ℕ, ◌++◌, ◌+◌, ◌<◌, ◌∙◌, ◌∷◌, ◌≡◌}
+use Rattle.gate_runs.proofs.Prelude.{◌≤◌}
 use Rattle.gate_runs.specs.Homes.{HasBack, NeverFroze, TookBack}
+use Rattle.std.proofs.lemmas.Bool.Decides.{eqb_tells}
+use Rattle.access_model.specs.declared.actions.Action.TheVariants.{Leave}
+use Rattle.vfs_gates.proofs.{Grown.{both_stay_seen, same_stays_seen, stays_seen_on}, Rounds.{own_times, times-append}}
+use Rattle.vfs_gates.{proofs.several_tasks.{FreezesBeside.not_busy, FrozenUntilThawed.stands}, specs.Ended.{EndedWith, HasAll}}
+use Rattle.vfs_gates.specs.{Frozen.{IsBesideFreezes, NeverThaws}, Grown.StaySeen, Seating.{HaveViews, one_if, times}}
 
 have_not_both : (a b : DealtNumbers) → HaveNotFrozen a → HaveNotFrozen b → HaveNotFrozen (a ++ b)
 have_not_both [] b none more = more

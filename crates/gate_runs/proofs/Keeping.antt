@@ -1,18 +1,15 @@
 -- What calls of its own leave a task: its numbers, and that it has frozen and thawed nothing unless a call is a freeze or a thaw.
-use Rattle.std.proofs.Common.{◌≡◌, ℕ, zero, suc, ◌+◌, ◌≤◌, true, false, List, [], ◌∷◌, ◌++◌, length, refl, ap, sym, subst, ◌∙◌, arith, inl, inr}
+use Rattle.gate_runs.proofs.Prelude.{Action, BackupRound, Called, CallsBack, Config, Copies, Create, CreatesFile, DealtNumbers, DropWrite, Err, File}
+use Rattle.gate_runs.proofs.Prelude.{GateError, Grow, HaveNotFrozen, IsRefused, List, NeverFreezes, None, Ok, Op, Option, ReadOnly, RemountRound}
+use Rattle.gate_runs.proofs.Prelude.{Remounts, Repeats, Reply, Result, SeatedTask, Some, Traced, Waits, WantWrite, WriterRound, Writes, [], adds, ap}
+use Rattle.gate_runs.proofs.Prelude.{arith, false, inl, inr, length, own_actions, own_number, own_view, refl, refusal_at, spare_of, subst, suc, sym}
+use Rattle.gate_runs.proofs.Prelude.{true, zero, ℕ, ◌++◌, ◌+◌, ◌∙◌, ◌∷◌, ◌≡◌, ◌≤◌}
+use Rattle.gate_runs.specs.{Keeping.{FreezesNothing, KeepsNumbers}, Rounds.{CreatesFiles, Retries, Takes, Tries}}
 use Rattle.std.proofs.lemmas.Bool.{cases_Bool}
-use Rattle.std.specs.Prelude.{Option, Some, None, Result, Ok, Err}
-use Rattle.access_model.specs.declared.{actions.{Action.{Action}, Kind.TheVariants.{File}}, errors.GateError.{GateError}}
-use Rattle.access_model.specs.declared.{errors.GateError.TheVariants.{ReadOnly}, replies.Reply.{Reply, TheVariants.{Node}}}
-use Rattle.gate_world.specs.declared.{config.Config.{Config}, operations.Op.{Op, TheVariants.{ChangeMount, Create, DropWrite, Grow, WantWrite}}}
-use Rattle.gate_world.specs.{declared.views.Traced.{Traced}, traces.{Found.{found_read_only}, Traces.{actions_of}}}
-use Rattle.vfs_gates.specs.{Frozen.{NeverFreezes}, Held.{own_actions}, Runs.{Called, Replies, ran_items}, Seating.{DealtNumbers}}
-use Rattle.vfs_gates.specs.{Splitting.{HaveDoneNothing}, TaskStates.{SeatedTask, own_number, own_view, refusal_at, spare_of}}
-use Rattle.vfs_gates.proofs.Holding.{adds}
-use Rattle.run_plans.specs.declared.counts.{Copies.{Copies}, Remounts.{Remounts}, Writes.{Writes}}
-use Rattle.run_plans.specs.declared.counts.Tried.{Tried, TheVariants.{Copied, GaveUp as GivenUp}}
-use Rattle.gate_runs.specs.{Keeping.{HaveNotFrozen, KeepsNumbers, FreezesNothing}}
-use Rattle.gate_runs.specs.Rounds.{Repeats, CallsBack, CreatesFile, CreatesFiles, IsRefused, Retries, Takes, Waits, RemountRound, Tries, WriterRound, BackupRound}
+use Rattle.access_model.specs.declared.replies.Reply.TheVariants.{Node}
+use Rattle.gate_world.specs.{declared.operations.Op.TheVariants.ChangeMount, traces.{Found.found_read_only, Traces.actions_of}}
+use Rattle.vfs_gates.specs.{Runs.{Replies, ran_items}, Splitting.HaveDoneNothing}
+use Rattle.run_plans.specs.declared.counts.Tried.{TheVariants.{Copied, GaveUp as GivenUp}, Tried}
 
 pub stays_so : (s : SeatedTask) → KeepsNumbers s s
 stays_so s = record { config = refl; own = refl; spare = refl; idle = λ i. i; there = λ h. h }

@@ -1,3 +1,4 @@
+pub mod Prelude
 mod Repeating
 pub mod Answering
 pub mod Keeping

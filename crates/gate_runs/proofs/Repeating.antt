@@ -1,12 +1,8 @@
 -- Rounds that go on.
-use Rattle.std.proofs.Common.{◌≡◌, ℕ, zero, suc, ◌+◌, ◌-◌, ◌^◌, ◌≤◌, min, inl, inr, ap, arith, subst}
-use Rattle.std.specs.Prelude.{Result, Ok, Err, OnOk}
-use Rattle.access_model.specs.declared.errors.GateError.{GateError, TheVariants.{ReadOnly}}
-use Rattle.gate_world.specs.declared.operations.Op.{Op, TheVariants.{WantWrite, DropWrite}}
-use Rattle.vfs_gates.specs.{TaskStates.{SeatedTask}, Runs.{Performs}}
-use Rattle.run_plans.specs.declared.counts.Writes.{Writes}
-use Rattle.gate_runs.specs.{Counts.{counted}, Refusals.{any_call}}
-use Rattle.gate_runs.specs.Rounds.{Closes, CreatesFile, CreatesFiles, Does, IsRefused, Repeats, Retries, Takes, Waits, WriterRound}
+use Rattle.gate_runs.proofs.Prelude.{CreatesFile, Does, DropWrite, Err, GateError, IsRefused, Ok, Op, Performs, ReadOnly, Repeats, Result, SeatedTask}
+use Rattle.gate_runs.proofs.Prelude.{Waits, WantWrite, WriterRound, Writes, ap, arith, counted, inl, inr, subst, suc, zero, ℕ, ◌+◌, ◌-◌, ◌≡◌, ◌≤◌}
+use Rattle.gate_runs.specs.{Refusals.any_call, Rounds.{Closes, CreatesFiles, Retries, Takes}}
+use Rattle.std.{proofs.Common.{min, ◌^◌}, specs.Prelude.OnOk}
 
 -- one round more
 pub one_more : {S : Type 0} (Round : ℕ → S → S → Type 0) (k : ℕ) (first mid last : S) → Repeats Round k first mid → Round k mid last →

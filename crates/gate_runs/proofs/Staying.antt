@@ -1,14 +1,11 @@
 -- What a task is among others in the end.
-use Rattle.std.proofs.Common.{◌≡◌, ℕ, suc, ◌+◌, ◌-◌, ◌≤◌, List, [], ◌∷◌, ◌++◌, length, refl, ap, sym, subst, ◌∙◌, arith, inl, inr}
-use Rattle.std.specs.Prelude.{Option}
-use Rattle.gate_world.specs.declared.views.View.{View}
-use Rattle.vfs_gates.specs.{Seating.{DealtNumbers, HaveViews, numbered, times}, TaskStates.{SeatedTask, own_number, own_view}}
-use Rattle.vfs_gates.specs.Splitting.{Gives, HasBegun, HaveDoneNothing}
-use Rattle.run_plans.specs.declared.counts.{Details.{Details}, Remounts.{Remounts}, Writes.{Writes}}
-use Rattle.gate_runs.specs.{Counts.{both, no_remounts, no_writes, remounts_of}, Keeping.{KeepsNumbers}, Observers.{was_held}}
-use Rattle.gate_runs.specs.Rounds.{Repeats, RemountRound, WriterRound}
-use Rattle.gate_runs.specs.{Homes.{TookBack}, Parts.{EachFrom, Among, EndsAs, Remounted, Wrote, AllWrote, AllDid}}
-use Rattle.gate_runs.proofs.Keeping.{remounts_freeze_none, writes_freeze_none}
+use Rattle.gate_runs.proofs.Prelude.{Among, DealtNumbers, Gives, HasBegun, List, Option, RemountRound, Remounts, Repeats, SeatedTask, View}
+use Rattle.gate_runs.proofs.Prelude.{WriterRound, Writes, [], ap, arith, inl, inr, length, own_number, own_view, refl, subst, suc, sym, ℕ, ◌++◌, ◌+◌}
+use Rattle.gate_runs.proofs.Prelude.{◌-◌, ◌∙◌, ◌∷◌, ◌≡◌, ◌≤◌}
+use Rattle.gate_runs.{proofs.Keeping.{remounts_freeze_none, writes_freeze_none}, specs.Counts.{both, no_remounts, no_writes, remounts_of}}
+use Rattle.gate_runs.specs.{Homes.TookBack, Keeping.KeepsNumbers, Observers.was_held, Parts.{AllDid, AllWrote, EachFrom, EndsAs, Remounted, Wrote}}
+use Rattle.vfs_gates.specs.{Seating.{HaveViews, numbered, times}, Splitting.HaveDoneNothing}
+use Rattle.run_plans.specs.declared.counts.Details.{Details}
 
 -- who stands among these does so among more
 pub among_more : (s : SeatedTask) (items more : DealtNumbers) → Among items s → Among (items ++ more) s

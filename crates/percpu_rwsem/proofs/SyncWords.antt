@@ -1,25 +1,15 @@
 -- words of an rcu_sync, as numbers and back
-use Rattle.std.proofs.Common.{◌≡◌, true, false, ◌/◌, ◌%◌, ◌≤◌, refl, arith}
-use Rattle.std.proofs.lemmas.Bool.{le-leb}
-use Rattle.std.specs.Prelude.{Bool, Some, ◌==◌}
-use Rattle.percpu_rwsem.specs.declared.sync_word.{GpState.{GpState, TheVariants.{Idle, Enter, Passed, Exit, Replay}}, SyncWord.{SyncWord}}
-use Rattle.percpu_rwsem.specs.SyncWords.{bit, state_number, state_of, IsLawful, pack, unpack}
+use Rattle.std.{proofs.{Common.{arith, false, refl, true, ◌%◌, ◌/◌, ◌≡◌, ◌≤◌}, lemmas.Bool.le-leb}, specs.Prelude.{Bool, Some, ◌==◌}}
+use Rattle.percpu_rwsem.specs.{SyncWords.{IsLawful, bit, pack, state_number, state_of, unpack}, declared.sync_word.GpState.GpState}
+use Rattle.percpu_rwsem.specs.declared.sync_word.SyncWord.{SyncWord}
 
 -- a state is found again in its number
 state_of_number : (s : GpState) → state_of (state_number s) ≡ Some s
-state_of_number Idle = refl
-state_of_number Enter = refl
-state_of_number Passed = refl
-state_of_number Exit = refl
-state_of_number Replay = refl
+state_of_number s = grind arith
 
 -- a state's number fits three bits
 number_small : (s : GpState) → state_number s ≤ 4
-number_small Idle = omega arith
-number_small Enter = omega arith
-number_small Passed = omega arith
-number_small Exit = omega arith
-number_small Replay = omega arith
+number_small s = grind arith
 
 -- a bit is at most 1
 pub bit_small : (t : Bool) → bit t ≤ 1

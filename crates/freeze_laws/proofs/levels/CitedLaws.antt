@@ -1,14 +1,14 @@
 -- the laws that the contracts name
-use Rattle.std.{proofs.Common.{◌≡◌, ℕ, suc, ◌+◌, refl, ap, arith}, specs.Prelude.{◌⊎◌, Some, true, false}}
-use Rattle.finite_sums.{proofs.Totals.{total_zero, total_at}, specs.Sums.total}
+use Rattle.std.{proofs.Common.{ap, arith, false, refl, suc, true, ℕ, ◌+◌, ◌≡◌, ◌⊎◌}, specs.Prelude.Some}
+use Rattle.finite_sums.{proofs.Totals.{total_at, total_zero}, specs.Sums.total}
 use Rattle.percpu_rwsem.specs.{SyncWords.is_queued, declared.sync_word.GpState.GpState}
-use Rattle.freeze_laws.proofs.levels.{EventLaws.{fast_finds, entered_finds}, GraceLaws.graces_are_whole, IdleLaws.only_callbacks_idle, Runs.{event_keeps, run_is_right}}
-use Rattle.freeze_laws.proofs.levels.SyncLaws.{claimed_alone, two_places}
-use Rattle.freeze_laws.specs.levels.{Changes.{state_found_in, state_found}, Events.SyncLevelHolds}
-use Rattle.freeze_laws.specs.levels.{Laws.{IdleIsEarned, FastFindsOpen, EntersAlone, WritersFind, EventsKeep, opening}, Roles.{fast, entered, enter_bit, idle_bit}}
+use Rattle.freeze_laws.proofs.levels.{EventLaws.{entered_finds, fast_finds}, GraceLaws.graces_are_whole, IdleLaws.only_callbacks_idle}
+use Rattle.freeze_laws.{proofs.levels.{Runs.{event_keeps, run_is_right}, SyncLaws.{claimed_alone, two_places}}, specs.levels.Changes.state_found}
+use Rattle.freeze_laws.specs.levels.{Changes.state_found_in, Events.SyncLevelHolds, Laws.{EntersAlone, EventsKeep, FastFindsOpen, IdleIsEarned}}
+use Rattle.freeze_laws.specs.levels.{Laws.{WritersFind, opening}, Roles.{enter_bit, entered, fast, idle_bit}}
 
 pub events_keep : EventsKeep
-events_keep tasks l l' right s = event_keeps tasks s.task s.there l l' s.kind right s.happens
+events_keep tasks l l' right s = event_keeps tasks s.task s.there l right l' s.kind s.happens
 
 pub opening_is_right : (tasks : ℕ) → SyncLevelHolds tasks opening
 opening_is_right tasks =

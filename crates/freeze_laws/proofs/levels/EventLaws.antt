@@ -1,17 +1,15 @@
 -- each kind of step at one level keeps its predicate
-use Rattle.std.proofs.{Common.{◌≡◌, ℕ, true, false, ◌+◌, ◌%◌, ◌<◌, ◌≤◌, refl, sym, ap, subst, ◌∙◌, inl, inr, arith}, lemmas.Bool.Decides.{eqb_tells, nat_tests}}
-use Rattle.std.specs.Prelude.{Bool, nat_lt, if◌then◌else◌}
-use Rattle.finite_sums.{proofs.Totals.{each_updated, total_updated, total_at, total_none}, specs.Sums.{update, total}}
+use Rattle.std.proofs.Common.{Bool, ap, arith, false, inl, inr, refl, subst, sym, true, ℕ, ◌%◌, ◌+◌, ◌<◌, ◌∙◌, ◌≡◌, ◌≤◌}
+use Rattle.std.{proofs.lemmas.Bool.Decides.{eqb_tells, nat_tests}, specs.Prelude.{if◌then◌else◌, nat_lt}}
+use Rattle.finite_sums.{proofs.Totals.{each_updated, total_at, total_none, total_updated}, specs.Sums.{total, update}}
 use Rattle.cpu_words.specs.Touches.{wrap_add}
-use Rattle.percpu_rwsem.proofs.SyncWords.{bit_small}
-use Rattle.percpu_rwsem.specs.Graces.{started, looked}
-use Rattle.percpu_rwsem.specs.SyncWords.{bit, is_queued, entered_state, left_state, emptied_state, on_enter, on_exit, on_claim, on_callback}
-use Rattle.percpu_rwsem.specs.declared.{grace.{Grace.Grace, GraceNext.GraceNext}, sync_word.{GpState.GpState, SyncWord.SyncWord}}
-use Rattle.freeze_laws.proofs.levels.SyncLaws.{role_free, says, parts_of, open_while_fast, moves}
-use Rattle.freeze_laws.proofs.levels.TransitionLaws.{Enters, enters, Exits, exits, passes, Calls, calls, Claims, claims_queued}
-use Rattle.freeze_laws.specs.levels.Changes.{Leaves, role_entered, waits, claims}
-use Rattle.freeze_laws.specs.levels.Roles.{SyncRole, Out, Fast, Waiting, Past, Entered, Closed, Claimed, Ready, fast, entering, entered, closed, claimed, enter_bit}
-use Rattle.freeze_laws.specs.levels.Roles.{idle_bit, RoleHolds, SyncHolds, SectionsHold}
+use Rattle.percpu_rwsem.{proofs.SyncWords.bit_small, specs.{Graces.{looked, started}, SyncWords.{bit, emptied_state, entered_state, is_queued}}}
+use Rattle.percpu_rwsem.specs.{SyncWords.{left_state, on_callback, on_claim, on_enter, on_exit}, declared.grace.{Grace.Grace, GraceNext.GraceNext}}
+use Rattle.percpu_rwsem.specs.declared.sync_word.{GpState.GpState, SyncWord.SyncWord}
+use Rattle.freeze_laws.proofs.levels.{SyncLaws.{moves, open_while_fast, parts_of, role_free, says}, TransitionLaws.{Calls, Claims, Enters, Exits}}
+use Rattle.freeze_laws.{proofs.levels.TransitionLaws.{calls, claims_queued, enters, exits, passes}, specs.levels.Changes.{Leaves, claims}}
+use Rattle.freeze_laws.specs.levels.{Changes.{role_entered, waits}, Roles.{Claimed, Closed, Entered, Fast, Out, Past, Ready, RoleHolds, SectionsHold}}
+use Rattle.freeze_laws.specs.levels.Roles.{SyncHolds, SyncRole, Waiting, claimed, closed, enter_bit, entered, entering, fast, idle_bit}
 
 -- a grace period that has not loaded yet says nothing
 entered_says : (section : ℕ → ℕ) (at : ℕ → SyncRole) (tasks : ℕ) → 0 < tasks → (s : GpState) →

@@ -1,10 +1,8 @@
 -- the transitions that phases make are those of the number in memory
-use Rattle.std.proofs.Common.{arith}
-use Rattle.std.{proofs.{Common.{◌≡◌, ℕ, refl, ap, ◌∙◌, inl, inr}, lemmas.Bool.Decides.eqb_tells}, specs.Prelude.{Option, Some}}
-use Rattle.percpu_rwsem.proofs.SyncWords.{unpack_pack}
-use Rattle.percpu_rwsem.specs.{SyncWords.{pack, unpack}, Transitions.{word_loaded}}
+use Rattle.std.{proofs.{Common.{ap, arith, inl, inr, refl, ℕ, ◌∙◌, ◌≡◌}, lemmas.Bool.Decides.eqb_tells}, specs.Prelude.{Option, Some}}
+use Rattle.percpu_rwsem.{proofs.SyncWords.unpack_pack, specs.{SyncWords.{pack, unpack}, Transitions.word_loaded}}
 use Rattle.percpu_rwsem.specs.declared.{sync_word.SyncWord.SyncWord, transitions.Transition.Transition}
-use Rattle.freeze_laws.specs.levels.{Changes.{put_by, transition_of, state_found_in}, Exchanges.{MakesTransition, ExchangesMakeTransitions}}
+use Rattle.freeze_laws.specs.levels.{Changes.{put_by, state_found_in, transition_of}, Exchanges.{ExchangesMakeTransitions, MakesTransition}}
 
 -- a number was loaded
 load_shows : (makes : SyncWord → Option SyncWord) (found : ℕ) (o : Option SyncWord) → unpack found ≡ o →

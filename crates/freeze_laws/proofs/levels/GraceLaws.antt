@@ -1,15 +1,13 @@
 -- a grace period is whole: each section that was under way at its beginning has ended at its end
-use Rattle.std.proofs.Common.{◌≡◌, ℕ, zero, suc, false, ◌+◌, ◌-◌, ◌%◌, ◌<◌, ◌≤◌, refl, sym, ap, subst, ◌∙◌, inl, inr, arith}
-use Rattle.std.proofs.lemmas.Bool.Decides.{eqb_tells, nat_tests}
-use Rattle.std.specs.Prelude.{Option, Some, None, ◌==◌, ◌&&◌, ◌⊎◌, nat_lt}
+use Rattle.std.proofs.Common.{ap, arith, false, inl, inr, refl, subst, suc, sym, zero, ℕ, ◌%◌, ◌+◌, ◌-◌, ◌<◌, ◌∙◌, ◌≡◌, ◌≤◌, ◌⊎◌}
+use Rattle.std.{proofs.lemmas.Bool.Decides.{eqb_tells, nat_tests}, specs.Prelude.{None, Option, Some, nat_lt, ◌&&◌, ◌==◌}}
 use Rattle.finite_sums.{proofs.Totals.update_off, specs.Sums.update}
-use Rattle.percpu_rwsem.specs.{Graces.{is_first, started, looked}, declared.{grace.{Grace.Grace, GraceNext.GraceNext}, sync_word.GpState.GpState}}
-use Rattle.freeze_laws.proofs.levels.{EventLaws.{by_test, waits_entering, claims_claimed}, Runs.run_is_right}
-use Rattle.freeze_laws.specs.levels.Changes.{state_found, role_found, waits, claims}
-use Rattle.freeze_laws.specs.levels.Events.{SyncLevel, SyncLevelHolds, SyncEvent, TurnsSection, FindsIdle, AddsFast, Enters, Looks, Passes, Swaps, Opens, Exits, Claims}
-use Rattle.freeze_laws.specs.levels.Events.{LooksClaimed, Calls, Freezes, Thaws, Stays, Happens, SyncStep, SyncRun}
-use Rattle.freeze_laws.specs.levels.Laws.{OutsideSince, WholeGrace, GracesAreWhole}
-use Rattle.freeze_laws.specs.levels.Roles.{SyncRole, Out, Fast, Waiting, Past, Entered, Closed, Claimed, Ready, entering, claimed}
+use Rattle.percpu_rwsem.specs.{Graces.{is_first, looked, started}, declared.{grace.{Grace.Grace, GraceNext.GraceNext}, sync_word.GpState.GpState}}
+use Rattle.freeze_laws.{proofs.levels.{EventLaws.{by_test, claims_claimed, waits_entering}, Runs.run_is_right}, specs.levels.Changes.claims}
+use Rattle.freeze_laws.specs.levels.{Changes.{role_found, state_found, waits}, Events.{AddsFast, Calls, Claims, Enters, Exits, FindsIdle, Freezes}}
+use Rattle.freeze_laws.specs.levels.Events.{Happens, Looks, LooksClaimed, Opens, Passes, Stays, Swaps, SyncEvent, SyncLevel, SyncLevelHolds, SyncRun}
+use Rattle.freeze_laws.specs.levels.{Events.{SyncStep, Thaws, TurnsSection}, Laws.{GracesAreWhole, OutsideSince, WholeGrace}, Roles.{Claimed, Closed}}
+use Rattle.freeze_laws.specs.levels.Roles.{Entered, Fast, Out, Past, Ready, SyncRole, Waiting, claimed, entering}
 
 -- a step that changes the section word of a task begins or ends its section
 event_turns : (tasks t : ℕ) → (l l' : SyncLevel) (k : SyncEvent) → Happens tasks t l l' k → (u : ℕ) → l.inside u ≤ 1 →
@@ -36,35 +34,29 @@ turned tasks s l l' r t e f =
       | inr h ↦ Same (ap (λ (x : ℕ → SyncRole). x t) e ∙ update_off l.at s r t h.1)
     ]
 
-quiet : (tasks : ℕ) (l l' : SyncLevel) (t : ℕ) (r : SyncRole) → entering r ≡ 0 → claimed r ≡ 0 → l'.at t ≡ r → Turn tasks l l' t
-quiet tasks l l' t r e c h = Quiet (ap entering h ∙ e) (ap claimed h ∙ c)
+-- a step into a role that is in no grace period
+quiet : (tasks s : ℕ) (l l' : SyncLevel) (r : SyncRole) (t : ℕ) → l'.at ≡ update l.at s r → entering r ≡ 0 → claimed r ≡ 0 → Turn tasks l l' t
+quiet tasks s l l' r t same e c = turned tasks s l l' r t same (λ a b. Quiet (ap entering b ∙ e) (ap claimed b ∙ c))
 
 found_turn : (tasks : ℕ) (l l' : SyncLevel) (t : ℕ) (o : Option GpState) → l'.at t ≡ role_found tasks o → Turn tasks l l' t
 found_turn tasks l l' t found h = grind arith
 
 event_turn : (tasks s : ℕ) → (l l' : SyncLevel) (k : SyncEvent) → Happens tasks s l l' k → (t : ℕ) → Turn tasks l l' t
 event_turn tasks s l l' TurnsSection h t = Same (ap (λ (x : SyncLevel). x.at t) h.1)
-event_turn tasks s l l' FindsIdle h t = turned tasks s l l' Fast t (ap (λ (x : SyncLevel). x.at) h.3)
-    (λ a b. quiet tasks l l' t Fast refl refl b)
-event_turn tasks s l l' AddsFast h t = turned tasks s l l' Out t (ap (λ (x : SyncLevel). x.at) h.1)
-    (λ a b. quiet tasks l l' t Out refl refl b)
+event_turn tasks s l l' FindsIdle h t = quiet tasks s l l' Fast t (ap (λ (x : SyncLevel). x.at) h.3) refl refl
+event_turn tasks s l l' AddsFast h t = quiet tasks s l l' Out t (ap (λ (x : SyncLevel). x.at) h.1) refl refl
 event_turn tasks s l l' Enters h t = turned tasks s l l' (role_found tasks (state_found l.sync)) t (ap (λ (x : SyncLevel). x.at) h.3)
     (λ a b. found_turn tasks l l' t (state_found l.sync) b)
 event_turn tasks s l l' Looks h t = turned tasks s l l' _ t (ap (λ (x : SyncLevel). x.at) h.2) (λ a b. Looked h.0 (a ∙ h.1) b)
-event_turn tasks s l l' Passes h t = turned tasks s l l' Entered t (ap (λ (x : SyncLevel). x.at) h.2)
-    (λ a b. quiet tasks l l' t Entered refl refl b)
-event_turn tasks s l l' Swaps h t = turned tasks s l l' Closed t (ap (λ (x : SyncLevel). x.at) h.1)
-    (λ a b. quiet tasks l l' t Closed refl refl b)
-event_turn tasks s l l' Opens h t = turned tasks s l l' Entered t (ap (λ (x : SyncLevel). x.at) h.1)
-    (λ a b. quiet tasks l l' t Entered refl refl b)
-event_turn tasks s l l' Exits h t = turned tasks s l l' Out t (ap (λ (x : SyncLevel). x.at) h.2) (λ a b. quiet tasks l l' t Out refl refl b)
+event_turn tasks s l l' Passes h t = quiet tasks s l l' Entered t (ap (λ (x : SyncLevel). x.at) h.2) refl refl
+event_turn tasks s l l' Swaps h t = quiet tasks s l l' Closed t (ap (λ (x : SyncLevel). x.at) h.1) refl refl
+event_turn tasks s l l' Opens h t = quiet tasks s l l' Entered t (ap (λ (x : SyncLevel). x.at) h.1) refl refl
+event_turn tasks s l l' Exits h t = quiet tasks s l l' Out t (ap (λ (x : SyncLevel). x.at) h.2) refl refl
 event_turn tasks s l l' Claims h t = turned tasks s l l' _ t (ap (λ (x : SyncLevel). x.at) h.2) (λ a b. StartsClaimed b)
 event_turn tasks s l l' LooksClaimed h t = turned tasks s l l' _ t (ap (λ (x : SyncLevel). x.at) h.2) (λ a b. LookedClaimed h.0 (a ∙ h.1) b)
-event_turn tasks s l l' Calls h t = turned tasks s l l' Out t (ap (λ (x : SyncLevel). x.at) h.2) (λ a b. quiet tasks l l' t Out refl refl b)
-event_turn tasks s l l' Freezes h t = turned tasks s l l' Out t (ap (λ (x : SyncLevel). x.at) h.1)
-    (λ a b. quiet tasks l l' t Out refl refl b)
-event_turn tasks s l l' Thaws h t = turned tasks s l l' Closed t (ap (λ (x : SyncLevel). x.at) h.2)
-    (λ a b. quiet tasks l l' t Closed refl refl b)
+event_turn tasks s l l' Calls h t = quiet tasks s l l' Out t (ap (λ (x : SyncLevel). x.at) h.2) refl refl
+event_turn tasks s l l' Freezes h t = quiet tasks s l l' Out t (ap (λ (x : SyncLevel). x.at) h.1) refl refl
+event_turn tasks s l l' Thaws h t = quiet tasks s l l' Closed t (ap (λ (x : SyncLevel). x.at) h.2) refl refl
 event_turn tasks s l l' Stays h t = Same (ap (λ (x : SyncLevel). x.at t) h)
 
 longer : (m : ℕ → SyncLevel) (a b i j u : ℕ) → a ≤ b → i ≤ j → OutsideSince m b i u → OutsideSince m a j u

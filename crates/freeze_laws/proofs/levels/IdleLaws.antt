@@ -1,10 +1,9 @@
 -- a state becomes GP_IDLE only by a callback
-use Rattle.std.{proofs.Common.{◌≡◌, ℕ, true, false, ◌<◌, refl, sym, ap, ◌∙◌}, specs.Prelude.Some}
+use Rattle.std.{proofs.Common.{ap, false, refl, sym, true, ℕ, ◌<◌, ◌∙◌, ◌≡◌}, specs.Prelude.Some}
 use Rattle.percpu_rwsem.specs.{SyncWords.is_queued, declared.sync_word.GpState.GpState}
-use Rattle.freeze_laws.proofs.levels.TransitionLaws.{entered_not_idle, calls_idle}
-use Rattle.freeze_laws.specs.levels.Changes.{state_found_in, state_found}
-use Rattle.freeze_laws.specs.levels.Events.{SyncLevel, SyncLevelHolds, SyncEvent, FindsIdle, Enters, Looks, Passes, Exits, Claims, LooksClaimed, Calls, Thaws, Stays}
-use Rattle.freeze_laws.specs.levels.{Events.{Happens}, Laws.{OnlyCallbacksIdle}, Roles.{Ready}}
+use Rattle.freeze_laws.{proofs.levels.TransitionLaws.{calls_idle, entered_not_idle}, specs.levels.Changes.{state_found, state_found_in}}
+use Rattle.freeze_laws.specs.levels.Events.{Calls, Claims, Enters, Exits, FindsIdle, Happens, Looks, LooksClaimed, Passes, Stays, SyncEvent}
+use Rattle.freeze_laws.specs.levels.{Events.{SyncLevel, SyncLevelHolds, Thaws}, Laws.OnlyCallbacksIdle, Roles.Ready}
 use Rattle.freeze_laws.proofs.levels.EventLaws
 use Rattle.freeze_laws.proofs.levels.NumberLaws
 

@@ -1,14 +1,12 @@
 -- the laws of the transitions, of the sync word as a number
-use Rattle.std.proofs.Common.{◌≡◌, ℕ, true, ◌+◌, ◌<◌, refl, sym, ap, subst, arith}
-use Rattle.std.specs.Prelude.{Option, Some, None, nat_lt, if◌then◌else◌}
-use Rattle.finite_sums.specs.Sums.{update, total}
-use Rattle.percpu_rwsem.proofs.SyncWords.{unpack_pack}
-use Rattle.percpu_rwsem.specs.Graces.{started}
-use Rattle.percpu_rwsem.specs.SyncWords.{is_queued, entered_state, emptied_state, pack, unpack, on_enter, on_exit, on_claim, on_callback}
-use Rattle.percpu_rwsem.specs.declared.sync_word.{GpState.GpState, SyncWord.SyncWord}
-use Rattle.freeze_laws.proofs.levels.TransitionLaws.{enters, claims_defined}
-use Rattle.freeze_laws.specs.levels.Changes.{Leaves, put_by, transition_of, transition, state_found_in, state_found, role_entered, role_found}
-use Rattle.freeze_laws.specs.levels.{Numbers.{CanGoOn, TransitionsAreDefined, TransitionsAreAlwaysDefined}, Roles.{SyncRole, Out, Past, Entered, Claimed, Ready, entered, SyncHolds, SyncNumberHolds}}
+use Rattle.std.{proofs.Common.{ap, arith, refl, subst, sym, true, ℕ, ◌+◌, ◌<◌, ◌≡◌}, specs.Prelude.{None, Option, Some, if◌then◌else◌, nat_lt}}
+use Rattle.finite_sums.specs.Sums.{total, update}
+use Rattle.percpu_rwsem.{proofs.SyncWords.unpack_pack, specs.{Graces.started, SyncWords.{emptied_state, entered_state, is_queued, on_callback}}}
+use Rattle.percpu_rwsem.specs.{SyncWords.{on_claim, on_enter, on_exit, pack, unpack}, declared.sync_word.{GpState.GpState, SyncWord.SyncWord}}
+use Rattle.freeze_laws.{proofs.levels.TransitionLaws.{claims_defined, enters}, specs.levels.Changes.{Leaves, put_by, role_entered, role_found}}
+use Rattle.freeze_laws.specs.levels.{Changes.{state_found, state_found_in, transition, transition_of}, Numbers.{CanGoOn, TransitionsAreAlwaysDefined}}
+use Rattle.freeze_laws.specs.levels.{Numbers.TransitionsAreDefined, Roles.{Claimed, Entered, Out, Past, Ready, SyncHolds, SyncNumberHolds, SyncRole}}
+use Rattle.freeze_laws.specs.levels.Roles.{entered}
 use Rattle.freeze_laws.proofs.levels.EventLaws
 
 puts : (P : SyncWord → Type 0) (o : Option SyncWord) → Leaves o P → (put : ℕ) × (put_by o ≡ Some put)

@@ -1,23 +1,22 @@
 -- each step of an operation at a level is one of the level
-use Rattle.std.proofs.lemmas.Grind.{common_steps}
-use Rattle.std.proofs.{Common.{◌≡◌, ℕ, true, ◌+◌, ◌<◌, refl, sym, ap, ◌∙◌, arith}, lemmas.Bool.{eq-eqb}}
-use Rattle.std.specs.Prelude.{Option, Some, ◌==◌}
-use Rattle.finite_sums.{proofs.Totals.update_same, specs.Sums.{update, total}}
+use Rattle.std.{proofs.{Common.{ap, arith, refl, sym, true, ℕ, ◌+◌, ◌<◌, ◌∙◌, ◌≡◌}, lemmas.{Bool.eq-eqb, Grind.common_steps}}, specs.Prelude.Option}
+use Rattle.std.specs.Prelude.{Some, ◌==◌}
+use Rattle.finite_sums.{proofs.Totals.update_same, specs.Sums.{total, update}}
 use Rattle.cpu_words.specs.{Sums.sum_taking, Touches.left, declared.sums.Taken.Taken}
-use Rattle.percpu_rwsem.specs.{Callbacks.{claimed as claim_made, callback_looked, called_back}, Graces.looked}
-use Rattle.percpu_rwsem.specs.{SyncWords.{unpack, on_enter, on_exit, on_claim, on_callback}, Transitions.{transition_next, transition_after}}
-use Rattle.percpu_rwsem.specs.Writers.{entered_from, enter_step, callback_step, sections_awaited, passed_awaited, down_write_summed}
-use Rattle.percpu_rwsem.specs.Writers.{exit_made}
+use Rattle.percpu_rwsem.specs.{Callbacks.{callback_looked, called_back, claimed as claim_made}, Graces.looked, SyncWords.{on_callback, on_claim}}
+use Rattle.percpu_rwsem.specs.{SyncWords.{on_enter, on_exit, unpack}, Transitions.{transition_after, transition_next}, Writers.callback_step}
+use Rattle.percpu_rwsem.specs.Writers.{down_write_summed, enter_step, entered_from, exit_made, passed_awaited, sections_awaited}
 use Rattle.percpu_rwsem.specs.declared.{callbacks.{Callback.Callback, CallbackStep.CallbackStep}, grace.GraceNext.GraceNext}
-use Rattle.percpu_rwsem.specs.declared.{sync_word.{GpState.GpState, SyncWord.SyncWord}, transitions.{Transition.Transition, TransitionNext.TransitionNext}}
-use Rattle.percpu_rwsem.specs.declared.writers.{DownWrite.DownWrite, DownWriteStep.DownWriteStep, UpWrite.UpWrite, UpWriteStep.UpWriteStep}
-use Rattle.freeze_laws.proofs.levels.{EventLaws.swap_keeps, Exchanges.exchanges_make_transitions}
-use Rattle.freeze_laws.specs.levels.Changes.{transition, state_found, role_entered, role_found, waits, claims}
-use Rattle.freeze_laws.specs.levels.Events.{SyncLevel, SyncLevelHolds, SyncEvent, Enters, Looks, Passes, Swaps, Opens, Exits, Claims, LooksClaimed, Calls, Stays}
-use Rattle.freeze_laws.specs.levels.{Events.{Happens, SyncStep}, Exchanges.{KnowsWords, MakesTransition}}
-use Rattle.freeze_laws.specs.levels.Operations.{down_write_role, up_write_role, callback_role, KnowsDownWrite, KnowsUpWrite, KnowsCallback, by_next, HoldsOfNext}
-use Rattle.freeze_laws.specs.levels.Operations.{DownWriteIsThere, UpWriteIsThere, CallbackIsThere, DownWritesAreThere, UpWritesAreThere, CallbacksAreThere}
-use Rattle.freeze_laws.specs.levels.Roles.{SyncRole, Out, Past, Entered, Closed, Ready, entered}
+use Rattle.percpu_rwsem.specs.declared.{sync_word.{GpState.GpState, SyncWord.SyncWord}, transitions.Transition.Transition}
+use Rattle.percpu_rwsem.specs.declared.{transitions.TransitionNext.TransitionNext, writers.{DownWrite.DownWrite, DownWriteStep.DownWriteStep}}
+use Rattle.percpu_rwsem.specs.declared.writers.{UpWrite.UpWrite, UpWriteStep.UpWriteStep}
+use Rattle.freeze_laws.{proofs.levels.{EventLaws.swap_keeps, Exchanges.exchanges_make_transitions}, specs.levels.Changes.{claims, role_entered}}
+use Rattle.freeze_laws.specs.levels.{Changes.{role_found, state_found, transition, waits}, Events.{Calls, Claims, Enters, Exits, Happens, Looks}}
+use Rattle.freeze_laws.specs.levels.Events.{LooksClaimed, Opens, Passes, Stays, Swaps, SyncEvent, SyncLevel, SyncLevelHolds, SyncStep}
+use Rattle.freeze_laws.specs.levels.{Exchanges.{KnowsWords, MakesTransition}, Operations.{CallbackIsThere, CallbacksAreThere, DownWriteIsThere}}
+use Rattle.freeze_laws.specs.levels.Operations.{DownWritesAreThere, HoldsOfNext, KnowsCallback, KnowsDownWrite, KnowsUpWrite, UpWriteIsThere}
+use Rattle.freeze_laws.specs.levels.{Operations.{UpWritesAreThere, by_next, callback_role, down_write_role, up_write_role}, Roles.{Closed, Entered}}
+use Rattle.freeze_laws.specs.levels.Roles.{Out, Past, Ready, SyncRole, entered}
 
 role_from : (tasks : ℕ) (s : GpState) → down_write_role (entered_from tasks s) ≡ role_entered tasks s
 role_from tasks s = grind arith

@@ -1,18 +1,16 @@
 -- each step of a down-read is one of its level
-use Rattle.std.proofs.lemmas.Grind.{common_steps}
-use Rattle.std.proofs.Common.{◌≡◌, ℕ, true, false, ◌-◌, ◌<◌, refl, sym, ap, subst, ◌∙◌, arith}
-use Rattle.std.specs.Prelude.{Bool, Option, Some, ◌==◌, if◌then◌else◌}
-use Rattle.finite_sums.specs.Sums.{update}
-use Rattle.finite_sums.proofs.Totals.{update_same}
+use Rattle.std.proofs.{Common.{Bool, ap, arith, false, refl, subst, sym, true, ℕ, ◌-◌, ◌<◌, ◌∙◌, ◌≡◌}, lemmas.Grind.common_steps}
+use Rattle.std.specs.Prelude.{Option, Some, if◌then◌else◌, ◌==◌}
+use Rattle.finite_sums.{proofs.Totals.update_same, specs.Sums.update}
 use Rattle.access_model.specs.declared.replies.Next.TheVariants.{Go}
 use Rattle.cpu_words.specs.Touches.{wrap_add}
-use Rattle.percpu_rwsem.specs.declared.sync_word.{GpState.{GpState, TheVariants.{Idle, Enter, Passed, Exit, Replay}}, SyncWord.{SyncWord}}
-use Rattle.percpu_rwsem.specs.declared.readers.{DownRead.{DownRead}, DownReadStep.{DownReadStep}}
-use Rattle.percpu_rwsem.specs.declared.readers.DownReadStep.TheVariants.{EntersSection, LoadsSync, CountsUpFast, CountsUpSlow, LoadsBlock, CountsDown, LeavesAdmitted, LeavesBlocked}
-use Rattle.percpu_rwsem.specs.{SyncWords.{unpack}, Readers.{at_down_read, step_in, step_found, left_blocked}}
-use Rattle.freeze_laws.specs.levels.{Roles.{SyncRole, Out, Fast, fast}, Changes.{state_found_in, state_found}}
-use Rattle.freeze_laws.specs.levels.Events.{SyncLevel, SyncEvent, TurnsSection, FindsIdle, AddsFast, Stays, Happens, SyncStep}
-use Rattle.freeze_laws.specs.levels.Operations.{down_read_role, down_read_inside, by_next, DownReadIsThere, DownReadsAreThere}
+use Rattle.percpu_rwsem.specs.{Readers.{at_down_read, left_blocked, step_found, step_in}, SyncWords.unpack, declared.readers.DownRead.DownRead}
+use Rattle.percpu_rwsem.specs.declared.readers.DownReadStep.{DownReadStep, TheVariants.{CountsDown, CountsUpFast, CountsUpSlow, EntersSection}}
+use Rattle.percpu_rwsem.specs.declared.readers.DownReadStep.TheVariants.{LeavesAdmitted, LeavesBlocked, LoadsBlock, LoadsSync}
+use Rattle.percpu_rwsem.specs.declared.sync_word.{GpState.{GpState, TheVariants.{Enter, Exit, Idle, Passed, Replay}}, SyncWord.SyncWord}
+use Rattle.freeze_laws.specs.levels.{Changes.{state_found, state_found_in}, Events.{AddsFast, FindsIdle, Happens, Stays, SyncEvent, SyncLevel}}
+use Rattle.freeze_laws.specs.levels.{Events.{SyncStep, TurnsSection}, Operations.{DownReadIsThere, DownReadsAreThere, by_next, down_read_inside}}
+use Rattle.freeze_laws.specs.levels.{Operations.down_read_role, Roles.{Fast, Out, SyncRole, fast}}
 
 module _ (tasks t : ℕ) (lt : t < tasks) (l : SyncLevel) where
   -- a step of this task

@@ -1,12 +1,8 @@
 -- after a grace period nobody is on the fast path, until the state is GP_IDLE again
-use Rattle.std.proofs.lemmas.Grind.{common_steps}
-use Rattle.std.{proofs.Common.{◌≡◌, ℕ, zero, suc, ◌+◌, ◌-◌, ◌<◌, ◌≤◌, subst, arith}, specs.Prelude.Some}
-use Rattle.percpu_rwsem.specs.{declared.sync_word.GpState.GpState}
-use Rattle.freeze_laws.proofs.levels.{EventLaws.{past_finds}, Runs.{run_is_right}}
-use Rattle.freeze_laws.specs.levels.Changes.{state_found}
-use Rattle.freeze_laws.specs.levels.Events.{SyncLevel, SyncLevelHolds, SyncEvent}
-use Rattle.freeze_laws.specs.levels.Events.{Happens, SyncStep, SyncRun}
-use Rattle.freeze_laws.specs.levels.{Laws.{NoneFast, StaysSlow}}
+use Rattle.std.{proofs.{Common.{arith, subst, suc, zero, ℕ, ◌+◌, ◌-◌, ◌<◌, ◌≡◌, ◌≤◌}, lemmas.Grind.common_steps}, specs.Prelude.Some}
+use Rattle.percpu_rwsem.specs.declared.sync_word.GpState.{GpState}
+use Rattle.freeze_laws.{proofs.levels.{EventLaws.past_finds, Runs.run_is_right}, specs.levels.{Changes.state_found, Events.{Happens, SyncEvent}}}
+use Rattle.freeze_laws.specs.levels.{Events.{SyncLevel, SyncLevelHolds, SyncRun, SyncStep}, Laws.{NoneFast, StaysSlow}}
 
 -- only a load of GP_IDLE leads to the fast path
 pub event_slow : (tasks t : ℕ) (l l' : SyncLevel) (k : SyncEvent) → Happens tasks t l l' k → (state_found l.sync ≡ Some GpState.Idle → ⊥) →

@@ -1,9 +1,8 @@
 -- one level: what its predicate says, and how it is kept where one task's role changes
-use Rattle.std.{proofs.{Common.{◌≡◌, ℕ, true, ◌+◌, ◌<◌, ◌≤◌, refl, arith}}, specs.Prelude.{Bool}}
-use Rattle.finite_sums.{proofs.Totals.{update_off, each_updated, total_updated, total_le, total_add, total_at}, specs.Sums.{update, total}}
+use Rattle.std.proofs.Common.{Bool, arith, refl, true, ℕ, ◌+◌, ◌<◌, ◌≡◌, ◌≤◌}
+use Rattle.finite_sums.{proofs.Totals.{each_updated, total_add, total_at, total_le, total_updated, update_off}, specs.Sums.{total, update}}
 use Rattle.percpu_rwsem.{proofs.SyncWords.bit_small, specs.{SyncWords.{bit, is_lawful}, declared.sync_word.{GpState.GpState, SyncWord.SyncWord}}}
-use Rattle.freeze_laws.specs.levels.Roles.{SyncRole, fast, entering, entered, closed, claimed, enter_bit, idle_bit, RoleHolds}
-use Rattle.freeze_laws.specs.levels.Roles.{SyncHolds}
+use Rattle.freeze_laws.specs.levels.Roles.{RoleHolds, SyncHolds, SyncRole, claimed, closed, enter_bit, entered, entering, fast, idle_bit}
 
 -- what a lawful word with a count of at most 1 says in numbers
 pub record LawfulSays (s : GpState) (t : Bool) (c : ℕ) : Type 0 where

@@ -1,9 +1,8 @@
 -- what each transition leaves, of the words that it is met at
-use Rattle.std.proofs.{Common.{◌≡◌, ℕ, zero, suc, true, false, ◌+◌, ◌≤◌, refl, arith}}
-use Rattle.std.specs.Prelude.{Bool, Some, nat_lt, if◌then◌else◌}
-use Rattle.percpu_rwsem.specs.SyncWords.{bit, is_lawful, entered_state, left_state, is_queued, emptied_state, on_enter, on_exit, on_claim, on_callback}
-use Rattle.percpu_rwsem.specs.declared.sync_word.{GpState.GpState, SyncWord.SyncWord}
-use Rattle.freeze_laws.specs.levels.{Changes.role_entered, Roles.{fast, entering, entered, closed, claimed, enter_bit, idle_bit}}
+use Rattle.std.{proofs.Common.{Bool, arith, false, refl, suc, true, zero, ℕ, ◌+◌, ◌≡◌, ◌≤◌}, specs.Prelude.{Some, if◌then◌else◌, nat_lt}}
+use Rattle.percpu_rwsem.specs.SyncWords.{bit, emptied_state, entered_state, is_lawful, is_queued, left_state, on_callback, on_claim, on_enter}
+use Rattle.percpu_rwsem.specs.{SyncWords.on_exit, declared.sync_word.{GpState.GpState, SyncWord.SyncWord}}
+use Rattle.freeze_laws.specs.levels.{Changes.role_entered, Roles.{claimed, closed, enter_bit, entered, entering, fast, idle_bit}}
 
 -- an enter where nobody has entered: GP_ENTER and GP_PASSED are not found
 pub record Enters (tasks : ℕ) (s : GpState) (t : Bool) (c : ℕ) : Type 0 where

@@ -1,11 +1,8 @@
 -- Whatever is fully frozen has no dirty node, whatever was done since.
-use Rattle.std.proofs.{Common.{◌≡◌, ℕ, ◌<◌, ◌⊎◌, true, sym, ap, subst, ◌∙◌, arith}}
-use Rattle.std.specs.Prelude.{Option, List, [], ◌∷◌}
-use Rattle.access_model.proofs.Closed.{closed}
-use Rattle.access_model.specs.{Actions.{MayDo, after_action}, Histories.{Done, end_of, IsLegal, IsMerge}}
-use Rattle.access_model.specs.{Laws.NobodyHoldsClosed, States.{Limits, State, is_dirty, IsClean}}
-use Rattle.access_model.specs.declared.actions.{Action.Action, NodeInfo.NodeInfo}
-use Rattle.freeze_laws.{proofs.moments.Moments.{first_legal, cuts}, specs.moments.Moments.{WasFrozenWith, MomentTells}}
+use Rattle.std.{proofs.Common.{List, [], ap, arith, subst, sym, true, ℕ, ◌<◌, ◌∙◌, ◌∷◌, ◌≡◌, ◌⊎◌}, specs.Prelude.Option}
+use Rattle.access_model.{proofs.Closed.closed, specs.{Actions.{MayDo, after_action}, Histories.{Done, IsLegal, IsMerge, end_of}}}
+use Rattle.access_model.specs.{Laws.NobodyHoldsClosed, States.{IsClean, Limits, State, is_dirty}, declared.actions.{Action.Action, NodeInfo.NodeInfo}}
+use Rattle.freeze_laws.{proofs.moments.Moments.{cuts, first_legal}, specs.moments.Moments.{MomentTells, WasFrozenWith}}
 
 -- at stage 4 either all levels are passed, or none is and the superblock is read-only; and no node is dirty
 record IsSealed (l : Limits) (s : State) : Type 0 where

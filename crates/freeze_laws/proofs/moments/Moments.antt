@@ -1,8 +1,7 @@
 -- A moment of a history stays one, is the end of an allowed trace, and cuts each own list.
-use Rattle.std.proofs.Common.{arith}
-use Rattle.std.{proofs.Common.{◌≡◌, ℕ, List, [], ◌∷◌, ◌++◌, length, refl, ap}, specs.Prelude.{if◌then◌else◌, ◌==◌, Option, true, false}}
-use Rattle.access_model.specs.{Histories.{Done, IsLegal, own_part, IsMerge}, States.Limits, declared.actions.{Action.Action, NodeInfo.NodeInfo}}
-use Rattle.freeze_laws.specs.moments.Moments.{HaveDone, IsFrozenWith, WasFrozenWith, CutsList, CutsLists}
+use Rattle.std.{proofs.Common.{List, [], ap, arith, false, length, refl, true, ℕ, ◌++◌, ◌∷◌, ◌≡◌}, specs.Prelude.{Option, if◌then◌else◌, ◌==◌}}
+use Rattle.access_model.specs.{Histories.{Done, IsLegal, IsMerge, own_part}, States.Limits, declared.actions.{Action.Action, NodeInfo.NodeInfo}}
+use Rattle.freeze_laws.specs.moments.Moments.{CutsList, CutsLists, HaveDone, IsFrozenWith, WasFrozenWith}
 
 module _ (nodes : ℕ) (tree : ℕ → Option NodeInfo) (done : List (ℕ × ℕ)) where
   -- what is so now was so at some moment

@@ -1,7 +1,6 @@
 -- A freeze of a read-only superblock, a moment of it, and a thaw.
-use Rattle.std.proofs.Common.{◌≡◌, ℕ, List, [], ◌∷◌, refl, arith}
-use Rattle.access_model.specs.{Histories.{Done, end_of, IsLegal}, States.{Limits, opening_state}}
-use Rattle.access_model.specs.declared.actions.{Action.Action, Gate.Gate}
+use Rattle.std.proofs.Common.{List, [], arith, refl, ℕ, ◌∷◌, ◌≡◌}
+use Rattle.access_model.specs.{Histories.{Done, IsLegal, end_of}, States.{Limits, opening_state}, declared.actions.{Action.Action, Gate.Gate}}
 use Rattle.freeze_laws.{proofs.moments.Moments.{is_now, stays}, specs.moments.Moments.WasFrozenWith}
 
 abbrev two_tasks : Limits

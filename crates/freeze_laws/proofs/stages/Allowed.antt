@@ -1,14 +1,13 @@
 -- The action of each step is allowed in each state that shows the moment before it.
-use Rattle.std.proofs.{Common.{◌≡◌, ℕ, zero, suc, ◌-◌, ◌<◌, ◌≤◌, refl, ap, ◌∙◌, subst, inl, inr, arith}, lemmas.{Bool.Decides.eqb_tells, Option.none-some}}
-use Rattle.std.specs.Prelude.{◌==◌, Bool, true, false, Option, Some, None}
-use Rattle.access_model.specs.{Actions.MayDo, States.{Limits, State, IsClean}, declared.actions.Action.Action}
-use Rattle.freeze_laws.proofs.stages.{EachEvent.{fewer, own_clean}, Positions.{owner_idle, passed_idle, passed_own}}
-use Rattle.freeze_laws.proofs.stages.StageLaws.{freeze_bound, own_remount, relied_on, ways}
-use Rattle.freeze_laws.specs.stages.Events.{Stages, Holds, RepresentsStages, StageEvent, Happens, action_of, cleaned, Advances, Begins, CancelsRemount, ClearsBlock, ClearsMark}
-use Rattle.freeze_laws.specs.stages.Events.{ClearsMarkReadOnly, Completes, Fails, GivesUp, FreezesAtOnce, HoldsOne, LeavesOne, Passes, SetsRemount, SetsWritable, Syncs, Thaws}
-use Rattle.freeze_laws.specs.stages.Events.{ThawsAtOnce}
-use Rattle.freeze_laws.specs.stages.Roles.{StageRole, Owning, Remounting, Freezing, Reopening, CleanBelow, Before, Closing, HasPassed, KnowsStage, has_position, owns}
-use Rattle.freeze_laws.specs.stages.{Roles.{passed_by, remounts}, Shown.{AsksOthers}}
+use Rattle.std.proofs.Common.{Bool, ap, arith, false, inl, inr, refl, subst, suc, true, zero, ℕ, ◌-◌, ◌<◌, ◌∙◌, ◌≡◌, ◌≤◌}
+use Rattle.std.{proofs.lemmas.{Bool.Decides.eqb_tells, Option.none-some}, specs.Prelude.{None, Option, Some, ◌==◌}}
+use Rattle.access_model.specs.{Actions.MayDo, States.{IsClean, Limits, State}, declared.actions.Action.Action}
+use Rattle.freeze_laws.proofs.stages.{EachEvent.{fewer, own_clean}, Positions.{owner_idle, passed_idle, passed_own}, StageLaws.freeze_bound}
+use Rattle.freeze_laws.{proofs.stages.StageLaws.{own_remount, relied_on, ways}, specs.stages.Events.{Advances, Begins, CancelsRemount, ClearsBlock}}
+use Rattle.freeze_laws.specs.stages.Events.{ClearsMark, ClearsMarkReadOnly, Completes, Fails, FreezesAtOnce, GivesUp, Happens, Holds, HoldsOne}
+use Rattle.freeze_laws.specs.stages.Events.{LeavesOne, Passes, RepresentsStages, SetsRemount, SetsWritable, StageEvent, Stages, Syncs, Thaws}
+use Rattle.freeze_laws.specs.stages.{Events.{ThawsAtOnce, action_of, cleaned}, Roles.{Before, CleanBelow, Closing, Freezing, HasPassed, KnowsStage}}
+use Rattle.freeze_laws.specs.stages.{Roles.{Owning, Remounting, Reopening, StageRole, has_position, owns, passed_by, remounts}, Shown.AsksOthers}
 
 -- the action that there is, or else this one
 abbrev action_or : Action → Option Action → Action

@@ -1,9 +1,8 @@
 -- What a task's step leaves: a changed role beside changed words.
-use Rattle.std.{proofs.Common.{◌≡◌, ℕ, ◌+◌, ◌*◌, ◌<◌, ◌≤◌, ap, ◌∙◌, inl, inr, arith}, specs.Prelude.◌⊎◌}
-use Rattle.finite_sums.{proofs.Totals.{each_updated, total_updated, total_at, update_off}, specs.Sums.{update, total}}
-use Rattle.freeze_laws.proofs.stages.Positions.{other_owns, passed_is}
-use Rattle.freeze_laws.specs.stages.Roles.{StageRole, Aside, owns, freezes, remounts, closes, passed_by, under_way, is_full, KnowsStage, StagesHold}
-use Rattle.freeze_laws.specs.stages.Shown.{passed_shown}
+use Rattle.std.proofs.Common.{ap, arith, inl, inr, ℕ, ◌*◌, ◌+◌, ◌<◌, ◌∙◌, ◌≡◌, ◌≤◌, ◌⊎◌}
+use Rattle.finite_sums.{proofs.Totals.{each_updated, total_at, total_updated, update_off}, specs.Sums.{total, update}}
+use Rattle.freeze_laws.{proofs.stages.Positions.{other_owns, passed_is}, specs.stages.Roles.{Aside, KnowsStage, StageRole, StagesHold, closes}}
+use Rattle.freeze_laws.specs.stages.{Roles.{freezes, is_full, owns, passed_by, remounts, under_way}, Shown.passed_shown}
 
 -- who doesn't own `umount` relies at most on the stage that it stored
 free_knows : (stage sb stage' sb' : ℕ) (r : StageRole) → owns r ≡ 0 → (freezes r ≡ 0) ⊎ (stage' ≡ stage) → KnowsStage stage sb r →

@@ -1,15 +1,13 @@
 -- What the stage says at one moment, and who moves it.
-use Rattle.std.proofs.{Common.{◌≡◌, ℕ, ◌<◌, ◌≤◌, refl, sym, ◌∙◌, inl, inr, arith}, lemmas.Bool.Decides.eqb_tells}
-use Rattle.std.specs.Prelude.{Bool, Some}
-use Rattle.finite_sums.proofs.Totals.{total_none, total_zero, total_at, HasPlace, total_place}
-use Rattle.freeze_laws.proofs.stages.{Allowed.may, EachEvent.after_kind, Effects.effect, Facts.{up_to_off, freeze_role}}
-use Rattle.freeze_laws.proofs.stages.Positions.{block_at, block_idle, not_full, one_position, other_position, passed_idle, passed_own, who_freezes, way, nobody_at_four}
-use Rattle.freeze_laws.proofs.stages.{Positions.{passed_in_order}, StageLaws.{freeze_bound, relied_on}}
-use Rattle.freeze_laws.specs.stages.Events.{Stages, Holds, StageEvent, Happens}
-use Rattle.freeze_laws.specs.stages.Laws.{opening, EventsKeep, ActionsAreAllowed, ActionsHaveTheirEffect, FreezeIsUnderWay, FreezeKeepsOthersOut, FrozenAsAWhole}
-use Rattle.freeze_laws.specs.stages.Laws.{OnlyTheFreezeMovesTheStage, OpenElsewhere, PositionsAreAlone, PositionsTellTheLevels, LevelsPassInOrder, NobodyAtStageFour}
-use Rattle.freeze_laws.specs.stages.Roles.{StageRole, Aside, Owning, Freezing, KnowsStage, Place, closes, freezes, has_position, is_full}
-use Rattle.freeze_laws.specs.stages.Roles.{remounts}
+use Rattle.std.{proofs.{Common.{Bool, arith, inl, inr, refl, sym, ℕ, ◌<◌, ◌∙◌, ◌≡◌, ◌≤◌}, lemmas.Bool.Decides.eqb_tells}, specs.Prelude.Some}
+use Rattle.finite_sums.proofs.Totals.{HasPlace, total_at, total_none, total_place, total_zero}
+use Rattle.freeze_laws.proofs.stages.{Allowed.may, EachEvent.after_kind, Effects.effect, Facts.{freeze_role, up_to_off}, Positions.block_at}
+use Rattle.freeze_laws.proofs.stages.Positions.{block_idle, nobody_at_four, not_full, one_position, other_position, passed_idle, passed_in_order}
+use Rattle.freeze_laws.{proofs.stages.{Positions.{passed_own, way, who_freezes}, StageLaws.{freeze_bound, relied_on}}, specs.stages.Events.Happens}
+use Rattle.freeze_laws.specs.stages.{Events.{Holds, StageEvent, Stages}, Laws.{ActionsAreAllowed, ActionsHaveTheirEffect, EventsKeep}}
+use Rattle.freeze_laws.specs.stages.Laws.{FreezeIsUnderWay, FreezeKeepsOthersOut, FrozenAsAWhole, LevelsPassInOrder, NobodyAtStageFour}
+use Rattle.freeze_laws.specs.stages.Laws.{OnlyTheFreezeMovesTheStage, OpenElsewhere, PositionsAreAlone, PositionsTellTheLevels, opening}
+use Rattle.freeze_laws.specs.stages.Roles.{Aside, Freezing, KnowsStage, Owning, Place, StageRole, closes, freezes, has_position, is_full, remounts}
 
 pub opening_is_right : (tasks nodes : ℕ) → Holds tasks nodes opening
 opening_is_right tasks nodes = record {

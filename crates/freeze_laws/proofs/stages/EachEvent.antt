@@ -1,19 +1,22 @@
 -- Each step keeps what holds of the stage and of the marks.
-use Rattle.std.{proofs.Common.{◌≡◌, ℕ, suc, ◌-◌, ◌<◌, ◌≤◌, refl, sym, subst, arith}, specs.Prelude.{true, false, Some, None}}
-use Rattle.finite_sums.specs.Sums.{update}
-use Rattle.freeze_laws.proofs.stages.MarkLaws.{cleared_anew, washed, marked}
-use Rattle.freeze_laws.proofs.stages.StageLaws.{turns, relied_on, releases_open, begins, advances, completes, fails, freezes_at_once, thaws, thaws_at_once, sets_block}
-use Rattle.freeze_laws.proofs.stages.StageLaws.{turns_block, unblocks, gives_up, clears_block, sets_remount, clears_remount, sets_read_only, sets_writable}
-use Rattle.freeze_laws.specs.stages.Events.{Stages, Holds, StageEvent, Happens, LocksAgain, Releases, LetsGo, LoadsStage, LoadsSb, Advances, Syncs, Completes, Fails, Unblocks, GivesUp}
-use Rattle.freeze_laws.specs.stages.Events.{SetsBlock, Passes, ClearsBlock, SetsRemount, Begins, CancelsRemount, ClearsMark, ClearsMarkReadOnly, ClearsRemount}
-use Rattle.freeze_laws.specs.stages.Events.{FreezesAtOnce, HoldsOne, LeavesOne, Locks, MarksNode, Recalls, ReleasesOpen, SetsReadOnly, SetsWritable, Stays, Thaws}
-use Rattle.freeze_laws.specs.stages.Events.{ThawsAtOnce, WashesNode}
-use Rattle.freeze_laws.specs.stages.Roles.{StageRole, Aside, Owning, Remounting, Freezing, Reopening, CleanBelow, MarksHold, clean_by, clean_at, Closing, HasPassed}
-use Rattle.freeze_laws.specs.stages.Roles.{Before}
+use Rattle.std.{proofs.Common.{arith, false, refl, subst, suc, sym, true, ℕ, ◌+◌, ◌<◌, ◌≡◌, ◌≤◌}, specs.Prelude.{None, Some}}
+use Rattle.finite_sums.specs.Sums.{total, update}
+use Rattle.freeze_laws.proofs.stages.{MarkLaws.{cleared_anew, marked, washed}, StageLaws.{advances, begins, clears_block, clears_remount, completes}}
+use Rattle.freeze_laws.proofs.stages.StageLaws.{fails, freezes_at_once, gives_up, releases_open, relied_on, sets_block, sets_read_only, sets_remount}
+use Rattle.freeze_laws.{proofs.stages.StageLaws.{sets_writable, thaws, thaws_at_once, turns, turns_block, unblocks}, specs.stages.Events.Advances}
+use Rattle.freeze_laws.specs.stages.Events.{Begins, CancelsRemount, ClearsBlock, ClearsMark, ClearsMarkReadOnly, ClearsRemount, Completes, Fails}
+use Rattle.freeze_laws.specs.stages.Events.{FreezesAtOnce, GivesUp, Happens, Holds, HoldsOne, LeavesOne, LetsGo, LoadsSb, LoadsStage, Locks}
+use Rattle.freeze_laws.specs.stages.Events.{LocksAgain, MarksNode, Passes, Recalls, Releases, ReleasesOpen, SetsBlock, SetsReadOnly, SetsRemount}
+use Rattle.freeze_laws.specs.stages.Events.{SetsWritable, StageEvent, Stages, Stays, Syncs, Thaws, ThawsAtOnce, Unblocks, WashesNode, playing}
+use Rattle.freeze_laws.specs.stages.Roles.{Aside, Before, CleanBelow, Closing, Freezing, HasPassed, KnowsStage, MarksHold, Owning, Remounting}
+use Rattle.freeze_laws.specs.stages.Roles.{Reopening, StageRole, StagesHold, clean_at, clean_by, closed_by, freezes, owns, remounts}
 
 module _ (tasks nodes : ℕ) (x : Stages) (h : Holds tasks nodes x) (t : ℕ) (lt : t < tasks) where
-  none : (dirty : ℕ → ℕ) → CleanBelow 0 dirty
-  none dirty m l = absurd (omega (arith, l))
+  none : CleanBelow 0 x.dirty
+  none m l = absurd (omega (arith, l))
+
+  relies : (old : StageRole) → x.at t ≡ old → KnowsStage x.stage x.sb old
+  relies = relied_on tasks x h.stages t lt
 
   pub own_clean : (old : StageRole) → x.at t ≡ old → CleanBelow (clean_by old) x.dirty
   own_clean old e = subst (λ r. CleanBelow (clean_by r) x.dirty) e (h.marks.cleared t lt)
@@ -25,6 +28,18 @@ module _ (tasks nodes : ℕ) (x : Stages) (h : Holds tasks nodes x) (t : ℕ) (l
 
   quiet : (new : StageRole) → CleanBelow (clean_by new) x.dirty → MarksHold tasks nodes x.stage x.sb x.dirty (update x.at t new)
   quiet new c = same_marks x.stage x.sb new h.marks.frozen h.marks.read_only c
+
+  -- both parts of what holds, of the moment that a step leads to
+  held : {x' y : Stages} → x' ≡ y → StagesHold tasks y.stage y.sb y.remount y.block y.at → MarksHold tasks nodes y.stage y.sb y.dirty y.at →
+      Holds tasks nodes x'
+  held p stages marks = subst (Holds tasks nodes) (sym p) record { stages = stages; marks = marks }
+
+  -- a step that changes no more than the role
+  turned : {x' : Stages} (old new : StageRole) → x.at t ≡ old → x' ≡ playing x t new →
+      total tasks (λ u. owns (x.at u)) + owns new ≤ owns old + 1 → freezes new ≡ freezes old →
+      remounts new ≡ remounts old → closed_by new ≡ closed_by old → KnowsStage x.stage x.sb new → CleanBelow (clean_by new) x.dirty →
+      Holds tasks nodes x'
+  turned old new e p o f r c k clean = held p (turns tasks x h.stages t lt old new e o f r c k) (quiet new clean)
 
   -- a node is clean now, and the task has cleared those below the next one
   cleans : (node : ℕ) (old new : StageRole) → x.at t ≡ old → clean_by old ≡ node → clean_by new ≡ suc node →
@@ -44,148 +59,74 @@ module _ (tasks nodes : ℕ) (x : Stages) (h : Holds tasks nodes x) (t : ℕ) (l
   fewer k le c m l = c m (omega (arith, l, le))
 
   pub after_kind : (kind : StageEvent) (x' : Stages) → Happens tasks nodes t x x' kind → Holds tasks nodes x'
-  after_kind Locks x' (e, o, p) = subst (Holds tasks nodes) (sym p) record {
-    stages = turns tasks x h.stages t lt Aside (Owning None None) e (omega (arith, o)) refl refl refl (tt, tt);
-    marks = quiet (Owning None None) (none x.dirty);
-  }
-  after_kind (LocksAgain stage place) x' (e, o, p) = subst (Holds tasks nodes) (sym p) record {
-    stages = turns tasks x h.stages t lt (Freezing stage place false) (Freezing stage place true) e (omega (arith, o)) refl refl refl
-        (relied_on tasks x h.stages t lt (Freezing stage place false) e);
-    marks = quiet (Freezing stage place true) (own_clean (Freezing stage place false) e);
-  }
-  after_kind (Releases stage sb) x' (e, p) = subst (Holds tasks nodes) (sym p) record {
-    stages = turns tasks x h.stages t lt (Owning stage sb) Aside e (omega (arith, h.stages.alone)) refl refl refl tt;
-    marks = quiet Aside (none x.dirty);
-  }
-  after_kind (LetsGo stage place) x' (e, p) = subst (Holds tasks nodes) (sym p) record {
-    stages = turns tasks x h.stages t lt (Freezing stage place true) (Freezing stage place false) e (omega (arith, h.stages.alone)) refl
-        refl refl
-        (relied_on tasks x h.stages t lt (Freezing stage place true) e);
-    marks = quiet (Freezing stage place false) (own_clean (Freezing stage place true) e);
-  }
-  after_kind ReleasesOpen x' (e, p) = subst (Holds tasks nodes) (sym p) record {
-    stages = releases_open tasks x h.stages t lt e;
-    marks = quiet Aside (none x.dirty);
-  }
-  after_kind (LoadsStage stage sb) x' (e, p) = subst (Holds tasks nodes) (sym p) record {
-    stages = turns tasks x h.stages t lt (Owning stage sb) (Owning (Some x.stage) sb) e (omega (arith, h.stages.alone)) refl refl refl
-        (refl, (relied_on tasks x h.stages t lt (Owning stage sb) e).1);
-    marks = quiet (Owning (Some x.stage) sb) (none x.dirty);
-  }
-  after_kind (LoadsSb stage sb) x' (e, p) = subst (Holds tasks nodes) (sym p) record {
-    stages = turns tasks x h.stages t lt (Owning stage sb) (Owning stage (Some x.sb)) e (omega (arith, h.stages.alone)) refl refl refl
-        ((relied_on tasks x h.stages t lt (Owning stage sb) e).0, refl);
-    marks = quiet (Owning stage (Some x.sb)) (none x.dirty);
-  }
-  after_kind Begins x' (e, p) = subst (Holds tasks nodes) (sym p) record {
-    stages = begins tasks x h.stages t lt e;
-    marks = same_marks 1 x.sb (Freezing 1 Before true) (λ s. absurd (omega (arith, s))) h.marks.read_only (none x.dirty);
-  }
-  after_kind (Advances clean) x' (e, p) = subst (Holds tasks nodes) (sym p) record {
-    stages = advances tasks x h.stages t lt 1 clean (omega arith) (omega arith) e;
-    marks = same_marks 2 x.sb (Freezing 2 Before true) (λ s. absurd (omega (arith, s))) h.marks.read_only (none x.dirty);
-  }
-  after_kind (Syncs clean) x' (e, all, p) = subst (Holds tasks nodes) (sym p) record {
-    stages = advances tasks x h.stages t lt 2 clean (omega arith) (omega arith) e;
-    marks = same_marks 3 x.sb (Freezing 3 Before true) (λ s. fewer clean all (own_clean (Freezing 2 (HasPassed clean) true) e))
-        h.marks.read_only (none x.dirty);
-  }
-  after_kind (Completes clean) x' (e, p) = subst (Holds tasks nodes) (sym p) record {
-    stages = completes tasks x h.stages t lt clean e;
-    marks = same_marks 4 x.sb (Owning (Some 4) None)
-        (λ s. h.marks.frozen (omega (arith, relied_on tasks x h.stages t lt (Freezing 3 (HasPassed clean) true) e))) h.marks.read_only
-        (none x.dirty);
-  }
-  after_kind (Fails stage clean) x' (e, low, p) = subst (Holds tasks nodes) (sym p) record {
-    stages = fails tasks x h.stages t lt stage clean e;
-    marks = same_marks 0 x.sb (Reopening stage) (λ s. absurd (omega (arith, s))) h.marks.read_only (none x.dirty);
-  }
-  after_kind (Unblocks level owner) x' (e, p) = subst (Holds tasks nodes) (sym p) record {
-    stages = unblocks tasks x h.stages t lt level owner e;
-    marks = quiet (Freezing level Before owner) (before_clean level);
-  }
-  after_kind (GivesUp stage new) x' (e, a, k, c, p) = subst (Holds tasks nodes) (sym p) record {
-    stages = gives_up tasks x h.stages t lt stage new e a k;
-    marks = same_marks 0 x.sb new (λ s. absurd (omega (arith, s))) h.marks.read_only c;
-  }
-  after_kind FreezesAtOnce x' (e, p) = subst (Holds tasks nodes) (sym p) record {
-    stages = freezes_at_once tasks x h.stages t lt e;
-    marks = same_marks 4 x.sb (Owning (Some 4) None)
-        (λ s. h.marks.read_only (relied_on tasks x h.stages t lt (Owning (Some 0) (Some 1)) e).1) h.marks.read_only (none x.dirty);
-  }
-  after_kind (HoldsOne holder sb new) x' (e, a, k, c, p) = subst (Holds tasks nodes) (sym p) record {
-    stages = turns tasks x h.stages t lt (Owning (Some 4) sb) new e (omega (arith, h.stages.alone, a.owns_same)) a.freezes_same
-        a.remounts_same a.closed_same k;
-    marks = quiet new c;
-  }
-  after_kind (LeavesOne holder sb new) x' (e, a, k, c, p) = subst (Holds tasks nodes) (sym p) record {
-    stages = turns tasks x h.stages t lt (Owning (Some 4) sb) new e (omega (arith, h.stages.alone, a.owns_same)) a.freezes_same
-        a.remounts_same a.closed_same k;
-    marks = quiet new c;
-  }
-  after_kind Thaws x' (e, p) = subst (Holds tasks nodes) (sym p) record {
-    stages = thaws tasks x h.stages t lt e;
-    marks = same_marks 0 x.sb (Reopening 3) (λ s. absurd (omega (arith, s))) h.marks.read_only (none x.dirty);
-  }
-  after_kind ThawsAtOnce x' (e, p) = subst (Holds tasks nodes) (sym p) record {
-    stages = thaws_at_once tasks x h.stages t lt e;
-    marks = same_marks 0 x.sb (Owning None None) (λ s. absurd (omega (arith, s))) h.marks.read_only (none x.dirty);
-  }
-  after_kind (SetsBlock level owner) x' (e, p) = subst (Holds tasks nodes) (sym p) record {
-    stages = sets_block tasks x h.stages t lt level owner e;
-    marks = quiet (Freezing level Closing owner) (closing_clean level);
-  }
-  after_kind (Passes level clean owner) x' (e, c, p) = subst (Holds tasks nodes) (sym p) record {
-    stages = turns_block tasks x h.stages t lt level clean owner e;
-    marks = quiet (Freezing level (HasPassed clean) owner) (passed_clean level clean c);
-  }
-  after_kind (ClearsBlock below) x' (e, p) = subst (Holds tasks nodes) (sym p) record {
-    stages = clears_block tasks x h.stages t lt below e;
-    marks = quiet (Reopening below) (none x.dirty);
-  }
-  after_kind (SetsRemount clean) x' (e, c, p) = subst (Holds tasks nodes) (sym p) record {
-    stages = sets_remount tasks x h.stages t lt clean e;
-    marks = quiet (Remounting 0 clean) c;
-  }
-  after_kind (SetsReadOnly clean) x' (e, all, p) = subst (Holds tasks nodes) (sym p) record {
-    stages = sets_read_only tasks x h.stages t lt clean e;
-    marks = same_marks x.stage 1 (Remounting 1 clean) h.marks.frozen (λ r. fewer clean all (own_clean (Remounting 0 clean) e))
-        (own_clean (Remounting 0 clean) e);
-  }
-  after_kind (ClearsRemount clean) x' (e, p) = subst (Holds tasks nodes) (sym p) record {
-    stages = clears_remount tasks x h.stages t lt 1 clean e;
-    marks = quiet (Owning None None) (none x.dirty);
-  }
-  after_kind (CancelsRemount clean) x' (e, p) = subst (Holds tasks nodes) (sym p) record {
-    stages = clears_remount tasks x h.stages t lt 0 clean e;
-    marks = quiet (Owning None None) (none x.dirty);
-  }
-  after_kind (SetsWritable sb) x' (e, p) = subst (Holds tasks nodes) (sym p) record {
-    stages = sets_writable tasks x h.stages t lt sb e;
-    marks = same_marks x.stage 0 (Owning None None) h.marks.frozen (λ r. absurd (omega (arith, r))) (none x.dirty);
-  }
-  after_kind (ClearsMark node) x' (e, p) = subst (Holds tasks nodes) (sym p) record {
-    stages = turns tasks x h.stages t lt (Freezing 2 (HasPassed node) true) (Freezing 2 (HasPassed (suc node)) true) e
-        (omega (arith, h.stages.alone)) refl refl refl
-        (relied_on tasks x h.stages t lt (Freezing 2 (HasPassed node) true) e);
-    marks = cleans node (Freezing 2 (HasPassed node) true) (Freezing 2 (HasPassed (suc node)) true) e refl refl;
-  }
-  after_kind (ClearsMarkReadOnly sb node) x' (e, p) = subst (Holds tasks nodes) (sym p) record {
-    stages = turns tasks x h.stages t lt (Remounting sb node) (Remounting sb (suc node)) e (omega (arith, h.stages.alone)) refl refl refl
-        (relied_on tasks x h.stages t lt (Remounting sb node) e);
-    marks = cleans node (Remounting sb node) (Remounting sb (suc node)) e refl refl;
-  }
-  after_kind (MarksNode node mark) x' (low, r, s, p) = subst (Holds tasks nodes) (sym p) record {
-    stages = h.stages;
-    marks = marked tasks nodes x node mark h low r s;
-  }
-  after_kind (WashesNode node) x' p = subst (Holds tasks nodes) (sym p) record {
-    stages = h.stages;
-    marks = washed tasks nodes x.stage x.sb x.dirty x.at node h.marks;
-  }
-  after_kind (Recalls old new) x' (e, a, k, c, p) = subst (Holds tasks nodes) (sym p) record {
-    stages = turns tasks x h.stages t lt old new e (omega (arith, h.stages.alone, a.owns_same)) a.freezes_same a.remounts_same
-        a.closed_same k;
-    marks = quiet new c;
-  }
+  after_kind Locks x' (e, o, p) = turned Aside (Owning None None) e p (omega (arith, o)) refl refl refl (tt, tt) none
+  after_kind (LocksAgain stage place) x' (e, o, p) =
+      turned (Freezing stage place false) (Freezing stage place true) e p (omega (arith, o)) refl refl refl
+      (relies (Freezing stage place false) e) (own_clean (Freezing stage place false) e)
+  after_kind (Releases stage sb) x' (e, p) = turned (Owning stage sb) Aside e p (omega (arith, h.stages.alone)) refl refl refl tt none
+  after_kind (LetsGo stage place) x' (e, p) =
+      turned (Freezing stage place true) (Freezing stage place false) e p (omega (arith, h.stages.alone)) refl refl refl
+      (relies (Freezing stage place true) e) (own_clean (Freezing stage place true) e)
+  after_kind ReleasesOpen x' (e, p) = held p (releases_open tasks x h.stages t lt e) (quiet Aside none)
+  after_kind (LoadsStage stage sb) x' (e, p) =
+      turned (Owning stage sb) (Owning (Some x.stage) sb) e p (omega (arith, h.stages.alone)) refl refl refl
+      (refl, (relies (Owning stage sb) e).1) none
+  after_kind (LoadsSb stage sb) x' (e, p) =
+      turned (Owning stage sb) (Owning stage (Some x.sb)) e p (omega (arith, h.stages.alone)) refl refl refl
+      ((relies (Owning stage sb) e).0, refl) none
+  after_kind Begins x' (e, p) =
+      held p (begins tasks x h.stages t lt e) (same_marks 1 x.sb (Freezing 1 Before true) (λ s. absurd (omega (arith, s))) h.marks.read_only none)
+  after_kind (Advances clean) x' (e, p) =
+      held p (advances tasks x h.stages t lt 1 clean (omega arith) (omega arith) e)
+      (same_marks 2 x.sb (Freezing 2 Before true) (λ s. absurd (omega (arith, s))) h.marks.read_only none)
+  after_kind (Syncs clean) x' (e, all, p) =
+      held p (advances tasks x h.stages t lt 2 clean (omega arith) (omega arith) e)
+      (same_marks 3 x.sb (Freezing 3 Before true) (λ s. fewer clean all (own_clean (Freezing 2 (HasPassed clean) true) e)) h.marks.read_only none)
+  after_kind (Completes clean) x' (e, p) =
+      held p (completes tasks x h.stages t lt clean e)
+      (same_marks 4 x.sb (Owning (Some 4) None) (λ s. h.marks.frozen (omega (arith, relies (Freezing 3 (HasPassed clean) true) e)))
+      h.marks.read_only none)
+  after_kind (Fails stage clean) x' (e, low, p) =
+      held p (fails tasks x h.stages t lt stage clean e) (same_marks 0 x.sb (Reopening stage) (λ s. absurd (omega (arith, s))) h.marks.read_only none)
+  after_kind (Unblocks level owner) x' (e, p) =
+      held p (unblocks tasks x h.stages t lt level owner e) (quiet (Freezing level Before owner) (before_clean level))
+  after_kind (GivesUp stage new) x' (e, a, k, c, p) =
+      held p (gives_up tasks x h.stages t lt stage new e a k) (same_marks 0 x.sb new (λ s. absurd (omega (arith, s))) h.marks.read_only c)
+  after_kind FreezesAtOnce x' (e, p) =
+      held p (freezes_at_once tasks x h.stages t lt e)
+      (same_marks 4 x.sb (Owning (Some 4) None) (λ s. h.marks.read_only (relies (Owning (Some 0) (Some 1)) e).1) h.marks.read_only none)
+  after_kind (HoldsOne holder sb new) x' (e, a, k, c, p) =
+      turned (Owning (Some 4) sb) new e p (omega (arith, h.stages.alone, a.owns_same)) a.freezes_same a.remounts_same a.closed_same k c
+  after_kind (LeavesOne holder sb new) x' (e, a, k, c, p) =
+      turned (Owning (Some 4) sb) new e p (omega (arith, h.stages.alone, a.owns_same)) a.freezes_same a.remounts_same a.closed_same k c
+  after_kind Thaws x' (e, p) =
+      held p (thaws tasks x h.stages t lt e) (same_marks 0 x.sb (Reopening 3) (λ s. absurd (omega (arith, s))) h.marks.read_only none)
+  after_kind ThawsAtOnce x' (e, p) =
+      held p (thaws_at_once tasks x h.stages t lt e) (same_marks 0 x.sb (Owning None None) (λ s. absurd (omega (arith, s))) h.marks.read_only none)
+  after_kind (SetsBlock level owner) x' (e, p) =
+      held p (sets_block tasks x h.stages t lt level owner e) (quiet (Freezing level Closing owner) (closing_clean level))
+  after_kind (Passes level clean owner) x' (e, c, p) =
+      held p (turns_block tasks x h.stages t lt level clean owner e) (quiet (Freezing level (HasPassed clean) owner) (passed_clean level clean c))
+  after_kind (ClearsBlock below) x' (e, p) = held p (clears_block tasks x h.stages t lt below e) (quiet (Reopening below) none)
+  after_kind (SetsRemount clean) x' (e, c, p) = held p (sets_remount tasks x h.stages t lt clean e) (quiet (Remounting 0 clean) c)
+  after_kind (SetsReadOnly clean) x' (e, all, p) =
+      held p (sets_read_only tasks x h.stages t lt clean e)
+      (same_marks x.stage 1 (Remounting 1 clean) h.marks.frozen (λ r. fewer clean all (own_clean (Remounting 0 clean) e))
+      (own_clean (Remounting 0 clean) e))
+  after_kind (ClearsRemount clean) x' (e, p) = held p (clears_remount tasks x h.stages t lt 1 clean e) (quiet (Owning None None) none)
+  after_kind (CancelsRemount clean) x' (e, p) = held p (clears_remount tasks x h.stages t lt 0 clean e) (quiet (Owning None None) none)
+  after_kind (SetsWritable sb) x' (e, p) =
+      held p (sets_writable tasks x h.stages t lt sb e) (same_marks x.stage 0 (Owning None None) h.marks.frozen (λ r. absurd (omega (arith, r))) none)
+  after_kind (ClearsMark node) x' (e, p) =
+      held p (turns tasks x h.stages t lt (Freezing 2 (HasPassed node) true) (Freezing 2 (HasPassed (suc node)) true) e
+      (omega (arith, h.stages.alone)) refl refl refl (relies (Freezing 2 (HasPassed node) true) e))
+      (cleans node (Freezing 2 (HasPassed node) true) (Freezing 2 (HasPassed (suc node)) true) e refl refl)
+  after_kind (ClearsMarkReadOnly sb node) x' (e, p) =
+      held p (turns tasks x h.stages t lt (Remounting sb node) (Remounting sb (suc node)) e (omega (arith, h.stages.alone)) refl refl refl
+      (relies (Remounting sb node) e))
+      (cleans node (Remounting sb node) (Remounting sb (suc node)) e refl refl)
+  after_kind (MarksNode node mark) x' (low, r, s, p) = held p h.stages (marked tasks nodes x node mark h low r s)
+  after_kind (WashesNode node) x' p = held p h.stages (washed tasks nodes x.stage x.sb x.dirty x.at node h.marks)
+  after_kind (Recalls old new) x' (e, a, k, c, p) =
+      turned old new e p (omega (arith, h.stages.alone, a.owns_same)) a.freezes_same a.remounts_same a.closed_same k c
   after_kind Stays x' p = subst (Holds tasks nodes) (sym p) h

@@ -1,15 +1,17 @@
 -- The effect of each step's action shows the stage after it, and a step without one leaves the stage that was shown.
-use Rattle.std.{proofs.Common.{◌≡◌, ℕ, zero, suc, ◌+◌, ◌-◌, ◌*◌, ◌<◌, refl, sym, ap, ◌∙◌, subst, arith}, specs.Prelude.{◌==◌, ◌||◌, true, false, Some, None}}
+use Rattle.std.{proofs.Common.{ap, arith, false, refl, subst, suc, sym, true, zero, ℕ, ◌*◌, ◌+◌, ◌<◌, ◌∙◌, ◌≡◌}, specs.Prelude.{None, Some, ◌==◌}}
+use Rattle.std.specs.Prelude.{◌||◌}
 use Rattle.finite_sums.specs.Sums.{update}
 use Rattle.access_model.specs.{States.State, declared.actions.Action.Action}
-use Rattle.freeze_laws.proofs.stages.{Changes.passed_moves, EachEvent.after_kind, Facts.full_is, Positions.passed_own}
-use Rattle.freeze_laws.proofs.stages.StageLaws.{advances, begins, clears_block, clears_remount, completes, fails, freeze_bound, freezes_at_once, own_remount, relied_on}
-use Rattle.freeze_laws.proofs.stages.StageLaws.{sets_block, sets_read_only, sets_remount, sets_writable, thaws, thaws_at_once, turns_block, unblocks, gives_up, ways}
-use Rattle.freeze_laws.specs.stages.Events.{Stages, Holds, StageEvent, Happens, action_of, cleaned, playing, Advances, Begins, CancelsRemount, ClearsBlock, ClearsMark}
-use Rattle.freeze_laws.specs.stages.Events.{ClearsMarkReadOnly, ClearsRemount, Completes, Fails, Unblocks, GivesUp, FreezesAtOnce, HoldsOne, LeavesOne, LetsGo, LoadsSb, LoadsStage, Locks}
-use Rattle.freeze_laws.specs.stages.Events.{LocksAgain, MarksNode, Passes, Recalls, Releases, ReleasesOpen, SetsBlock, SetsReadOnly, SetsRemount, SetsWritable, Stays}
-use Rattle.freeze_laws.specs.stages.Events.{Syncs, Thaws, ThawsAtOnce, WashesNode}
-use Rattle.freeze_laws.specs.stages.Roles.{StageRole, Aside, Owning, Remounting, Freezing, Reopening, StagesHold, Before, Closing, HasPassed, KnowsStage, has_position}
+use Rattle.freeze_laws.proofs.stages.{Changes.passed_moves, EachEvent.after_kind, Facts.full_is, Positions.passed_own, StageLaws.{advances, begins}}
+use Rattle.freeze_laws.proofs.stages.StageLaws.{clears_block, clears_remount, completes, fails, freeze_bound, freezes_at_once, gives_up, own_remount}
+use Rattle.freeze_laws.proofs.stages.StageLaws.{relied_on, sets_block, sets_read_only, sets_remount, sets_writable, thaws, thaws_at_once, turns_block}
+use Rattle.freeze_laws.{proofs.stages.StageLaws.{unblocks, ways}, specs.stages.Events.{Advances, Begins, CancelsRemount, ClearsBlock, ClearsMark}}
+use Rattle.freeze_laws.specs.stages.Events.{ClearsMarkReadOnly, ClearsRemount, Completes, Fails, FreezesAtOnce, GivesUp, Happens, Holds, HoldsOne}
+use Rattle.freeze_laws.specs.stages.Events.{LeavesOne, LetsGo, LoadsSb, LoadsStage, Locks, LocksAgain, MarksNode, Passes, Recalls, Releases}
+use Rattle.freeze_laws.specs.stages.Events.{ReleasesOpen, SetsBlock, SetsReadOnly, SetsRemount, SetsWritable, StageEvent, Stages, Stays, Syncs, Thaws}
+use Rattle.freeze_laws.specs.stages.{Events.{ThawsAtOnce, Unblocks, WashesNode, action_of, cleaned, playing}, Roles.{Aside, Before, Closing}}
+use Rattle.freeze_laws.specs.stages.Roles.{Freezing, HasPassed, KnowsStage, Owning, Remounting, Reopening, StageRole, StagesHold, has_position}
 use Rattle.freeze_laws.specs.stages.{Roles.{is_full, passed_by}, Shown.{ShowsStages, state_after}}
 
 -- a state shows a moment
@@ -64,9 +66,8 @@ module _ (tasks nodes : ℕ) (x : Stages) (h : Holds tasks nodes x) (t : ℕ) (l
   kept kind x' p = (after_kind tasks nodes x h t lt kind x' p).stages
 
   -- a moment with the same words and roles, but for marks, is shown the same
-  shown_at : (kind : StageEvent) (x' y : Stages) → x' ≡ y → ShowsAt tasks y (state_after s t (action_of kind x)) →
-      ShowsAt tasks x' (state_after s t (action_of kind x))
-  shown_at kind x' y p w = subst (λ z. ShowsAt tasks z (state_after s t (action_of kind x))) (sym p) w
+  shown_at : {x' y : Stages} {s' : State} → x' ≡ y → ShowsAt tasks y s' → ShowsAt tasks x' s'
+  shown_at {s' = s'} p w = subst (λ z. ShowsAt tasks z s') (sym p) w
 
   -- what the task relies on
   relies : (old : StageRole) → x.at t ≡ old → KnowsStage x.stage x.sb old
@@ -95,38 +96,35 @@ module _ (tasks nodes : ℕ) (x : Stages) (h : Holds tasks nodes x) (t : ℕ) (l
   effect (LoadsSb stage sb) x' (e, p) = turned (LoadsSb stage sb) x' (Owning stage sb) (Owning stage (Some x.sb)) e p (e, refl) refl
   effect Begins x' (e, p) =
       let k : (x.stage ≡ 0) × (x.sb ≡ 0) = relies (Owning (Some 0) (Some 0)) e in
-      shown_at Begins x' _ p (stage_shown 1 (Owning (Some 0) (Some 0)) (Freezing 1 Before true) e (begins tasks x h.stages t lt e)
+      shown_at p (stage_shown 1 (Owning (Some 0) (Some 0)) (Freezing 1 Before true) e (begins tasks x h.stages t lt e)
       (omega (arith, k, ways tasks x h.stages t lt)))
   effect (Advances clean) x' (e, p) =
       let k : x.stage ≡ 1 = relies (Freezing 1 (HasPassed clean) true) e in
-      shown_at (Advances clean) x' _ p (stage_shown 2 (Freezing 1 (HasPassed clean) true) (Freezing 2 Before true) e
+      shown_at p (stage_shown 2 (Freezing 1 (HasPassed clean) true) (Freezing 2 Before true) e
       (advances tasks x h.stages t lt 1 clean (omega arith) (omega arith) e) (omega (arith, k, ways tasks x h.stages t lt)))
   effect (Syncs clean) x' (e, all, p) =
       let k : x.stage ≡ 2 = relies (Freezing 2 (HasPassed clean) true) e in
-      shown_at (Syncs clean) x' _ p (stage_shown 3 (Freezing 2 (HasPassed clean) true) (Freezing 3 Before true) e
+      shown_at p (stage_shown 3 (Freezing 2 (HasPassed clean) true) (Freezing 3 Before true) e
       (advances tasks x h.stages t lt 2 clean (omega arith) (omega arith) e) (omega (arith, k, ways tasks x h.stages t lt)))
   effect (Completes clean) x' (e, p) =
       let k : x.stage ≡ 3 = relies (Freezing 3 (HasPassed clean) true) e in
       let b : _ = freeze_bound tasks x h.stages t lt (Freezing 3 (HasPassed clean) true) e refl in
-      shown_at (Completes clean) x' _ p (stage_shown 4 (Freezing 3 (HasPassed clean) true) (Owning (Some 4) None) e
-      (completes tasks x h.stages t lt clean e)
+      shown_at p (stage_shown 4 (Freezing 3 (HasPassed clean) true) (Owning (Some 4) None) e (completes tasks x h.stages t lt clean e)
       (omega (arith, k, b, ways tasks x h.stages t lt, full_is 4 x.sb (omega arith) h.stages.superblock)))
   effect (Fails stage clean) x' (e, low, p) =
       let b : _ = freeze_bound tasks x h.stages t lt (Freezing stage (HasPassed clean) true) e refl in
-      shown_at (Fails stage clean) x' _ p (stage_shown 0 (Freezing stage (HasPassed clean) true) (Reopening stage) e
-      (fails tasks x h.stages t lt stage clean e) (omega (arith, b, ways tasks x h.stages t lt)))
+      shown_at p (stage_shown 0 (Freezing stage (HasPassed clean) true) (Reopening stage) e (fails tasks x h.stages t lt stage clean e)
+      (omega (arith, b, ways tasks x h.stages t lt)))
   effect (Unblocks level owner) x' (e, p) =
-      shown_at (Unblocks level owner) x' _ p (quiet_shown (update x.block level 0) (Freezing level Closing owner)
-      (Freezing level Before owner) e
+      shown_at p (quiet_shown (update x.block level 0) (Freezing level Closing owner) (Freezing level Before owner) e
       (unblocks tasks x h.stages t lt level owner e) refl)
   effect (GivesUp stage new) x' (e, a, k, c, p) =
       let b : _ = freeze_bound tasks x h.stages t lt (Freezing stage Before true) e refl in
-      shown_at (GivesUp stage new) x' _ p (stage_shown 0 (Freezing stage Before true) new e
-      (gives_up tasks x h.stages t lt stage new e a k) (omega (arith, b, a.passed_same, ways tasks x h.stages t lt)))
+      shown_at p (stage_shown 0 (Freezing stage Before true) new e (gives_up tasks x h.stages t lt stage new e a k)
+      (omega (arith, b, a.passed_same, ways tasks x h.stages t lt)))
   effect FreezesAtOnce x' (e, p) =
       let k : (x.stage ≡ 0) × (x.sb ≡ 1) = relies (Owning (Some 0) (Some 1)) e in
-      shown_at FreezesAtOnce x' _ p (stage_shown 4 (Owning (Some 0) (Some 1)) (Owning (Some 4) None) e
-      (freezes_at_once tasks x h.stages t lt e)
+      shown_at p (stage_shown 4 (Owning (Some 0) (Some 1)) (Owning (Some 4) None) e (freezes_at_once tasks x h.stages t lt e)
       (omega (arith, k, ways tasks x h.stages t lt, full_is 4 x.sb (omega arith) h.stages.superblock)))
   effect (HoldsOne holder sb new) x' (e, a, k, c, p) =
       let q : ShowsAt tasks x' s = turned (HoldsOne holder sb new) x' (Owning (Some 4) sb) new e p (e, a, k, c, refl) a.passed_same in
@@ -136,56 +134,52 @@ module _ (tasks nodes : ℕ) (x : Stages) (h : Holds tasks nodes x) (t : ℕ) (l
       record { stage_same = q.stage_same; passed_same = q.passed_same; sb_same = q.sb_same }
   effect Thaws x' (e, p) =
       let k : (x.stage ≡ 4) × (x.sb ≡ 0) = relies (Owning (Some 4) (Some 0)) e in
-      shown_at Thaws x' _ p (stage_shown 0 (Owning (Some 4) (Some 0)) (Reopening 3) e (thaws tasks x h.stages t lt e)
+      shown_at p (stage_shown 0 (Owning (Some 4) (Some 0)) (Reopening 3) e (thaws tasks x h.stages t lt e)
       (omega (arith, k, ways tasks x h.stages t lt)))
   effect ThawsAtOnce x' (e, p) =
       let k : (x.stage ≡ 4) × (x.sb ≡ 1) = relies (Owning (Some 4) (Some 1)) e in
-      shown_at ThawsAtOnce x' _ p (stage_shown 0 (Owning (Some 4) (Some 1)) (Owning None None) e
-      (thaws_at_once tasks x h.stages t lt e) (omega (arith, k, ways tasks x h.stages t lt)))
+      shown_at p (stage_shown 0 (Owning (Some 4) (Some 1)) (Owning None None) e (thaws_at_once tasks x h.stages t lt e)
+      (omega (arith, k, ways tasks x h.stages t lt)))
   effect (SetsBlock level owner) x' (e, p) =
-      shown_at (SetsBlock level owner) x' _ p (quiet_shown (update x.block level 1) (Freezing level Before owner)
-      (Freezing level Closing owner) e
+      shown_at p (quiet_shown (update x.block level 1) (Freezing level Before owner) (Freezing level Closing owner) e
       (sets_block tasks x h.stages t lt level owner e) refl)
   effect (Passes level clean owner) x' (e, c, p) =
       let k : x.stage ≡ level = relies (Freezing level Closing owner) e in
-      shown_at (Passes level clean owner) x' _ p (shown_after (Freezing level Closing owner) (Freezing level (HasPassed clean) owner)
-      x.stage x.sb x.remount x.block (state_after s t (Some (Action.Pass level))) e (turns_block tasks x h.stages t lt level clean owner e)
-      shows.stage_same (omega (arith, own_levels (Freezing level Closing owner) e refl)) shows.sb_same)
+      shown_at p (shown_after (Freezing level Closing owner) (Freezing level (HasPassed clean) owner) x.stage x.sb x.remount x.block
+      (state_after s t (Some (Action.Pass level))) e (turns_block tasks x h.stages t lt level clean owner e) shows.stage_same
+      (omega (arith, own_levels (Freezing level Closing owner) e refl)) shows.sb_same)
   effect (ClearsBlock below) x' (e, p) =
-      shown_at (ClearsBlock below) x' _ p (shown_after (Reopening (suc below)) (Reopening below)
-      x.stage x.sb x.remount (update x.block (suc below) 0) (state_after s t (Some (Action.Reopen (suc below)))) e
-      (clears_block tasks x h.stages t lt below e)
-      shows.stage_same (omega (arith, own_levels (Reopening (suc below)) e refl)) shows.sb_same)
+      shown_at p (shown_after (Reopening (suc below)) (Reopening below) x.stage x.sb x.remount (update x.block (suc below) 0)
+      (state_after s t (Some (Action.Reopen (suc below)))) e (clears_block tasks x h.stages t lt below e) shows.stage_same
+      (omega (arith, own_levels (Reopening (suc below)) e refl)) shows.sb_same)
   effect (SetsRemount clean) x' (e, c, p) =
-      shown_at (SetsRemount clean) x' _ p (flag_shown x.sb 1 (Owning (Some 0) (Some 0)) (Remounting 0 clean) (state_after s t (Some Action.SbRo)) e
+      shown_at p (flag_shown x.sb 1 (Owning (Some 0) (Some 0)) (Remounting 0 clean) (state_after s t (Some Action.SbRo)) e
       (relies (Owning (Some 0) (Some 0)) e).0 (sets_remount tasks x h.stages t lt clean e) refl refl refl refl)
   effect (SetsReadOnly clean) x' (e, all, p) =
       let r : x.remount ≡ 1 = own_remount tasks x h.stages t lt (Remounting 0 clean) e refl in
-      shown_at (SetsReadOnly clean) x' _ p (flag_shown 1 x.remount (Remounting 0 clean) (Remounting 1 clean) s e
-      (relies (Remounting 0 clean) e).0 (sets_read_only tasks x h.stages t lt clean e) refl refl refl (shows.sb_same ∙ (rw r refl)))
+      shown_at p (flag_shown 1 x.remount (Remounting 0 clean) (Remounting 1 clean) s e (relies (Remounting 0 clean) e).0
+      (sets_read_only tasks x h.stages t lt clean e) refl refl refl (shows.sb_same ∙ (rw r refl)))
   effect (ClearsRemount clean) x' (e, p) =
       let k : (x.stage ≡ 0) × (x.sb ≡ 1) = relies (Remounting 1 clean) e in
       let r : x.remount ≡ 1 = own_remount tasks x h.stages t lt (Remounting 1 clean) e refl in
-      shown_at (ClearsRemount clean) x' _ p (flag_shown x.sb 0 (Remounting 1 clean) (Owning None None) s e
-      k.0 (clears_remount tasks x h.stages t lt 1 clean e) refl refl refl (shows.sb_same ∙ (rw (r, k.1) refl)))
+      shown_at p (flag_shown x.sb 0 (Remounting 1 clean) (Owning None None) s e k.0 (clears_remount tasks x h.stages t lt 1 clean e) refl refl refl
+      (shows.sb_same ∙ (rw (r, k.1) refl)))
   effect (CancelsRemount clean) x' (e, p) =
       let k : (x.stage ≡ 0) × (x.sb ≡ 0) = relies (Remounting 0 clean) e in
-      shown_at (CancelsRemount clean) x' _ p (flag_shown x.sb 0 (Remounting 0 clean) (Owning None None) (state_after s t (Some Action.SbRw)) e
-      k.0 (clears_remount tasks x h.stages t lt 0 clean e) refl refl refl (rw k.1 refl))
+      shown_at p (flag_shown x.sb 0 (Remounting 0 clean) (Owning None None) (state_after s t (Some Action.SbRw)) e k.0
+      (clears_remount tasks x h.stages t lt 0 clean e) refl refl refl (rw k.1 refl))
   effect (SetsWritable sb) x' (e, p) =
       let r : x.remount ≡ 0 = own_remount tasks x h.stages t lt (Owning (Some 0) sb) e refl in
-      shown_at (SetsWritable sb) x' _ p (flag_shown 0 x.remount (Owning (Some 0) sb) (Owning None None) (state_after s t (Some Action.SbRw)) e
+      shown_at p (flag_shown 0 x.remount (Owning (Some 0) sb) (Owning None None) (state_after s t (Some Action.SbRw)) e
       (relies (Owning (Some 0) sb) e).0 (sets_writable tasks x h.stages t lt sb e) refl refl refl (rw r refl))
   effect (ClearsMark node) x' (e, p) =
-      shown_at (ClearsMark node) x' _ p (clearing_shows tasks
-      (playing (record x { dirty = update x.dirty node 0 }) t (Freezing 2 (HasPassed (suc node)) true)) s t node (x.dirty node)
-      (quiet_shown x.block (Freezing 2 (HasPassed node) true) (Freezing 2 (HasPassed (suc node)) true) e
-      (kept (ClearsMark node) _ (e, refl)) refl))
+      shown_at p (clearing_shows tasks (playing (record x { dirty = update x.dirty node 0 }) t (Freezing 2 (HasPassed (suc node)) true)) s t node
+      (x.dirty node)
+      (quiet_shown x.block (Freezing 2 (HasPassed node) true) (Freezing 2 (HasPassed (suc node)) true) e (kept (ClearsMark node) _ (e, refl)) refl))
   effect (ClearsMarkReadOnly sb node) x' (e, p) =
-      shown_at (ClearsMarkReadOnly sb node) x' _ p
-      (clearing_shows tasks (playing (record x { dirty = update x.dirty node 0 }) t (Remounting sb (suc node))) s t node (x.dirty node)
+      shown_at p (clearing_shows tasks (playing (record x { dirty = update x.dirty node 0 }) t (Remounting sb (suc node))) s t node (x.dirty node)
       (quiet_shown x.block (Remounting sb node) (Remounting sb (suc node)) e (kept (ClearsMarkReadOnly sb node) _ (e, refl)) refl))
-  effect (MarksNode node mark) x' (low, r, b, p) = shown_at (MarksNode node mark) x' (record x { dirty = update x.dirty node mark }) p shows
-  effect (WashesNode node) x' p = shown_at (WashesNode node) x' (record x { dirty = update x.dirty node 0 }) p shows
+  effect (MarksNode node mark) x' (low, r, b, p) = shown_at p shows
+  effect (WashesNode node) x' p = shown_at p shows
   effect (Recalls old new) x' (e, a, k, c, p) = turned (Recalls old new) x' old new e p (e, a, k, c, refl) a.passed_same
-  effect Stays x' p = shown_at Stays x' x p shows
+  effect Stays x' p = shown_at p shows

@@ -1,10 +1,9 @@
 -- What holds of every role, of the numbers that say how far a freeze has come, and of sums in which at most one place counts.
-use Rattle.std.proofs.Common.{◌≡◌, ℕ, zero, suc, ◌+◌, ◌*◌, ◌-◌, ◌/◌, ◌%◌, ◌<◌, ◌≤◌, Bool, refl, sym, arith}
-use Rattle.std.proofs.lemmas.Bool.{le-leb, lt-leb, Decides.{nat_tests}}
-use Rattle.std.specs.Prelude.{◌==◌, ◌&&◌, if◌then◌else◌}
-use Rattle.finite_sums.{proofs.Totals.{update_off, each_updated, total_same, total_updated, total_zero, total_at}, specs.Sums.{update, total}}
-use Rattle.freeze_laws.specs.stages.Roles.{Place, StageRole, Freezing, owns, freezes, reopens, has_position}
-use Rattle.freeze_laws.specs.stages.Roles.{remounts, passed_by, up_to, closes, passes, sums, under_way, is_full, KnowsStage}
+use Rattle.std.proofs.{Common.{Bool, arith, refl, suc, sym, zero, ℕ, ◌%◌, ◌*◌, ◌+◌, ◌-◌, ◌/◌, ◌<◌, ◌≡◌, ◌≤◌}, lemmas.Bool.{Decides.nat_tests, le-leb}}
+use Rattle.std.{proofs.lemmas.Bool.lt-leb, specs.Prelude.{if◌then◌else◌, ◌&&◌, ◌==◌}}
+use Rattle.finite_sums.{proofs.Totals.{each_updated, total_at, total_same, total_updated, total_zero, update_off}, specs.Sums.{total, update}}
+use Rattle.freeze_laws.specs.stages.Roles.{Freezing, KnowsStage, Place, StageRole, closes, freezes, has_position, is_full, owns, passed_by, passes}
+use Rattle.freeze_laws.specs.stages.Roles.{remounts, reopens, sums, under_way, up_to}
 
 pub owns_le : (r : StageRole) → owns r ≤ 1
 owns_le r = grind arith

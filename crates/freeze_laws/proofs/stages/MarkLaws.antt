@@ -1,10 +1,9 @@
 -- Each step keeps what holds of the marks of nodes.
-use Rattle.std.proofs.{Common.{◌≡◌, ℕ, ◌+◌, ◌<◌, ◌≤◌, inl, inr, arith, ◌%◌, ◌/◌, ◌-◌}, lemmas.Bool.Decides.eqb_tells}
-use Rattle.finite_sums.{proofs.Totals.{total_at}, specs.Sums.update}
-use Rattle.freeze_laws.proofs.stages.{Facts.owner_only, Positions.{way, who_freezes, passed_own, passed_is}}
-use Rattle.freeze_laws.specs.stages.Events.{Stages, Holds}
-use Rattle.freeze_laws.specs.stages.Roles.{StageRole, StagesHold, CleanBelow, MarksHold, clean_by, KnowsStage, under_way, remounts, freezes}
-use Rattle.freeze_laws.specs.stages.{Roles.{passed_by, has_position, is_full}, Shown.{passed_shown}}
+use Rattle.std.proofs.{Common.{arith, inl, inr, ℕ, ◌%◌, ◌+◌, ◌-◌, ◌/◌, ◌<◌, ◌≡◌, ◌≤◌}, lemmas.Bool.Decides.eqb_tells}
+use Rattle.finite_sums.{proofs.Totals.total_at, specs.Sums.update}
+use Rattle.freeze_laws.{proofs.stages.{Facts.owner_only, Positions.{passed_is, passed_own, way, who_freezes}}, specs.stages.Events.{Holds, Stages}}
+use Rattle.freeze_laws.specs.stages.Roles.{CleanBelow, KnowsStage, MarksHold, StageRole, StagesHold, clean_by, freezes, has_position, is_full}
+use Rattle.freeze_laws.specs.stages.{Roles.{passed_by, remounts, under_way}, Shown.passed_shown}
 
 cleared_by : (r : StageRole) → 0 < clean_by r → remounts r ≡ 0 → (2 ≤ passed_by r) × (has_position r ≡ 1)
 cleared_by r h n = grind arith

@@ -1,10 +1,10 @@
 -- What follows at one moment: one owner, one position, and what the blocks and the levels passed are then.
-use Rattle.std.proofs.{Common.{◌≡◌, ℕ, ◌+◌, ◌*◌, ◌-◌, ◌<◌, ◌≤◌, sym, ◌∙◌, subst, inl, inr, arith, ◌%◌, ◌/◌, ap}, lemmas.Bool.Decides.eqb_tells}
-use Rattle.finite_sums.{proofs.Totals.{total_same, total_add, total_le, total_at, total_none, HasPlace, total_place}, specs.Sums.total}
-use Rattle.freeze_laws.proofs.stages.Facts.{owner_only, parts, closes_le, reopens_at, passed_three, three, way_is, full_is, passed_test, other_zero, total_alone}
-use Rattle.freeze_laws.proofs.stages.Facts.{nonzero, stage_bound, no_levels, full_levels, some_position}
-use Rattle.freeze_laws.specs.stages.Roles.{StageRole, owns, freezes, reopens, has_position, remounts, closes, passes, sums, passed_by, under_way, is_full, StagesHold}
-use Rattle.freeze_laws.specs.stages.{Roles.{up_to}, Shown.{is_passed, passed_shown}}
+use Rattle.std.proofs.{Common.{ap, arith, inl, inr, subst, sym, ℕ, ◌%◌, ◌*◌, ◌+◌, ◌-◌, ◌/◌, ◌<◌, ◌∙◌, ◌≡◌, ◌≤◌}, lemmas.Bool.Decides.eqb_tells}
+use Rattle.finite_sums.{proofs.Totals.{HasPlace, total_add, total_at, total_le, total_none, total_place, total_same}, specs.Sums.total}
+use Rattle.freeze_laws.proofs.stages.Facts.{closes_le, full_is, full_levels, no_levels, nonzero, other_zero, owner_only, parts, passed_test}
+use Rattle.freeze_laws.proofs.stages.Facts.{passed_three, reopens_at, some_position, stage_bound, three, total_alone, way_is}
+use Rattle.freeze_laws.specs.stages.Roles.{StageRole, StagesHold, closes, freezes, has_position, is_full, owns, passed_by, passes, remounts, reopens}
+use Rattle.freeze_laws.specs.stages.{Roles.{sums, under_way, up_to}, Shown.{is_passed, passed_shown}}
 
 module _ (tasks stage sb remount : ℕ) (block : ℕ → ℕ) (at : ℕ → StageRole) (good : StagesHold tasks stage sb remount block at) where
   -- the stage as arithmetic: whether it is 1 to 3, and whether the file system is frozen as a whole

@@ -1,12 +1,11 @@
 -- Each step that changes a role keeps what holds of the stage.
-use Rattle.std.proofs.Common.{◌≡◌, ℕ, suc, ◌+◌, ◌<◌, ◌≤◌, refl, sym, ap, ◌∙◌, subst, inl, inr, arith, ◌%◌, ◌/◌, ◌-◌}
-use Rattle.std.specs.Prelude.{Bool, true, Option, Some, None}
-use Rattle.finite_sums.{proofs.Totals.{total_at, each_updated}, specs.Sums.{update, total}}
-use Rattle.freeze_laws.proofs.stages.{Changes.{any_event, others_know}, Facts.{full_is, up_to_le, way_is, up_to_off, up_to_next, up_to_below}}
-use Rattle.freeze_laws.proofs.stages.Positions.{block_at, way, remount_own}
-use Rattle.freeze_laws.specs.stages.Events.{Stages, SameDuties, playing}
-use Rattle.freeze_laws.specs.stages.Roles.{StageRole, StagesHold, KnowsStage, under_way, freezes, has_position, Owning, Freezing, Reopening, Remounting, owns, closes}
-use Rattle.freeze_laws.specs.stages.Roles.{Before, HasPassed, remounts, closed_by, Closing, is_full, up_to, Aside}
+use Rattle.std.{proofs.Common.{Bool, ap, arith, inl, inr, refl, subst, suc, sym, true, ℕ, ◌%◌, ◌+◌, ◌-◌, ◌/◌, ◌<◌, ◌∙◌, ◌≡◌, ◌≤◌}, specs.Prelude.None}
+use Rattle.std.specs.Prelude.{Option, Some}
+use Rattle.finite_sums.{proofs.Totals.{each_updated, total_at}, specs.Sums.{total, update}}
+use Rattle.freeze_laws.proofs.stages.{Changes.{any_event, others_know}, Facts.{full_is, up_to_below, up_to_le, up_to_next, up_to_off, way_is}}
+use Rattle.freeze_laws.{proofs.stages.Positions.{block_at, remount_own, way}, specs.stages.{Events.{SameDuties, Stages, playing}, Roles.Aside}}
+use Rattle.freeze_laws.specs.stages.Roles.{Before, Closing, Freezing, HasPassed, KnowsStage, Owning, Remounting, Reopening, StageRole, StagesHold}
+use Rattle.freeze_laws.specs.stages.Roles.{closed_by, closes, freezes, has_position, is_full, owns, remounts, under_way, up_to}
 
 module _ (tasks : ℕ) (x : Stages) (good : StagesHold tasks x.stage x.sb x.remount x.block x.at) (t : ℕ) (lt : t < tasks) where
   -- the stage holds at a moment

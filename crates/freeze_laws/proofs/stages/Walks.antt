@@ -1,9 +1,10 @@
 -- Whole operations, step by step: what one step leaves is what the next one asks for.
-use Rattle.std.{proofs.Common.{◌≡◌, ℕ, refl, arith, suc, zero}, specs.Prelude.{true, false, Option, Some, None, List}}
+use Rattle.std.{proofs.Common.{List, arith, false, refl, suc, true, zero, ℕ, ◌≡◌}, specs.Prelude.{None, Option, Some}}
 use Rattle.access_model.specs.declared.actions.{Action.Action, Holder.Holder}
-use Rattle.freeze_laws.specs.stages.Events.{Stages, SameDuties, StageEvent, Happens, action_of, Advances, Begins, ClearsBlock, ClearsMark, Completes, HoldsOne, LeavesOne}
-use Rattle.freeze_laws.specs.stages.Events.{LetsGo, LoadsSb, LoadsStage, Locks, LocksAgain, MarksNode, Passes, Releases, ReleasesOpen, SetsBlock, Syncs, Thaws}
-use Rattle.freeze_laws.specs.stages.{Laws.{with_one, StageRun, Ends, Goes, FreezeAndThawHappen}, Roles.{Before, HasPassed, CleanBelow, Owning}}
+use Rattle.freeze_laws.specs.stages.Events.{Advances, Begins, ClearsBlock, ClearsMark, Completes, Happens, HoldsOne, LeavesOne, LetsGo, LoadsSb}
+use Rattle.freeze_laws.specs.stages.Events.{LoadsStage, Locks, LocksAgain, MarksNode, Passes, Releases, ReleasesOpen, SameDuties, SetsBlock}
+use Rattle.freeze_laws.specs.stages.{Events.{StageEvent, Stages, Syncs, Thaws, action_of}, Laws.{Ends, FreezeAndThawHappen, Goes, StageRun, with_one}}
+use Rattle.freeze_laws.specs.stages.Roles.{Before, CleanBelow, HasPassed, Owning}
 
 -- one step, and the rest of a run of one task and two nodes
 goes : {x x' last : Stages} {actions : List Action} (kind : StageEvent) → Happens 1 2 0 x x' kind → StageRun 1 2 x' actions last →

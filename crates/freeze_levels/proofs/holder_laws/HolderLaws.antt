@@ -1,41 +1,27 @@
 -- Each step keeps what holds of the holders.
-use Rattle.std.proofs.Common.{◌≡◌, ℕ, ◌+◌, ◌<◌, ◌≤◌, true, false, refl, sym, ap, ◌∙◌, subst, inl, inr, arith}
-use Rattle.std.proofs.lemmas.Bool.Decides.{eqb_tells}
-use Rattle.finite_sums.specs.Sums.{update, total}
-use Rattle.finite_sums.proofs.Totals.{each_updated, total_updated, total_at, total_none, total_zero, total_le, update_off}
-use Rattle.access_model.specs.{declared.actions.Holders.{Holders}, Holders.{nobody, with_holder, is_unheld}}
-use Rattle.freeze_levels.specs.Holders.{word_of, holders_in}
-use Rattle.freeze_levels.specs.holder_laws.Roles.{HolderRole, Apart, Found, Fills, Empties, minds, between, is_held, is_four, KnowsHolders, HoldersHold}
-use Rattle.freeze_levels.specs.holder_laws.Events.{HolderMoment, HoldsAt, HolderEvent, Happens, Finds, LetsGo, Freezes, Moves, HoldsFirst, Joins, Leaves, LeavesLast, Thaws, Stays}
-use Rattle.freeze_levels.specs.holder_laws.Laws.{opening, EventsKeep, HeldExactly, RolesTell}
-use Rattle.freeze_levels.proofs.holder_laws.Words.{unpack_pack, held_word, some_held, one_held, packs}
+use Rattle.std.proofs.{Common.{ap, arith, false, inl, inr, refl, subst, sym, true, ℕ, ◌+◌, ◌<◌, ◌∙◌, ◌≡◌, ◌≤◌}, lemmas.Bool.Decides.eqb_tells}
+use Rattle.finite_sums.{proofs.Totals.{each_updated, total_at, total_le, total_none, total_updated, total_zero, update_off}, specs.Sums.total}
+use Rattle.finite_sums.specs.Sums.{update}
+use Rattle.access_model.specs.{Holders.{is_unheld, nobody, with_holder}, declared.actions.Holders.Holders}
+use Rattle.freeze_levels.{proofs.holder_laws.Words.{held_word, one_held, packs, some_held, unpack_pack}, specs.Holders.{holders_in, word_of}}
+use Rattle.freeze_levels.specs.holder_laws.Events.{Finds, Freezes, Happens, HolderEvent, HolderMoment, HoldsAt, HoldsFirst, Joins, Leaves, LeavesLast}
+use Rattle.freeze_levels.specs.holder_laws.{Events.{LetsGo, Moves, Stays, Thaws}, Laws.{EventsKeep, HeldExactly, RolesTell, opening}, Roles.Apart}
+use Rattle.freeze_levels.specs.holder_laws.Roles.{Empties, Fills, Found, HolderRole, HoldersHold, KnowsHolders, between, is_four, is_held, minds}
 
 -- who is between two stores relies on the holders
 between_le : (r : HolderRole) → between r ≤ minds r
-between_le Apart = omega arith
-between_le (Found held) = omega arith
-between_le Fills = omega arith
-between_le Empties = omega arith
+between_le r = grind arith
 
 minds_le : (r : HolderRole) → minds r ≤ 1
-minds_le Apart = omega arith
-minds_le (Found held) = omega arith
-minds_le Fills = omega arith
-minds_le Empties = omega arith
+minds_le r = grind arith
 
 -- who relies on nothing knows nothing
 apart_knows : (stage holders : ℕ) (r : HolderRole) → minds r ≡ 0 → KnowsHolders stage holders r
-apart_knows stage holders Apart e = tt
-apart_knows stage holders (Found held) e = absurd (omega (arith, e))
-apart_knows stage holders Fills e = tt
-apart_knows stage holders Empties e = tt
+apart_knows stage holders r h = grind arith
 
 -- who knows the holders at another stage than 4 has found none
 moved_knows : (stage holders stage' : ℕ) (r : HolderRole) → (stage ≡ 4 → ⊥) → KnowsHolders stage holders r → KnowsHolders stage' holders r
-moved_knows stage holders stage' Apart off k = tt
-moved_knows stage holders stage' (Found held) off k = absurd (off k.0)
-moved_knows stage holders stage' Fills off k = tt
-moved_knows stage holders stage' Empties off k = tt
+moved_knows stage holders stage' r h g = grind arith
 
 -- a stage is 4 or not, as a number
 four_is : (stage : ℕ) → stage ≡ 4 → is_four stage ≡ 1

@@ -1,5 +1,5 @@
 -- each clause is a lemma
-use Rattle.access_model.proofs.Frozen.{frozen_shut, frozen_tree, frozen_still}
+use Rattle.access_model.proofs.Frozen.{frozen_shut, frozen_still, frozen_tree}
 use Rattle.access_model.proofs.laws.the_frozen_tree_stays.Goals as goal
 
 pub returns-clause-shut : goal.returns-clause-shut

@@ -1,8 +1,7 @@
-use Rattle.std.proofs.Common.{ap, ◌∙◌, sym, Option, Some}
-use Rattle.clap.specs.{Lexer.{usize_max}, declared.builder.action.ArgAction.TheVariants.{SetTrue}}
-use Rattle.clap.specs.declared.builder.{range.ValueRange.ValueRange, value_parser.ValueParser.ValueParser}
-use Rattle.command_line.specs.CommandLine.{kind_rule}
-use Rattle.command_line.proofs.Parsing.{acted, helped, named, parsed, range_there, ranged, required, valued}
+use Rattle.std.proofs.Common.{Option, Some, ap, sym, ◌∙◌}
+use Rattle.clap.specs.{Lexer.usize_max, declared.builder.{action.ArgAction.TheVariants.SetTrue, range.ValueRange.ValueRange}}
+use Rattle.clap.specs.declared.builder.value_parser.ValueParser.{ValueParser}
+use Rattle.command_line.{proofs.Parsing.{acted, helped, named, parsed, range_there, ranged, required, valued}, specs.CommandLine.kind_rule}
 use Rattle.command_line.proofs.arguments.argument_of.Goals as goal
 
 pub returns-in-Word : goal.returns-in-Word

@@ -1,5 +1,5 @@
-use Rattle.std.proofs.Common.{ap, ◌∙◌, refl, true}
-use Rattle.clap.specs.{Words.{App}, Simple.{app_of_fields, on_top}}
+use Rattle.std.proofs.Common.{ap, refl, true, ◌∙◌}
+use Rattle.clap.specs.{Simple.{app_of_fields, on_top}, Words.App}
 use Rattle.command_line.proofs.Parsing.{commands_all, commands_more, joined}
 use Rattle.command_line.proofs.arguments.command.Goals as goal
 

@@ -1,7 +1,6 @@
-use Rattle.std.proofs.{Common.{ap, subst, ◌∙◌, map, string_bytes}, lemmas.Result.{IfOk-weaker}}
+use Rattle.std.proofs.{Common.{ap, map, string_bytes, subst, ◌∙◌}, lemmas.Result.IfOk-weaker}
 use Rattle.clap.specs.Words.{App, is_simple, subcommand_of, takes}
-use Rattle.command_line.specs.CommandLine.{IsBareReplay, is_plain_replay, mntgate_app}
-use Rattle.command_line.proofs.Parsing.{and_left, and_right, is_known}
+use Rattle.command_line.{proofs.Parsing.{and_left, and_right, is_known}, specs.CommandLine.{IsBareReplay, is_plain_replay, mntgate_app}}
 use Rattle.command_line.proofs.words.read_words.Goals as goal
 
 pub returns-in-Ok-clause-plain : goal.returns-in-Ok-clause-plain

@@ -1,9 +1,6 @@
-use Rattle.std.proofs.{Common.{◌≡◌, sym, ap, ◌∙◌, refl, codes, true, false, Some}, lemmas.Bool.{false≢true}}
-use Rattle.std.specs.Prelude.{Option, option_map}
-use Rattle.clap.specs.Words.{found_of, rows_of}
-use Rattle.clap.proofs.WalkLemmas.{first_value-rows}
-use Rattle.command_line.specs.{declared.words.{ReplayForm.{ReplayForm}, Replay.{Replay}}}
-use Rattle.command_line.proofs.Parsing.{plain_rows, unmapped, same_replay, same_form}
+use Rattle.std.proofs.{Common.{Option, Some, ap, codes, false, option_map, refl, sym, true, ◌∙◌, ◌≡◌}, lemmas.Bool.false≢true}
+use Rattle.clap.{proofs.WalkLemmas.first_value-rows, specs.Words.{found_of, rows_of}}
+use Rattle.command_line.{proofs.Parsing.{plain_rows, same_form, same_replay, unmapped}, specs.declared.words.{Replay.Replay, ReplayForm.ReplayForm}}
 use Rattle.command_line.proofs.words.replay_of.Goals as goal
 
 pub returns-in_default-clause-plain : goal.returns-in_default-clause-plain

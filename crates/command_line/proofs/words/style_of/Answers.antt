@@ -1,6 +1,5 @@
-use Rattle.std.proofs.Common.{◌∙◌, ap₂, sym, Bool, Option, Some}
-use Rattle.command_line.specs.declared.words.Style.{Style}
-use Rattle.command_line.proofs.Parsing.{same_flag}
+use Rattle.std.proofs.Common.{Bool, Option, Some, ap₂, sym, ◌∙◌}
+use Rattle.command_line.{proofs.Parsing.same_flag, specs.declared.words.Style.Style}
 use Rattle.command_line.proofs.words.style_of.Goals as goal
 
 -- the style of these two

@@ -1,4 +1,4 @@
-use Rattle.freeze_laws.proofs.levels.CitedLaws.{opening_is_right, events_keep, enters_alone, writers_find}
+use Rattle.freeze_laws.proofs.levels.CitedLaws.{enters_alone, events_keep, opening_is_right, writers_find}
 use Rattle.freeze_laws.proofs.levels.events_keep_the_level.Goals as goal
 
 pub returns : goal.returns

@@ -1,4 +1,4 @@
-use Rattle.freeze_laws.proofs.levels.{GraceLaws.graces_are_whole, SlowLaws.stays_slow, CitedLaws.fast_finds_open}
+use Rattle.freeze_laws.proofs.levels.{CitedLaws.fast_finds_open, GraceLaws.graces_are_whole, SlowLaws.stays_slow}
 use Rattle.freeze_laws.proofs.levels.nobody_is_fast_after_a_grace_period.Goals as goal
 
 pub returns : goal.returns

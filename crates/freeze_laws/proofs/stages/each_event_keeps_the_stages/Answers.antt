@@ -1,4 +1,4 @@
-use Rattle.freeze_laws.proofs.stages.CitedLaws.{opening_is_right, events_keep}
+use Rattle.freeze_laws.proofs.stages.CitedLaws.{events_keep, opening_is_right}
 use Rattle.freeze_laws.proofs.stages.each_event_keeps_the_stages.Goals as goal
 
 pub returns : goal.returns

@@ -1,4 +1,4 @@
-use Rattle.freeze_laws.proofs.stages.CitedLaws.{freeze_is_under_way, freeze_keeps_others_out, positions_are_alone, only_the_freeze_moves_the_stage}
+use Rattle.freeze_laws.proofs.stages.CitedLaws.{freeze_is_under_way, freeze_keeps_others_out, only_the_freeze_moves_the_stage, positions_are_alone}
 use Rattle.freeze_laws.proofs.stages.one_freeze_is_under_way.Goals as goal
 
 pub returns : goal.returns

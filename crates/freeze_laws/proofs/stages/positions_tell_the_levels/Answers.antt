@@ -1,4 +1,5 @@
-use Rattle.freeze_laws.proofs.stages.CitedLaws.{positions_tell_the_levels, frozen_as_a_whole, nobody_at_stage_four, open_elsewhere, levels_pass_in_order}
+use Rattle.freeze_laws.proofs.stages.CitedLaws.{frozen_as_a_whole, levels_pass_in_order, nobody_at_stage_four, open_elsewhere}
+use Rattle.freeze_laws.proofs.stages.CitedLaws.{positions_tell_the_levels}
 use Rattle.freeze_laws.proofs.stages.positions_tell_the_levels.Goals as goal
 
 pub returns : goal.returns

@@ -1,4 +1,4 @@
-use Rattle.freeze_levels.proofs.holder_laws.HolderLaws.{opens, events_keep}
+use Rattle.freeze_levels.proofs.holder_laws.HolderLaws.{events_keep, opens}
 use Rattle.freeze_levels.proofs.holder_laws.each_event_keeps_the_holders.Goals as goal
 
 pub returns : goal.returns

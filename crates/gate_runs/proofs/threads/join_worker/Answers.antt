@@ -1,9 +1,6 @@
 -- the task that comes back has done its part
-use Rattle.std.proofs.Common.{subst}
-use Rattle.std.specs.Prelude.{IfErr}
-use Rattle.vfs_gates.specs.declared.Gates.{Gates}
-use Rattle.gate_runs.specs.Refusals.{WriterRefused}
-use Rattle.gate_runs.proofs.{Homes.{came_home, home_refused}, Resting.{joined_rests, joined_there}, Staying.{stays_among}}
+use Rattle.gate_runs.proofs.Prelude.{Gates, IfErr, WriterRefused, subst}
+use Rattle.gate_runs.proofs.{Homes.{came_home, home_refused}, Resting.{joined_rests, joined_there}, Staying.stays_among}
 use Rattle.gate_runs.proofs.threads.join_worker.Goals as goal
 
 pub returns-clause-others : goal.returns-clause-others

@@ -1,11 +1,8 @@
 -- the last of those that were left has done its part
-use Rattle.std.proofs.Common.{◌≡◌, ◌+◌, ◌-◌, arith, subst, ◌∙◌, [], vec_len, suc}
-use Rattle.std.specs.Prelude.{IfErr, IfOk, Ok, Result}
-use Rattle.access_model.specs.declared.errors.GateError.{GateError}
-use Rattle.run_plans.specs.declared.plans.Plan.{Plan}
-use Rattle.gate_runs.specs.{Refusals.{WriterRefused}, declared.threads.Met.{Met}, Homes.{HasBack, NeverFroze, TaskShare}, Parts.{Among}}
+use Rattle.gate_runs.proofs.Prelude.{Among, GateError, IfErr, IfOk, Ok, Plan, Result, WriterRefused, [], arith, subst, suc, vec_len, ◌+◌, ◌-◌, ◌∙◌}
+use Rattle.gate_runs.proofs.Prelude.{◌≡◌}
 use Rattle.gate_runs.proofs.{Homes.{all_parts, either_refused, parts_on, remounted_of, wrote_of}, Joining.{has_back_more, has_none_back}}
-use Rattle.gate_runs.proofs.Staying.{each_popped}
+use Rattle.gate_runs.{proofs.Staying.each_popped, specs.{Homes.{HasBack, NeverFroze, TaskShare}, declared.threads.Met.Met}}
 use Rattle.gate_runs.proofs.threads.join_workers.Goals as goal
 
 pub join_worker-requires-clause-home : goal.join_worker-requires-clause-home

@@ -1,9 +1,6 @@
 -- All threads that were joined are those of the last tasks. Each of these has done its part, with what they met together, or a call was refused.
-use Rattle.std.proofs.Common.{◌≡◌, ◌+◌, ◌-◌, ◌≤◌, length, vec_len}
-use Rattle.std.specs.Prelude.{IfErr, IfOk}
-use Rattle.gate_runs.specs.{Refusals.{WriterRefused}, Homes.{HasBack}, Parts.{Among, EachFrom}}
-use Rattle.vfs_gates.specs.{TaskStates.{IsFrom, SeatedTask}, Held.{Rests}}
-use Rattle.gate_runs.proofs.Homes.{Joined}
+use Rattle.gate_runs.proofs.Prelude.{Among, IfErr, IfOk, IsFrom, Rests, SeatedTask, WriterRefused, length, vec_len, ◌+◌, ◌-◌, ◌≡◌, ◌≤◌}
+use Rattle.gate_runs.{proofs.Homes.Joined, specs.{Homes.HasBack, Parts.EachFrom}}
 use Rattle.gate_runs.proofs.threads.join_workers.Given as goal
 
 abbrev pub invariant-loop-worker : goal.invariant-loop-worker

@@ -1,18 +1,11 @@
 -- each task has done its part, and stands among the numbers that were taken back
-use Rattle.std.proofs.Common.{◌≡◌, ◌+◌, ◌-◌, ◌≤◌, ap, arith, inl, inr, length, subst, sym, vec_len, ◌∙◌}
-use Rattle.std.proofs.lemmas.Result.{err_from_is_err_and}
-use Rattle.std.specs.Prelude.{◌⊎◌, Ok}
-use Rattle.access_model.specs.declared.errors.GateError.{GateError}
-use Rattle.access_model.specs.declared.actions.Holder.TheVariants.{User}
-use Rattle.gate_world.specs.declared.{config.Config.{Config}, views.View.{View}}
-use Rattle.run_plans.specs.declared.counts.{Copies.{Copies}, Details.{Details}, Remounts.{Remounts}, Writes.{Writes}}
-use Rattle.gate_runs.specs.{Counts.{CountsRounds, no_copies, remounts_of}, Observers.{was_frozen, was_held}, Keeping.{HaveNotFrozen}}
-use Rattle.gate_runs.specs.{Refusals.{FoundOthers, WriterRefused}, Rounds.{BackupRound, Repeats}}
-use Rattle.gate_runs.specs.Parts.{AllWrote, Among, Remounted}
-use Rattle.vfs_gates.specs.{Frozen.{MayFreeze, NeverFreezes}, Held.{own_actions}, Splitting.{Gives}, TaskStates.{own_number, spare_of}}
-use Rattle.gate_runs.proofs.{Answering.{never_may}, Keeping.{creates_freeze_none, creates_stay, have_not, idle_have_not, own_has_not}}
-use Rattle.gate_runs.proofs.{Homes.{each_err, each_ok, either_refused, where_ok}, Joining.{all_numbers, found_on}}
-use Rattle.gate_runs.proofs.{Staying.{gives_stay, is_among}}
+use Rattle.gate_runs.proofs.Prelude.{Among, BackupRound, Config, Copies, CountsRounds, FoundOthers, GateError, Gives, HaveNotFrozen, MayFreeze}
+use Rattle.gate_runs.proofs.Prelude.{NeverFreezes, Ok, Remounts, Repeats, User, View, WriterRefused, Writes, ap, arith, err_from_is_err_and, inl, inr}
+use Rattle.gate_runs.proofs.Prelude.{length, own_actions, own_number, spare_of, subst, sym, vec_len, ◌+◌, ◌-◌, ◌∙◌, ◌≡◌, ◌≤◌, ◌⊎◌}
+use Rattle.gate_runs.proofs.{Answering.never_may, Homes.{each_err, each_ok, either_refused, where_ok}, Joining.{all_numbers, found_on}}
+use Rattle.gate_runs.proofs.{Keeping.{creates_freeze_none, creates_stay, have_not, idle_have_not, own_has_not}, Staying.{gives_stay, is_among}}
+use Rattle.gate_runs.specs.{Counts.{no_copies, remounts_of}, Observers.{was_frozen, was_held}, Parts.{AllWrote, Remounted}}
+use Rattle.run_plans.specs.declared.counts.Details.{Details}
 use Rattle.gate_runs.proofs.threads.run_threads.Goals as goal
 
 pub create_files-requires : goal.create_files-requires

@@ -1,7 +1,7 @@
 -- the promise is that of this task
-use Rattle.std.proofs.Common.{◌≡◌, refl, subst, sym}
-use Rattle.std.specs.Prelude.{Err, IfOk, IsErrAnd, MatchResult, Ok, Result}
+use Rattle.gate_runs.proofs.Prelude.{Err, IfOk, Ok, Result, refl, subst, sym, ◌≡◌}
 use Rattle.gate_runs.proofs.Homes.{each_ok}
+use Rattle.std.specs.Prelude.{IsErrAnd, MatchResult}
 use Rattle.gate_runs.proofs.threads.spawn_worker.Goals as goal
 
 -- what is granted stays as it is where only the refusal becomes another

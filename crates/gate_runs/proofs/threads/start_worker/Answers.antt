@@ -1,13 +1,9 @@
 -- the next number goes to a task that begins
-use Rattle.std.proofs.{Common.{◌≡◌, ℕ, ap, refl, subst, sym, ◌∙◌, [], ◌∷◌}, lemmas.Result.{err_from_is_err_and}}
-use Rattle.std.specs.Prelude.{Result, Ok, Err, OnOk}
-use Rattle.access_model.specs.declared.errors.GateError.{GateError}
-use Rattle.vfs_gates.specs.{Frozen.{NeverFreezes}, Parts.{SplitOf}, Seating.{DealtNumbers, given_of, kept_of}, Splitting.{HasBegun}}
-use Rattle.vfs_gates.specs.TaskStates.{SeatedTask, own_view, spare_of}
-use Rattle.gate_runs.specs.Keeping.{HaveNotFrozen}
-use Rattle.gate_runs.proofs.Keeping.{have_not}
-use Rattle.vfs_gates.proofs.Splitting.{gives_on, has_begun, refused_for_memory}
-use Rattle.gate_runs.specs.Homes.{IsReady}
+use Rattle.gate_runs.proofs.Prelude.{DealtNumbers, Err, GateError, HasBegun, HaveNotFrozen, NeverFreezes, Ok, Result, SeatedTask, [], ap}
+use Rattle.gate_runs.proofs.Prelude.{err_from_is_err_and, own_view, refl, spare_of, subst, sym, ℕ, ◌∙◌, ◌∷◌, ◌≡◌}
+use Rattle.gate_runs.{proofs.Keeping.have_not, specs.Homes.IsReady}
+use Rattle.std.specs.Prelude.{OnOk}
+use Rattle.vfs_gates.{proofs.Splitting.{gives_on, has_begun, refused_for_memory}, specs.{Parts.SplitOf, Seating.{given_of, kept_of}}}
 use Rattle.gate_runs.proofs.threads.start_worker.Goals as goal
 
 own_kept : (n : ℕ) (items : DealtNumbers) → own_view (kept_of n items) ≡ own_view items

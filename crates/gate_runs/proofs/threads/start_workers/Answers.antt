@@ -1,6 +1,5 @@
 -- one thread more
-use Rattle.std.proofs.{Common.{◌≡◌, ◌+◌, ap, arith, refl, subst, sym, ◌∙◌, length}, lemmas.Result.{err_from_is_err_and}}
-use Rattle.vfs_gates.specs.Splitting.{Gives}
+use Rattle.gate_runs.proofs.Prelude.{Gives, ap, arith, err_from_is_err_and, length, refl, subst, sym, ◌+◌, ◌∙◌, ◌≡◌}
 use Rattle.gate_runs.proofs.Staying.{each_next}
 use Rattle.gate_runs.proofs.threads.start_workers.Goals as goal
 

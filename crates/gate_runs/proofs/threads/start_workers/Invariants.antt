@@ -1,6 +1,5 @@
 -- All threads so far were started, each for the next task, and the first task has the numbers behind theirs to give.
-use Rattle.std.proofs.Common.{◌≡◌, ◌+◌, vec_len}
-use Rattle.vfs_gates.specs.{TaskStates.{IsFrom, own_view}, Held.{Rests}, Splitting.{Gives}}
+use Rattle.gate_runs.proofs.Prelude.{Gives, IsFrom, Rests, own_view, vec_len, ◌+◌, ◌≡◌}
 use Rattle.gate_runs.specs.Parts.{EachFrom}
 use Rattle.gate_runs.proofs.threads.start_workers.Given as goal
 

@@ -1,9 +1,6 @@
 -- A task comes home with its rounds done: a writer's place is told by its number, and so is the remounter.
-use Rattle.std.proofs.Common.{◌≡◌, ◌+◌, ◌-◌, arith, rules, subst}
-use Rattle.vfs_gates.specs.Splitting.{HasBegun}
-use Rattle.gate_runs.specs.Counts.{no_remounts}
-use Rattle.gate_runs.proofs.Keeping.{remounts_freeze_none}
-use Rattle.gate_runs.proofs.Homes.{comes_back}
+use Rattle.gate_runs.proofs.Prelude.{HasBegun, arith, rules, subst, ◌+◌, ◌-◌, ◌≡◌}
+use Rattle.gate_runs.{proofs.{Homes.comes_back, Keeping.remounts_freeze_none}, specs.Counts.no_remounts}
 use Rattle.gate_runs.proofs.threads.work.Goals as goal
 
 pub remount-requires : goal.remount-requires

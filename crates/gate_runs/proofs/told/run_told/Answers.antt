@@ -1,5 +1,5 @@
 -- a run that was refused is told as Refused
-use Rattle.std.proofs.Common.{◌≡◌, sym, ◌∙◌}
+use Rattle.gate_runs.proofs.Prelude.{sym, ◌∙◌, ◌≡◌}
 use Rattle.exit_status.specs.declared.ends.ProgramEnding.TheVariants.{Ran, Refused}
 use Rattle.gate_runs.proofs.told.run_told.Goals as goal
 

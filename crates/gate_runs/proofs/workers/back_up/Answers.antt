@@ -1,11 +1,10 @@
 -- one round more
-use Rattle.std.proofs.{Common.{◌≡◌, ℕ, ◌+◌, ◌*◌, ◌<◌, ◌≤◌, ap, arith, subst, sym}}
-use Rattle.std.specs.Prelude.{None, Option, Some}
-use Rattle.access_model.specs.declared.actions.Holder.TheVariants.{User}
-use Rattle.run_plans.specs.declared.counts.{Copies.{Copies}, Tried.{Tried, TheVariants.{Copied, GaveUp as GivenUp}}}
-use Rattle.vfs_gates.specs.{Frozen.{MayFreeze}, TaskStates.{SeatedTask}}
-use Rattle.gate_runs.specs.{Counts.{CountsRounds, no_copies, with_try}, Patience.{GaveUp}, Rounds.{BackupRound, Repeats, Tries}}
-use Rattle.gate_runs.proofs.{Answering.{callbacks_list}, Keeping.{backs_stay, stays_on}, GivingUp.{never_gives_up}, Repeating.{one_more}}
+use Rattle.gate_runs.proofs.Prelude.{BackupRound, Copies, CountsRounds, GaveUp, MayFreeze, None, Option, Repeats, SeatedTask, Some, User, ap, arith}
+use Rattle.gate_runs.proofs.Prelude.{subst, sym, ℕ, ◌+◌, ◌<◌, ◌≡◌, ◌≤◌}
+use Rattle.gate_runs.proofs.{Answering.callbacks_list, GivingUp.never_gives_up, Keeping.{backs_stay, stays_on}, Repeating.one_more}
+use Rattle.gate_runs.specs.{Counts.{no_copies, with_try}, Rounds.Tries}
+use Rattle.std.proofs.Common.{◌*◌}
+use Rattle.run_plans.specs.declared.counts.Tried.{TheVariants.{Copied, GaveUp as GivenUp}, Tried}
 use Rattle.gate_runs.proofs.workers.back_up.Goals as goal
 
 -- what is counted with one round more

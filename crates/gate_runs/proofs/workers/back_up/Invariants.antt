@@ -1,8 +1,7 @@
 -- The task comes from the gates, at rest, and may freeze, and all rounds so far were done and counted, each with its callbacks.
-use Rattle.std.proofs.Common.{◌*◌, ◌≤◌}
-use Rattle.access_model.specs.declared.actions.Holder.TheVariants.{User}
-use Rattle.vfs_gates.specs.{Frozen.{MayFreeze}, Held.{Rests, own_actions}, TaskStates.{IsFrom}}
-use Rattle.gate_runs.specs.{Counts.{CountsRounds, no_copies}, Rounds.{BackupRound, Repeats}}
+use Rattle.gate_runs.proofs.Prelude.{BackupRound, CountsRounds, IsFrom, MayFreeze, Repeats, Rests, User, own_actions, ◌≤◌}
+use Rattle.std.proofs.Common.{◌*◌}
+use Rattle.gate_runs.specs.Counts.{no_copies}
 use Rattle.gate_runs.proofs.workers.back_up.Given as goal
 
 abbrev pub invariant-loop-round : goal.invariant-loop-round

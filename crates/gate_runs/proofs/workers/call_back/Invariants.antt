@@ -1,7 +1,5 @@
 -- The task comes from the gates, at rest, and has called back the levels so far, at each of which one callback ran at most.
-use Rattle.std.proofs.Common.{◌+◌, ◌-◌, ◌≤◌}
-use Rattle.vfs_gates.specs.{Held.{Rests}, TaskStates.{IsFrom}}
-use Rattle.gate_runs.specs.Rounds.{CallsBack, Repeats}
+use Rattle.gate_runs.proofs.Prelude.{CallsBack, IsFrom, Repeats, Rests, ◌+◌, ◌-◌, ◌≤◌}
 use Rattle.gate_runs.proofs.workers.call_back.Given as goal
 
 abbrev pub invariant-loop-level : goal.invariant-loop-level

@@ -1,13 +1,11 @@
 -- one file more
-use Rattle.std.proofs.Common.{rules, ◌≡◌, ◌-◌, ◌<◌, ap, refl, arith, subst, sym, ◌∙◌}
-use Rattle.std.specs.Prelude.{Result, Ok, Err}
-use Rattle.access_model.specs.declared.{errors.GateError.{GateError, TheVariants.{ReadOnly}}, actions.Kind.TheVariants.{File}}
-use Rattle.gate_world.specs.declared.{config.Config.{Config}, operations.Op.TheVariants.{Create, DropWrite, WantWrite}}
-use Rattle.vfs_gates.specs.{Held.{Rests}, Runs.{Called, Performs}, Splitting.{Gives}, TaskStates.{IsFrom, SeatedTask}, declared.Gates.{Gates}}
-use Rattle.vfs_gates.proofs.Resting.{some_mount, some_processor}
+use Rattle.gate_runs.proofs.Prelude.{Called, Config, Create, CreatesFile, DropWrite, Err, File, GateError, Gates, Gives, HasWriteAccess, IsFrom, Ok}
+use Rattle.gate_runs.proofs.Prelude.{Performs, ReadOnly, Repeats, Rests, Result, SeatedTask, WantWrite, ap, arith, refl, rules, subst, sym, ◌-◌, ◌<◌}
+use Rattle.gate_runs.proofs.Prelude.{◌∙◌, ◌≡◌}
 use Rattle.gate_runs.proofs.Answering.{create_begins, gives_back, inside_by, is_inside, want_begins, want_read_only, was_whole}
-use Rattle.gate_runs.proofs.{FirstCalls.{create_refused, finds_writable}, Keeping.{stays, stays_on}, Repeating.{created, one_more}, Resting.{begun_rests}}
-use Rattle.gate_runs.specs.{Refusals.{CreateRefused, HasWriteAccess}, Rounds.{CreatesFile, Repeats}}
+use Rattle.gate_runs.proofs.{FirstCalls.{create_refused, finds_writable}, Keeping.{stays, stays_on}, Repeating.{created, one_more}}
+use Rattle.gate_runs.{proofs.Resting.begun_rests, specs.Refusals.CreateRefused}
+use Rattle.vfs_gates.proofs.Resting.{some_mount, some_processor}
 use Rattle.gate_runs.proofs.workers.create_files.Goals as goal
 
 -- the access is given back without a refusal

@@ -1,6 +1,6 @@
 -- The task comes from the gates, is inside its write access, has the numbers that it had, and has created all files so far.
-use Rattle.vfs_gates.specs.TaskStates.{IsFrom}
-use Rattle.gate_runs.specs.{Keeping.{KeepsNumbers}, Refusals.{HasWriteAccess}, Rounds.{CreatesFile, Repeats}}
+use Rattle.gate_runs.proofs.Prelude.{CreatesFile, HasWriteAccess, IsFrom, Repeats}
+use Rattle.gate_runs.specs.Keeping.{KeepsNumbers}
 use Rattle.gate_runs.proofs.workers.create_files.Given as goal
 
 abbrev pub invariant-loop-writer : goal.invariant-loop-writer

@@ -1,9 +1,5 @@
 -- The task comes from the gates, is inside its write access, and was refused again and again, as often as was counted.
-use Rattle.std.proofs.Common.{◌≡◌, ℕ}
-use Rattle.access_model.specs.declared.errors.GateError.TheVariants.{Again}
-use Rattle.gate_world.specs.declared.operations.Op.TheVariants.{Grow}
-use Rattle.vfs_gates.specs.TaskStates.{IsFrom}
-use Rattle.gate_runs.specs.{Counts.{counted}, Refusals.{HasWriteAccess}, Rounds.{IsRefused, Repeats}}
+use Rattle.gate_runs.proofs.Prelude.{Again, Grow, HasWriteAccess, IsFrom, IsRefused, Repeats, counted, ℕ, ◌≡◌}
 use Rattle.gate_runs.proofs.workers.grow.Given as goal
 
 abbrev pub invariant-loop : goal.invariant-loop

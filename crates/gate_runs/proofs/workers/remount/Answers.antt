@@ -1,9 +1,8 @@
 -- one round more
-use Rattle.std.proofs.Common.{◌≤◌, ◌+◌, ap, arith, false, refl, true, ◌∙◌}
+use Rattle.gate_runs.proofs.Prelude.{RemountRound, ap, arith, false, refl, true, ◌+◌, ◌∙◌, ◌≤◌}
+use Rattle.gate_runs.{proofs.{Answering.rests_by, Repeating.{busy_once, one_more}}, specs.Counts.with_waits}
 use Rattle.gate_world.specs.declared.operations.Op.TheVariants.{ChangeMount}
-use Rattle.vfs_gates.proofs.{CallingBack.{none_err}, Resting.{some_mount}, Rounds.{made_writable}}
-use Rattle.gate_runs.proofs.{Answering.{rests_by}, Repeating.{busy_once, one_more}}
-use Rattle.gate_runs.specs.{Counts.{with_waits}, Rounds.{RemountRound}}
+use Rattle.vfs_gates.proofs.{CallingBack.none_err, Resting.some_mount, Rounds.made_writable}
 use Rattle.gate_runs.proofs.workers.remount.Goals as goal
 
 pub loop-round-preserved : goal.loop-round-preserved

@@ -1,7 +1,6 @@
 -- The task comes from the gates, at rest, and has done all rounds so far, in each of which the mount was busy once at most.
-use Rattle.std.proofs.Common.{◌≤◌}
-use Rattle.vfs_gates.specs.{Held.{Rests}, TaskStates.{IsFrom}}
-use Rattle.gate_runs.specs.{Counts.{no_remounts}, Rounds.{RemountRound, Repeats}}
+use Rattle.gate_runs.proofs.Prelude.{IsFrom, RemountRound, Repeats, Rests, ◌≤◌}
+use Rattle.gate_runs.specs.Counts.{no_remounts}
 use Rattle.gate_runs.proofs.workers.remount.Given as goal
 
 abbrev pub invariant-loop-round : goal.invariant-loop-round

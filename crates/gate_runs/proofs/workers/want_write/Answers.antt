@@ -1,11 +1,7 @@
 -- one refusal more, or done
-use Rattle.std.proofs.Common.{rules, ◌≡◌, ◌+◌, ◌-◌, ◌^◌, min, ap, subst, ◌∙◌}
-use Rattle.std.specs.Prelude.{Ok, Err}
-use Rattle.access_model.specs.declared.errors.GateError.TheVariants.{ReadOnly}
-use Rattle.gate_world.specs.declared.operations.Op.TheVariants.{WantWrite}
-use Rattle.vfs_gates.specs.Runs.{Performs}
+use Rattle.gate_runs.proofs.Prelude.{Err, IsRefused, Ok, Performs, ReadOnly, Waits, WantWrite, ap, rules, subst, ◌+◌, ◌-◌, ◌∙◌, ◌≡◌}
 use Rattle.gate_runs.proofs.{Answering.{is_inside, rests_refused}, Repeating.{counted_more, one_more, taken}}
-use Rattle.gate_runs.specs.Rounds.{IsRefused, Waits}
+use Rattle.std.proofs.Common.{min, ◌^◌}
 use Rattle.gate_runs.proofs.workers.want_write.Goals as goal
 
 pub want_write-answer-requires : goal.want_write-answer-requires

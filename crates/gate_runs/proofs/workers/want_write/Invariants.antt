@@ -1,9 +1,5 @@
 -- The task comes from the gates, at rest, and was refused again and again, as often as was counted, with the waits of each call.
-use Rattle.std.proofs.Common.{◌≡◌, ℕ}
-use Rattle.access_model.specs.declared.errors.GateError.TheVariants.{ReadOnly}
-use Rattle.gate_world.specs.declared.operations.Op.TheVariants.{WantWrite}
-use Rattle.vfs_gates.specs.{Held.{Rests}, TaskStates.{IsFrom}}
-use Rattle.gate_runs.specs.{Counts.{counted}, Rounds.{IsRefused, Repeats, Waits}}
+use Rattle.gate_runs.proofs.Prelude.{IsFrom, IsRefused, ReadOnly, Repeats, Rests, Waits, WantWrite, counted, ℕ, ◌≡◌}
 use Rattle.gate_runs.proofs.workers.want_write.Given as goal
 
 abbrev pub invariant-loop : goal.invariant-loop

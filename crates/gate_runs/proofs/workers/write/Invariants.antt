@@ -1,6 +1,6 @@
 -- The task comes from the gates, at rest, and has done all rounds so far, with what they met.
-use Rattle.vfs_gates.specs.{Held.{Rests}, TaskStates.{IsFrom}}
-use Rattle.gate_runs.specs.{Counts.{no_writes}, Rounds.{Repeats, WriterRound}}
+use Rattle.gate_runs.proofs.Prelude.{IsFrom, Repeats, Rests, WriterRound}
+use Rattle.gate_runs.specs.Counts.{no_writes}
 use Rattle.gate_runs.proofs.workers.write.Given as goal
 
 abbrev pub invariant-loop-round : goal.invariant-loop-round
