@@ -4,13 +4,21 @@ use Rattle.access_model.specs.{Replies.{map_next}, declared.replies.Next.{Next, 
 use Rattle.access_model.specs.declared.replies.Reply.{TheVariants.{Unit as UnitReply}}
 use Rattle.composite_ops.specs.declared.file_closes.phases.ClosePhase.{ClosePhase}
 use Rattle.composite_ops.specs.declared.write_access.phases.WritePhase.{WritePhase, TheVariants.{Takes}}
-use Rattle.gate_world.specs.declared.work.Phase.{Phase, TheVariants.{Closes, DownReads, Mounts}}
-use Rattle.mount_counts.specs.declared.phases.{MountPhase.TheVariants.{Want as Wants}, Want.{Want}}
+use Rattle.gate_world.specs.declared.work.Phase.{Phase, TheVariants.{Closes, DownReads, Mounts, Writes}}
+use Rattle.mount_counts.specs.declared.phases.{Change.{Change}, MountPhase.TheVariants.{Change as Changes, Want as Wants}, Want.{Want}}
 use Rattle.percpu_rwsem.specs.declared.readers.{DownRead.{DownRead}, DownReadStep.{DownReadStep}}
 
 -- what comes next of a want of an access at a mount, as phases
 abbrev pub of_want : Next Want → Next Phase
 of_want next = map_next (λ want. Mounts (Wants want)) next
+
+-- the same of a change of a mount
+abbrev pub of_change : Next Change → Next Phase
+of_change next = map_next (λ change. Mounts (Changes change)) next
+
+-- the same of a taking or a return of write access
+abbrev pub of_write : Next WritePhase → Next Phase
+of_write next = map_next Writes next
 
 -- the same of a close of a file
 abbrev pub of_close : Next ClosePhase → Next Phase

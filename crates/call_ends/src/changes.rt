@@ -5,7 +5,7 @@ ghost use Rattle.access_model.specs.declared.replies.Next.TheVariants.{Go};
 ghost use Rattle.gate_world.specs.declared.work.Phase.TheVariants.{Mounts};
 ghost use Rattle.mount_counts.specs.declared.phases.MountPhase.TheVariants.{Change as Changes};
 ghost use Rattle.gate_steps.specs.call_events.Led.{Led, Stands};
-ghost use Rattle.gate_steps.specs.call_events.Turns.{of_change};
+ghost use Rattle.call_ends.specs.Paths.{of_change};
 
 use crate::lines::{Checkpointed, step_if_at};
 use access_model::Next;

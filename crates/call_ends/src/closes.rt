@@ -1,4 +1,5 @@
-//! The first two steps of a close that may wait, in a line: the load of the file's node, and what follows it.
+//! The usual steps of a close that may wait, in a line: the load of the file's node, and the count
+//! that is lowered.
 
 ghost use Rattle.std.specs.Prelude.{Some};
 ghost use Rattle.access_model.specs.declared.replies.Next.TheVariants.{Go};
@@ -15,15 +16,15 @@ use gate_world::{Accesses, Op};
 impl Checkpointed for ClosePhase {
     type Place = ();
 
-    /// Its second step is done wherever the first one has led.
     #[inline(always)]
     fn is_at(&self, place: ()) -> bool {
         let () = place;
-        true
+        matches!(self, ClosePhase::LowersCount { .. })
     }
 }
 
-/// Does the first two steps of a close. What comes after the last of them.
+/// Does the first step of a close, and the second if that lowers the count. Then the file stays for
+/// others, or for its directory. What comes after the last of them.
 #[inline(always)]
 pub(crate) fn close_in_line(
     gates: &GateWords,

@@ -6,11 +6,10 @@ ghost use Rattle.access_model.specs.declared.replies.Reply.TheVariants.{Unit as 
 ghost use Rattle.gate_world.specs.declared.operations.Op.TheVariants.{WantWrite};
 ghost use Rattle.gate_world.specs.declared.work.Phase.TheVariants.{Writes};
 ghost use Rattle.gate_steps.specs.call_events.Led.{Led, Stands};
-ghost use Rattle.gate_steps.specs.call_events.Turns.{of_write};
 ghost use Rattle.composite_ops.specs.declared.write_access.phases.WritePhase.TheVariants.{Drops, Takes};
 ghost use Rattle.composite_ops.specs.write_access.Phases.{after};
 ghost use Rattle.percpu_rwsem.specs.declared.readers.DownReadStep.TheVariants.{EntersSection, LoadsSync};
-ghost use Rattle.call_ends.specs.Paths.{done_or, taking_at};
+ghost use Rattle.call_ends.specs.Paths.{done_or, of_write, taking_at};
 
 use crate::lines::{Checkpointed, step_if_at};
 use access_model::{Next, Reply};

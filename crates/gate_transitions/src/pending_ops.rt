@@ -447,6 +447,12 @@ impl PendingOp for ClosePhase {
     }
 
     #[inline(always)]
+    fn next(self, hook: Result<(), u16>) -> (WordName, Touch) {
+        let _ = hook;
+        self.next()
+    }
+
+    #[inline(always)]
     fn after(self, found: u64, hook: Result<(), u16>) -> (Next<ClosePhase>, Option<Action>) {
         let _ = hook;
         self.after(found)

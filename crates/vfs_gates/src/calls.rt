@@ -10,7 +10,6 @@ ghost use Rattle.gate_steps.specs.call_events.Runs.{told_as, unit_of, OpUnderWay
 use crate::gates::Gates;
 use crate::task::Task;
 use access_model::{GateError, Next, Reply};
-use call_ends::LinedOp;
 use composite_ops::WritePhase;
 use gate_steps::call_events::Progress;
 use gate_transitions::{PendingOp, begin};
@@ -38,14 +37,12 @@ pub(crate) fn waits<P: PendingOp>(next: &Next<P>) -> u64
 
 impl Task {
     ghost use Rattle.gate_world.specs.Beginnings.{first_phase};
-    ghost use Rattle.gate_world.specs.traces.Traces.{most_events};
     ghost use Rattle.gate_world.specs.declared.operations.Op.TheVariants.{Want as WantOp, DropMount, ChangeMount, Start, End, DropWrite};
     ghost use Rattle.gate_world.specs.declared.work.Phase.TheVariants.{Mounts};
     ghost use Rattle.mount_counts.specs.declared.phases.MountPhase.TheVariants.{Change as Changes};
     ghost use Rattle.vfs_gates.specs.AtOnce.{BeginsAtOnce, PerformedFrom, TriedAtOnce};
-    ghost use Rattle.vfs_gates.specs.Buffers.{is_of_snapshot};
     ghost use Rattle.vfs_gates.specs.TaskStates.{IsFrom, beginning_at, own_number};
-    ghost use Rattle.gate_steps.specs.call_events.Runs.{Called, IsBounded, IsTrying, Performs};
+    ghost use Rattle.gate_steps.specs.call_events.Runs.{IsTrying, Performs};
 
     /// The first phase of the operation, or why it can't begin.
     #[inline(always)]
@@ -62,31 +59,23 @@ impl Task {
         )
     }
 
-    /// Does the steps of the operation that has begun, which has a most number of them and asks no hook, until it replies.
+    /// Does the steps of the operation that has begun, which has a most number of them and asks no
+    /// hook, until it replies. It tells only whether the operation was done, so that no call makes
+    /// the place for a whole answer before its first step: a store before a step on a word keeps that
+    /// step waiting.
     #[cold]
     #[inline(never)]
-    pub(crate) fn finish(&mut self, gates: &Gates) -> Result<Reply, GateError>
-        requires from { IsFrom self.old gates.now }
-        requires trying { IsTrying self.old }
-        ensures { (op : OpType) (start : SeatedTask) → OpUnderWay op start self.old → Called op start self.new result }
-    {
-        loop {
-            let step = self.step(gates, Ok(()));
-            if let Progress::Done(answer) = step.progress {
-                return answer;
-            }
-        }
-    }
-
-    /// Does the steps of the operation that has begun until it replies, and answers only whether it was done. The place for what `finish` answers is made here: a call that finds nothing in its way
-    /// makes none, since a store before a step on a word keeps that step waiting.
-    #[inline(always)]
-    fn finish_outcome(&mut self, gates: &Gates) -> Result<(), GateError>
+    fn finish(&mut self, gates: &Gates) -> Result<(), GateError>
         requires from { IsFrom self.old gates.now }
         requires trying { IsTrying self.old }
         ensures { (op : OpType) (start : SeatedTask) → OpUnderWay op start self.old → PerformedFrom op start self.new result }
     {
-        outcome(self.finish(gates))
+        loop {
+            let step = self.step(gates, Ok(()));
+            if let Progress::Done(answer) = step.progress {
+                return outcome(answer);
+            }
+        }
     }
 
     /// Ends a call whose operation was begun so and has a most number of steps: does what is left of it.
@@ -104,26 +93,7 @@ impl Task {
         if let Progress::Done(answer) = progress {
             return outcome(answer);
         }
-        self.finish_outcome(gates)
-    }
-
-    /// Begins an operation that has a most number of steps and this first phase, and does its steps in a line. Where one of them finds
-    /// something else, it notes where the operation stands and does the rest.
-    #[inline(always)]
-    pub(crate) fn perform<P: LinedOp>(
-        &mut self,
-        gates: &Gates,
-        op: Op,
-        first: P,
-    ) -> Result<(), GateError>
-        requires from { IsFrom self.old gates.now }
-        requires first { P.as_phase first ≡ first_phase self.old.config (own_number self.old.items) op }
-        requires other { is_of_snapshot (P.as_phase first) ≡ false }
-        requires tries { IsBounded (most_events self.old.config op) }
-        ensures { Performs op self.old self.new result }
-    {
-        let begun = self.perform_at_once(gates, op, first);
-        self.finish_begun(gates, begun)
+        self.finish(gates)
     }
 
     /// `__mnt_want_write` that doesn't wait: an access at a mount, taken on a processor. It takes 6 steps at most, whatever other tasks do.
@@ -138,7 +108,8 @@ impl Task {
     {
         let wait = false;
         let want = Want::new(mount, cpu, wait);
-        self.perform(gates, Op::Want { mount, cpu, wait }, want)
+        let begun = self.perform_at_once(gates, Op::Want { mount, cpu, wait }, want);
+        self.finish_begun(gates, begun)
     }
 
     /// `__mnt_drop_write`: gives an access at a mount back, on any processor. It is never refused once it has begun. It takes one step.
@@ -151,7 +122,8 @@ impl Task {
         ensures { Performs (DropMount mount cpu) self.old self.new result }
     {
         let op = Op::DropMount { mount, cpu };
-        self.perform(gates, op, MountPhase::Drop { mount, cpu })
+        let begun = self.perform_at_once(gates, op, MountPhase::Drop { mount, cpu });
+        self.finish_begun(gates, begun)
     }
 
     /// `sb_start_write_trylock` (`percpu_down_read_trylock`), at any level: goes inside a freeze level, 1 to 3, counted on a processor. It
@@ -167,7 +139,8 @@ impl Task {
     {
         let wait = false;
         let read = DownRead::new(level, cpu, self.number(), wait);
-        self.perform(gates, Op::Start { level, cpu, wait }, read)
+        let begun = self.perform_at_once(gates, Op::Start { level, cpu, wait }, read);
+        self.finish_begun(gates, begun)
     }
 
     /// `sb_end_write`, `sb_end_pagefault`, `sb_end_intwrite` (`percpu_up_read`): leaves a freeze level, on any processor. It is never refused
@@ -180,7 +153,8 @@ impl Task {
         requires { IsFrom self.old gates.now }
         ensures { Performs (End level cpu) self.old self.new result }
     {
-        self.perform(gates, Op::End { level, cpu }, UpRead { level, cpu })
+        let begun = self.perform_at_once(gates, Op::End { level, cpu }, UpRead { level, cpu });
+        self.finish_begun(gates, begun)
     }
 
     /// `mnt_drop_write`: gives an access at a mount back and then leaves level 1, both on any processor. It is never refused once it has begun.
@@ -194,7 +168,8 @@ impl Task {
         ensures { Performs (DropWrite mount cpu) self.old self.new result }
     {
         let op = Op::DropWrite { mount, cpu };
-        self.perform(gates, op, WritePhase::Drops { mount, cpu })
+        let begun = self.perform_at_once(gates, op, WritePhase::Drops { mount, cpu });
+        self.finish_begun(gates, begun)
     }
 
     /// A change of a mount by the task that is to begin.
@@ -233,6 +208,7 @@ impl Task {
             read_only,
             wait,
         };
-        self.perform(gates, op, change)
+        let begun = self.perform_at_once(gates, op, change);
+        self.finish_begun(gates, begun)
     }
 }

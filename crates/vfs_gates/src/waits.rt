@@ -33,7 +33,7 @@ impl Task {
     ghost use Rattle.vfs_gates.specs.AtOnce.{BeginsAtOnce, PerformedFrom};
     ghost use Rattle.vfs_gates.specs.Buffers.{is_of_snapshot};
     ghost use Rattle.vfs_gates.specs.TaskStates.{IsFrom, own_number};
-    ghost use Rattle.gate_steps.specs.call_events.Runs.{the_reply, Called, Replies, Performs};
+    ghost use Rattle.gate_steps.specs.call_events.Runs.{the_reply, Replies, Performs};
     ghost use Rattle.gate_steps.specs.call_events.Asking.{PerformsAsking, RepliesAsking};
 
     /// Does the steps of the operation that has begun and asks no hook until it replies, however long it has to wait. After a step that
@@ -41,35 +41,21 @@ impl Task {
     /// it looks again, so none of these makes the pauses short again.
     #[cold]
     #[inline(never)]
-    pub(crate) fn finish_waiting<R: Wait>(
-        &mut self,
-        rt: &R,
-        gates: &Gates,
-    ) -> Result<Reply, GateError>
+    fn finish_waiting<R: Wait>(&mut self, rt: &R, gates: &Gates) -> Result<(), GateError>
         requires { IsFrom self.old gates.now }
-        ensures { (op : OpType) (start : SeatedTask) → OpUnderWay op start self.old → Called op start self.new result }
+        ensures { (op : OpType) (start : SeatedTask) → OpUnderWay op start self.old → PerformedFrom op start self.new result }
     {
         let mut backoff = Backoff::new();
         for _ in rt.forever() {
             let step = self.step(gates, Ok(()));
             if let Progress::Done(answer) = step.progress {
-                return answer;
+                return outcome(answer);
             }
             if let Progress::Waiting = step.progress {
                 backoff.snooze(rt);
             }
         }
         unreachable!()
-    }
-
-    /// Does the steps of the operation that has begun until it replies, and answers only whether it was done. It is a function of its own, so
-    /// that the room for the whole answer is cleared where the call has to wait, and not at its start.
-    #[inline(always)]
-    fn finish_waiting_outcome<R: Wait>(&mut self, rt: &R, gates: &Gates) -> Result<(), GateError>
-        requires { IsFrom self.old gates.now }
-        ensures { (op : OpType) (start : SeatedTask) → OpUnderWay op start self.old → PerformedFrom op start self.new result }
-    {
-        outcome(self.finish_waiting(rt, gates))
     }
 
     /// Ends a call whose operation was begun so: does what is left of it, however long it has to wait.
@@ -87,7 +73,7 @@ impl Task {
         if let Progress::Done(answer) = progress {
             return outcome(answer);
         }
-        self.finish_waiting_outcome(rt, gates)
+        self.finish_waiting(rt, gates)
     }
 
     /// Begins an operation that has this first phase, and does its steps until it replies, however long it has to wait, with the hooks of
@@ -116,25 +102,6 @@ impl Task {
         answer
     }
 
-    /// Begins an operation that has this first phase and asks no hook, and does its steps in a line. Where one of them finds something
-    /// else, it notes where the operation stands and does the rest, however long it has to wait.
-    #[inline(always)]
-    fn perform_or_wait<R: Wait, P: LinedOp>(
-        &mut self,
-        rt: &R,
-        gates: &Gates,
-        op: Op,
-        first: P,
-    ) -> Result<(), GateError>
-        requires from { IsFrom self.old gates.now }
-        requires first { P.as_phase first ≡ first_phase self.old.config (own_number self.old.items) op }
-        requires other { is_of_snapshot (P.as_phase first) ≡ false }
-        ensures { Performs op self.old self.new result }
-    {
-        let begun = self.perform_at_once(gates, op, first);
-        self.finish_begun_waiting(rt, gates, begun)
-    }
-
     /// `__mnt_want_write`: an access at a mount, taken on a processor. While a change of the mount holds writers off it waits.
     ///
     /// # Errors
@@ -152,7 +119,8 @@ impl Task {
     {
         let wait = true;
         let want = Want::new(mount, cpu, wait);
-        self.perform_or_wait(rt, gates, Op::Want { mount, cpu, wait }, want)
+        let begun = self.perform_at_once(gates, Op::Want { mount, cpu, wait }, want);
+        self.finish_begun_waiting(rt, gates, begun)
     }
 
     /// `sb_start_write`, `sb_start_pagefault`, `sb_start_intwrite` (`percpu_down_read`): goes inside a freeze level, 1 to 3, counted on
@@ -173,7 +141,8 @@ impl Task {
     {
         let wait = true;
         let read = DownRead::new(level, cpu, self.number(), wait);
-        self.perform_or_wait(rt, gates, Op::Start { level, cpu, wait }, read)
+        let begun = self.perform_at_once(gates, Op::Start { level, cpu, wait }, read);
+        self.finish_begun_waiting(rt, gates, begun)
     }
 
     /// `mnt_want_write`: goes inside level 1 and takes an access at a mount, both on a processor. While a freeze closes the level, and
@@ -194,7 +163,8 @@ impl Task {
         ensures { Performs (WantWrite mount cpu) self.old self.new result }
     {
         let op = Op::WantWrite { mount, cpu };
-        self.perform_or_wait(rt, gates, op, self.first_taking(mount, cpu))
+        let begun = self.perform_at_once(gates, op, self.first_taking(mount, cpu));
+        self.finish_begun_waiting(rt, gates, begun)
     }
 
     /// `rcu_sync_func`, with the wait of `call_rcu` before it: runs the callback that the `rcu_sync` of a level, 1 to 3, has queued, after
@@ -234,7 +204,8 @@ impl Task {
             read_only,
             wait,
         };
-        self.perform_or_wait(rt, gates, op, change)
+        let begun = self.perform_at_once(gates, op, change);
+        self.finish_begun_waiting(rt, gates, begun)
     }
 
     /// `reconfigure_super`: remounts the superblock read-only or writable. While another task has `umount` it waits.

@@ -2,13 +2,10 @@
 use Rattle.std.specs.Prelude.{ℕ, Bool, Option, Some, None, List}
 use Rattle.access_model.specs.{declared.{actions.Action.{Action}, replies.Next.{Next}}, Replies.{map_next}}
 use Rattle.cpu_words.specs.declared.events.Event.{Event}
-use Rattle.gate_world.specs.declared.{config.Config.{Config}, operations.Op.{Op}, work.Phase.{Phase, TheVariants.{Mounts, Trees, Writes}}}
+use Rattle.gate_world.specs.declared.{config.Config.{Config}, operations.Op.{Op}, work.Phase.{Phase}}
 use Rattle.gate_world.specs.declared.accesses.Accesses.{Accesses}
-use Rattle.gated_tree.specs.declared.{growth.Grow.{Grow}, phases.TreePhase.TheVariants.{Grow as Grows}}
-use Rattle.mount_counts.specs.declared.phases.{Change.{Change}, MountPhase.TheVariants.{Change as Changes}}
 use Rattle.gate_transitions.specs.{declared.{task_states.TaskState.{TaskState}, steps.Step.{Step}}, Answers.{progress_of}}
 use Rattle.gate_steps.specs.{Seating.{DealtNumbers}, call_events.GhostAgrees.{GhostAgrees}}
-use Rattle.composite_ops.specs.declared.write_access.phases.WritePhase.{WritePhase}
 
 -- what is kept of a task whose operation stands there
 abbrev pub state_at : Option Phase → Accesses → TaskState
@@ -29,15 +26,3 @@ AgreesAfter c begins phase accesses items left accesses_left items_left =
 -- the step that was done
 abbrev pub step_was : Event → Option Action → Next Phase → Step
 step_was event action next = record { event = Some event; action = action; progress = progress_of next }
-
--- what comes next of a taking or a return of write access, as phases
-abbrev pub of_write : Next WritePhase → Next Phase
-of_write next = map_next (λ phase. Writes phase) next
-
--- what comes next of a change of a mount, as phases
-abbrev pub of_change : Next Change → Next Phase
-of_change next = map_next (λ change. Mounts (Changes change)) next
-
--- what comes next of a grow of a file, as phases
-abbrev pub of_grow : Next Grow → Next Phase
-of_grow next = map_next (λ grow. Trees (Grows grow)) next

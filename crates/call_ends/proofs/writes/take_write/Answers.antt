@@ -4,7 +4,7 @@ use Rattle.std.specs.Prelude.{Ok}
 use Rattle.access_model.specs.declared.replies.Next.TheVariants.{Go}
 use Rattle.composite_ops.specs.declared.write_access.phases.WritePhase.{WritePhase}
 use Rattle.gate_world.specs.declared.work.Phase.TheVariants.{Writes}
-use Rattle.gate_steps.specs.call_events.Turns.{of_write}
+use Rattle.call_ends.specs.Paths.{of_write}
 use Rattle.gate_steps.proofs.call_events.Leading.{led_on, led_once, led_to, seated_stands, stands_from, still_stands}
 use Rattle.call_ends.proofs.Entering.{led_entered, led_sync, led_idle}
 use Rattle.call_ends.proofs.writes.take_write.Goals as goal

@@ -10,9 +10,12 @@ pub step-step-requires : goal.step-step-requires
 step-step-requires c = let now = c.loop-answer in (now.invariant.table ∙ c.requires.from.0, now.invariant.config ∙ c.requires.from.1)
 
 pub returns-in-Done : goal.returns-in-Done
-returns-in-Done c op start goes = let now = c.loop-answer in let here = now.invariant.goes op start goes in
-    ends_there op start now.self c.step-step.new.self c.step-step.result _ here c.step-step.ensures.event
-    (subst IsWithin (sym c.requires.from.1 ∙ goes.config) c.args.gates.now.words.within) c.in-Done.answer c.in-Done.is
+returns-in-Done c op start goes = let now = c.loop-answer in let here = now.invariant.goes op start goes in (
+  c.in-Done.answer,
+  c.outcome.ensures,
+  ends_there op start now.self c.step-step.new.self c.step-step.result _ here c.step-step.ensures.event
+      (subst IsWithin (sym c.requires.from.1 ∙ goes.config) c.args.gates.now.words.within) c.in-Done.answer c.in-Done.is,
+)
 
 pub loop-answer-smaller : goal.loop-answer-smaller
 loop-answer-smaller c = let now = c.loop-answer in let trying = now.invariant.trying in

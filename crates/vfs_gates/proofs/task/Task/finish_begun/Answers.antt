@@ -6,8 +6,8 @@ use Rattle.vfs_gates.specs.AtOnce.{BeginsAtOnce}
 use Rattle.vfs_gates.proofs.AtOnce.{begun_by, goes_by}
 use Rattle.vfs_gates.proofs.task.Task.finish_begun.Goals as goal
 
-pub finish_outcome-requires : goal.finish_outcome-requires
-finish_outcome-requires c =
+pub finish-requires : goal.finish-requires
+finish-requires c =
     let tried = c.requires.tried in
     let told = begun_by tried.op tried.start c.args.self.now c.in_ok-progress.progress _ refl
     (subst (λ b. BeginsAtOnce tried.op tried.start c.args.self.now b) c.in_ok-progress.was tried.begins) in record {
@@ -24,6 +24,6 @@ pub returns : goal.returns
 returns c op start begins =
     let told = begun_by op start c.args.self.now c.in_ok-progress.progress _ refl
     (subst (λ b. BeginsAtOnce op start c.args.self.now b) c.in_ok-progress.was begins) in
-    let done = c.finish_outcome.ensures op start
+    let done = c.finish.ensures op start
     (goes_by op start c.args.self.now c.in_ok-progress.progress c.in_default.not-Done told.1) in
-    was_done unit_of op start c.finish_outcome.new.self done.0 c.finish_outcome.result done.1 told.0 done.2
+    was_done unit_of op start c.finish.new.self done.0 c.finish.result done.1 told.0 done.2

@@ -10,6 +10,6 @@ pub returns : goal.returns
 returns g c op start begins =
     let told = begun_by op start c.args.self.now c.in_ok-progress.progress _ refl
     (subst (λ b. BeginsAtOnce op start c.args.self.now b) c.in_ok-progress.was begins) in
-    let done = c.finish_waiting_outcome.ensures op start
+    let done = c.finish_waiting.ensures op start
     (goes_by op start c.args.self.now c.in_ok-progress.progress c.in_default.not-Done told.1) in
-    was_done unit_of op start c.finish_waiting_outcome.new.self done.0 c.finish_waiting_outcome.result done.1 told.0 done.2
+    was_done unit_of op start c.finish_waiting.new.self done.0 c.finish_waiting.result done.1 told.0 done.2

@@ -7,9 +7,12 @@ pub loop-init : goal.loop-init
 loop-init g c = record { next = tt; finite = tt; table = refl; config = refl; goes = λ op start goes. goes }
 
 pub returns-in-Done : goal.returns-in-Done
-returns-in-Done g c op start goes = let now = c.loop in
-    ends_there op start now.self c.step-step.new.self c.step-step.result _ (now.invariant.goes op start goes)
-    c.step-step.ensures.event (subst IsWithin (sym c.requires.1 ∙ goes.config) c.args.gates.now.words.within) c.in-Done.answer c.in-Done.is
+returns-in-Done g c op start goes = let now = c.loop in (
+  c.in-Done.answer,
+  c.outcome.ensures,
+  ends_there op start now.self c.step-step.new.self c.step-step.result _ (now.invariant.goes op start goes)
+      c.step-step.ensures.event (subst IsWithin (sym c.requires.1 ∙ goes.config) c.args.gates.now.words.within) c.in-Done.answer c.in-Done.is,
+)
 
 pub loop-preserved : goal.loop-preserved
 loop-preserved g c = let now = c.loop in record {
