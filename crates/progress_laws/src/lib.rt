@@ -41,8 +41,8 @@ pub fn a_task_alone_settles()
 {}
 
 /// Fair rounds: if nothing new begins, then after so many rounds, whoever schedules them, each operation under way has its reply or has to
-/// wait, as long as `FsHooks::keep_waiting` answers Ok (`patient`). Whatever it answers, so it was after one of these rounds (`once`). Does nothing:
-/// its contract is the law.
+/// wait, as long as `FsHooks::keep_waiting` answers Ok (`patient`). Whatever it answers, so it was before the first of these rounds or after one of them
+/// (`once`). Does nothing: its contract is the law.
 pub fn fair_rounds_settle()
     ensures patient { (c : Config) → IsWithin c → (lost : ℕ → Bool) (entries : List Entry) → SettlesFairly c lost (turns_left c (world_after c entries)) (world_after c entries) }
     ensures once { (c : Config) → IsWithin c → (lost : ℕ → Bool) (entries : List Entry) → SettlesOnce c lost (turns_left c (world_after c entries)) (world_after c entries) }
@@ -103,8 +103,8 @@ pub fn a_freeze_that_fails_is_undone()
     ensures { (c : Config) → IsWithin c → (entries : List Entry) → FailsUndone c entries }
 {}
 
-/// The number of turns in the laws above is the state's own, and has a bound in each configuration, also where freezes give up (`giving_up`). Does
-/// nothing: its contract is the law.
+/// The number of turns in the laws above is the state's own, and has a bound in each configuration, also where freezes give up (`giving_up`). It is an
+/// upper bound, which isn't shown to be the least. Does nothing: its contract is the law.
 pub fn turns_have_a_bound()
     ensures waiting { (c : Config) → IsWithin c → (entries : List Entry) → turns_left c (world_after c entries) ≤ most_turns c }
     ensures giving_up { (c : Config) → IsWithin c → (entries : List Entry) → turns_to_give_up c (world_after c entries) ≤ most_turns_to_give_up c }

@@ -29,10 +29,12 @@ use std::marker::Model;
 /// when it runs. Each call goes on from what its task has seen (`laws::in_time`).
 ///
 /// A task that is dropped takes its numbers with it, so that `Gates::close` is refused as `Order` from then on, and what it has left in
-/// the words stays there for good (`progress_laws::what_a_lost_task_leaves_stays`). At rest that is nothing more, and the gates work on. No refusal
-/// tells others of it; they meet what follows, and who waits for it waits for ever (`progress_laws::who_meets_it_never_replies`):
+/// the words stays there for good. At rest that is nothing more, and the gates work on. No refusal tells others of it; they meet what follows.
+/// `progress_laws::what_a_lost_task_leaves_stays` says that `umount`, HOLD, a closed level, a section and the counts stay so. By
+/// `laws::progress::who_meets_a_dropped_task_has_no_reply` a step that waits for one of the first four waits for ever, and so does a freeze that sums a
+/// level which the task is inside, as long as its own `keep_waiting` answers Ok. What else is said here is documented, and not proved:
 ///
-/// - an access at a mount, or a want past its addition: each change of that mount to read-only, and each remount to read-only, is `Busy`;
+/// - an access at a mount, or a want past its addition: a change of that mount to read-only, or a remount to read-only, that sums it is `Busy`;
 /// - an open file: once it is removed, each remount to read-only is `Busy`, and its node and its blocks aren't given back;
 /// - a level, or a start that is counted there: a freeze waits there, with the levels up to it closed, so that starts of these wait;
 /// - an operation that owns `umount`: `try_change_mount` and `try_snapshot` are `Again`, and a change, a remount, a freeze, a thaw and a
