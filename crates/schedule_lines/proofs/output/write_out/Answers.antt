@@ -1,7 +1,7 @@
 use Rattle.std.proofs.{Common.{◌-◌, ◌++◌, length, take, drop, sym, ap, subst, ◌∙◌, arith, length-take}, KnownBytes.{Appends-trans}}
 use lib.Seq.{take-add, take-take}
 use Rattle.std.specs.Io.KnownBytes.{Appends}
-use Rattle.schedule_lines.proofs.bytes.writing.write_out.Goals as goal
+use Rattle.schedule_lines.proofs.output.write_out.Goals as goal
 
 pub loop-written-preserved : goal.loop-written-preserved
 loop-written-preserved g c =

@@ -1,6 +1,6 @@
 use Rattle.std.proofs.{Common.{◌++◌, ◌∙◌, ap, take}, lemmas.List.{length-take-le, take-append-le}}
 use Rattle.schedule_lines.proofs.bytes.Blocks.{read_behind}
-use Rattle.schedule_lines.proofs.bytes.input.read_behind.Goals as goal
+use Rattle.schedule_lines.proofs.lines.read_behind.Goals as goal
 
 pub returns-in-Ok-clause-grows : goal.returns-in-Ok-clause-grows
 returns-in-Ok-clause-grows g c =

@@ -1,7 +1,7 @@
 use Rattle.std.proofs.Common.{◌≡◌, refl, ◌∙◌, ap, arith, length}
 use Rattle.std.specs.List.{slice_range}
 use Rattle.schedule_lines.proofs.bytes.Blocks.{written_whole, pending_grow}
-use Rattle.schedule_lines.proofs.bytes.input.Input.read.Goals as goal
+use Rattle.schedule_lines.proofs.lines.Input.read.Goals as goal
 
 pub returns-clause-grows : goal.returns-clause-grows
 returns-clause-grows g c =

@@ -1,6 +1,6 @@
 use Rattle.std.proofs.Common.{◌-◌, ◌≤◌, length, take}
 use Rattle.std.specs.Io.KnownBytes.{Appends}
-use Rattle.schedule_lines.proofs.bytes.writing.write_out.Given as goal
+use Rattle.schedule_lines.proofs.output.write_out.Given as goal
 
 -- what is written is in the writer
 abbrev pub invariant-loop-written : goal.invariant-loop-written

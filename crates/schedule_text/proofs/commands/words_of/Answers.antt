@@ -1,7 +1,7 @@
 use Rattle.std.proofs.Common.{rules, ◌+◌, ap, sym, ◌∙◌, length, arith}
 use Rattle.schedule_lines.specs.Words.{word_count}
 use Rattle.schedule_text.proofs.Counting.{one_word, one_word_more, few_words}
-use Rattle.schedule_text.proofs.parsing.words_of.Goals as goal
+use Rattle.schedule_text.proofs.commands.words_of.Goals as goal
 
 pub overflow_add-result : goal.overflow_add-result
 overflow_add-result c =
