@@ -2,7 +2,6 @@
 //! and `step`. What holds of all of them is the contract of `every_schedule`.
 #![tactic(auto)]
 
-mod drivers;
 pub mod machine;
 
 pub use gate_schedules::{every_schedule, every_schedule_keeps_the_rule};

@@ -14,7 +14,7 @@ use Rattle.mntgate.specs.{Outcomes.{EndsTold}, Validated.{EndsValidated}}
 use Rattle.mntgate.specs.Validated.EndsValidated.{HasNoVerdict, IsCutOff, IsImpossible, IsPossible, IsUnread}
 use Rattle.mntgate.specs.Asking.{EndsAsked, EndsOutcomes, EndsReplay, EndsRun, TellsSomePassed}
 use Rattle.schedule_lines.specs.declared.bytes.replay_faults.ReplayFault.{ReplayFault}
-use Rattle.line_players.specs.Replayed.{Replayed}
+use Rattle.transcripts.specs.Replayed.{Replayed}
 
 -- a file's replay never ends with `Done`
 never_of_file : (ending : ProgramEnding) → of_file ending ≡ Done → ⊥

@@ -5,7 +5,7 @@ ghost use Rattle.command_line.specs.CommandLine.{MayAskPlainly, ask_plainly};
 ghost use Rattle.exit_status.specs.declared.ends.ProgramEnding.TheVariants.{Done, Passed, Ran};
 ghost use Rattle.program_replay.specs.Replays.{EndsReplayed};
 ghost use Rattle.mntgate.specs.Asking.{EndsAsked, EndsRun, TellsSomePassed, WasSomeRun};
-ghost use Rattle.line_players.specs.Replayed.{Replayed};
+ghost use Rattle.transcripts.specs.Replayed.{Replayed};
 
 use crate::outcomes::run_outcomes;
 use crate::validation::run_validation;

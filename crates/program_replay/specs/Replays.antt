@@ -4,7 +4,7 @@ use Rattle.command_line.specs.declared.words.ReplayForm.{ReplayForm, TheVariants
 use Rattle.exit_status.specs.{Endings.{of_file}, declared.ends.ProgramEnding.{ProgramEnding}}
 use Rattle.exit_status.specs.declared.ends.ProgramEnding.TheVariants.{Done, DoneOverGates, Shown, Refused}
 use Rattle.schedule_lines.specs.declared.bytes.replay_faults.ReplayFault.{ReplayFault}
-use Rattle.line_players.specs.Replayed.{Replayed}
+use Rattle.transcripts.specs.Replayed.{Replayed}
 
 -- how a replay ends that was done, in this form and over these gates, of standard input
 abbrev pub done_in : ReplayForm → Bool → ProgramEnding

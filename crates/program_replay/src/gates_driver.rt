@@ -10,13 +10,11 @@ ghost use Rattle.gate_world.specs.declared.config.Config.{Config as ConfigType};
 ghost use Rattle.gate_world.specs.declared.entries.Entry.{Entry, TheVariants.{Begins, Steps}};
 ghost use Rattle.gate_world.specs.declared.work.Phase.{Phase};
 ghost use Rattle.gate_steps.specs.call_events.Grown.{HasSeen};
-ghost use Rattle.line_players.specs.Replayed.{Replayed};
 ghost use Rattle.program_replay.specs.Noted.{words_after};
 ghost use Rattle.program_replay.specs.Shown.{IsNew};
 ghost use Rattle.program_replay.specs.Standing.{AreGathered, HasMet, HasOnlySeen, with_begun};
 ghost use Rattle.vfs_gates.specs.Splitting.{AreNumbered, Gives};
 ghost use Rattle.gate_core.specs.Drivers.{listed_word};
-ghost use Rattle.transcripts.specs.Limits.{IsLineNumber};
 ghost use Rattle.vfs_gates.specs.Stepped.{Stepped};
 ghost use Rattle.vfs_gates.specs.TaskStates.{IsFrom, IsIdle, SeatedTask, own_number, refusal_at};
 
@@ -25,9 +23,7 @@ use cpu_words::{Event, WordName};
 use freeze_levels::HookKind;
 use gate_core::{Driver, Step, words_at_start};
 use gate_world::{Config, Op};
-use line_players::{ReplayFault, replay_over};
 use std::alloc::Global;
-use std::io::{Read, Write};
 use vfs_gates::{Gates, Task};
 
 /// The gates with a task for each number, none of which is ever joined, and the words as all steps have left them.
@@ -193,26 +189,6 @@ impl Driver for GatesDriver {
             None
         }
     }
-}
-
-/// Reads a schedule and replays it over the gates that threads use, driven by this one thread: it prints what `line_players`' `replay` prints of the
-/// same bytes, and ends by the same faults. A task is made for each number by splits, and none is joined. Words and trees are printed from a list
-/// that each step moves, since gates tell their words only once they are closed.
-///
-/// # Errors
-///
-/// The fault at which it ended, and its line: the first line that is none, can't be read or written, or is refused for memory. A
-/// configuration is refused as `Gates::new` is, then as `Task::split`, and at last as the model beside them. What the lines before it print
-/// is written.
-pub fn replay_gates<R: Read, W: Write>(
-    alloc: Global,
-    reader: &mut R,
-    writer: &mut W,
-) -> Result<(), ReplayFault>
-    ensures replayed { Replayed (R.remaining reader.old) (R.remaining reader.new) (W.contents writer.old) (W.contents writer.new) result }
-    ensures line { IfErr result (λ fault. IsLineNumber fault.line) }
-{
-    replay_over::<GatesDriver, R, W>(alloc, reader, writer)
 }
 
 /// Lets the first task meet each other one.

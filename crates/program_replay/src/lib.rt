@@ -4,7 +4,7 @@
 
 pub mod gates_driver;
 pub mod replays;
-mod telling;
+mod showing;
 
-pub use gates_driver::{GatesDriver, replay_gates};
-pub use replays::{Terminal, run_replay};
+pub use gates_driver::GatesDriver;
+pub use replays::{Terminal, replay, replay_gates, run_replay};

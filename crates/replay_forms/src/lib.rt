@@ -1,6 +1,6 @@
 //! A schedule that can be seen: a replay that shows each step, also those of a `run`, with the call that it is of, what it does to the model
 //! and for whom it waits. What is seen is one trace of entries (`trace`), which each form prints in its way: as lines, in columns, as JSON, as a
-//! picture. A replay without a form has another player (`line_players`); here are the same session and the same steps.
+//! picture. A replay without a form has another player (`SessionPlayer` of `transcripts`); here are the same session and the same steps.
 #![tactic(auto)]
 
 mod columns;

@@ -2,9 +2,9 @@
 
 ghost use Rattle.std.specs.Prelude.{◌≡◌, OnErr};
 
-use line_players::print_line;
 use schedule_text::{Fault, Output};
 use std::alloc::{AllocError, Global};
+use transcripts::print_line;
 
 /// What a line prints, until it is done. What prints has no way out of its own: memory that was refused is noted, and then nothing of the line is
 /// printed.

@@ -3,10 +3,9 @@
 use crate::forms::Look;
 use crate::screen::Screen;
 use gate_transitions::Driver;
-use line_players::Player;
 use schedule_text::{Fault, Line, Output};
 use std::alloc::Global;
-use transcripts::Session;
+use transcripts::{Player, Session};
 
 /// A session over whatever gates, whose lines print what a form shows of them.
 #[derive(Drop)]

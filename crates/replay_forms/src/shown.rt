@@ -3,12 +3,16 @@
 use crate::forms::{Form, Look, Style};
 use crate::screen_player::ScreenPlayer;
 use gate_transitions::Driver;
-use line_players::LineReplay;
 use schedule_text::Output;
 use std::alloc::{AllocError, Global};
-use transcripts::Session;
+use transcripts::{LineReplay, Session};
 
-/// Returns what a replay of a schedule shows, on gates that were set up.
+/// Returns what a replay of a schedule shows, on gates that were set up. The schedule was made of moves of such gates, so no line of it has a
+/// fault, and nothing but memory can be wanting.
+///
+/// # Errors
+///
+/// `AllocError` if there was no memory for it.
 pub fn shown_of<D: Driver>(
     alloc: Global,
     look: Look,

@@ -1,10 +1,8 @@
-//! The bytes of a schedule: read in blocks, of which a line is what they begin with, and written out; and the fault at which this ends
-//! before its end. Everything here is over any reader and any writer.
+//! The bytes of a schedule: read in blocks, and written out; and the fault at which this ends before
+//! its end.
 
-pub mod input;
 pub mod replay_faults;
-pub mod writing;
 
-pub use input::Input;
+pub use crate::lines::Input;
+pub use crate::output::write_out;
 pub use replay_faults::{ReplayFault, fault_after};
-pub use writing::write_out;

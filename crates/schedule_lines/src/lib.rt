@@ -11,5 +11,5 @@ pub mod output;
 pub mod words;
 
 pub use faults::{Fault, FaultKind};
-pub use lines::{Front, LINE_BYTES, LINES, front_of};
-pub use output::Output;
+pub use lines::{Front, Input, LINE_BYTES, LINES, front_of};
+pub use output::{Output, write_out};

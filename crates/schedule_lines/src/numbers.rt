@@ -35,11 +35,16 @@ fn value_of(digits: &[u8]) -> u64
     value
 }
 
-/// The number that a word is: 1 to 10 digits, and at most 4,294,967,295.
+/// The number that a word is: 1 to 10 digits, and at most 4,294,967,295. Most have one digit.
 #[tactic(auto, unfolding(crate::specs::Numbers::number_of))]
 pub fn number_of(word: &[u8]) -> Option<u32>
     ensures { result ≡ number_of word.now }
 {
+    if let [digit] = word
+        && digit.is_ascii_digit()
+    {
+        return Some(u32::from(*digit - b'0'));
+    }
     if word.len() > DIGITS || !is_digits(word) {
         return None;
     }

@@ -1,10 +1,15 @@
-//! The bytes that are printed.
+//! The bytes that are printed, and how they are written out.
 
-ghost use Rattle.std.specs.Prelude.{◌≡◌, ◌++◌, [], true, false, codes, decimal, IfOk, OnOk, OnErr, vec_len, vec_capacity};
+ghost use Rattle.std.specs.Prelude.{◌≡◌, ◌++◌, [], true, false, codes, decimal, IfOk, IfErr, OnOk, OnErr, vec_len, vec_capacity};
+ghost use Rattle.std.specs.Io.KnownBytes.{Appends};
 ghost use Rattle.schedule_lines.specs.Printed.{Prints};
+ghost use Rattle.schedule_lines.specs.bytes.Writing.{AppendsPart};
+ghost use Rattle.schedule_lines.specs.declared.faults.Fault.TheVariants.{WriteFailed};
 
+use crate::Fault;
 use itoa::Buffer;
 use std::alloc::{AllocError, Global};
+use std::io::Write;
 
 /// The bytes that have been printed and not yet written out. What prints has no way out of its own: once a growth was refused nothing more
 /// is printed, and `settled` says so.
@@ -80,7 +85,8 @@ impl Output {
         self.text(buffer.format(number).as_bytes());
     }
 
-    /// Prints a text and a number right after it.
+    /// Prints a text and a number right after it. In line, so that a short text is no call.
+    #[inline(always)]
     pub fn numbered(&mut self, text: &[u8], number: u64)
         ensures { Prints self.old self.new (text.now ++ decimal number) }
     {
@@ -89,6 +95,7 @@ impl Output {
     }
 
     /// Prints a text and the number of a task, a mount, a level, a processor or a node right after it.
+    #[inline(always)]
     pub(crate) fn indexed(&mut self, text: &[u8], index: u8)
         ensures { Prints self.old self.new (text.now ++ decimal index) }
     {
@@ -107,7 +114,19 @@ impl Output {
         }
     }
 
-    /// Forgets what was printed, once it has been written out.
+    /// Writes out what was printed, and forgets it. After a failure nothing is left to be written, so that no write follows it.
+    pub fn write_out<W: Write>(&mut self, writer: &mut W) -> Result<(), Fault>
+        ensures all { OnOk result (Appends (W.contents writer.old) (W.contents writer.new) self.old.bytes.items) }
+        ensures part { OnErr result (AppendsPart (W.contents writer.old) (W.contents writer.new) self.old.bytes.items) }
+        ensures fault { IfErr result (λ fault. fault ≡ WriteFailed) }
+        ensures nothing { self.new.bytes.items ≡ [] }
+    {
+        let written = write_out(writer, self.bytes.as_slice());
+        self.clear();
+        written
+    }
+
+    /// Forgets what was printed.
     pub fn clear(&mut self)
         ensures nothing { self.new.bytes.items ≡ [] }
         ensures whole { self.new.is_whole ≡ true }
@@ -115,4 +134,23 @@ impl Output {
         self.bytes.clear();
         self.is_whole = true;
     }
+}
+
+/// Writes all these bytes. A refused or interrupted write, or one of no byte, ends it, and then only the first of them are
+/// written.
+pub fn write_out<W: Write>(writer: &mut W, bytes: &[u8]) -> Result<(), Fault>
+    ensures all { OnOk result (Appends (W.contents writer.old) (W.contents writer.new) bytes.now) }
+    ensures part { OnErr result (AppendsPart (W.contents writer.old) (W.contents writer.new) bytes.now) }
+    ensures fault { IfErr result (λ fault. fault ≡ WriteFailed) }
+{
+    let mut written = 0;
+    // Each turn that goes on writes a byte or more.
+    while written < bytes.len() {
+        match writer.write(&bytes[written..]) {
+            Ok(0) => return Err(Fault::WriteFailed),
+            Ok(count) => written += count,
+            Err(_) => return Err(Fault::WriteFailed),
+        }
+    }
+    Ok(())
 }

@@ -2,10 +2,8 @@
 #![tactic(auto)]
 
 pub mod commands;
-pub mod parsing;
 pub mod verbs;
 
-pub use commands::{HookFailure, Line, Request, TaskCommand};
-pub use parsing::parse;
+pub use commands::{HookFailure, Line, Request, TaskCommand, parse};
 pub use schedule_lines::{Fault, Front, LINE_BYTES, LINES, Output, front_of};
 pub use verbs::{Verb, VerbRow};

@@ -84,7 +84,7 @@ impl VerbRow {
 }
 
 impl Verb {
-    /// All verbs. A word is compared with one after the other, so the usual ones come first.
+    /// All verbs.
     pub const ALL: [Verb; 27] = [
         Verb::Run,
         Verb::Step,
@@ -202,11 +202,23 @@ impl Verb {
         is_word(word, self.name())
     }
 
-    /// The verb that a word names.
+    /// The verb that a word names. Most words are one of a few, with which it is compared first.
     pub fn of(word: &[u8]) -> Option<Verb>
         ensures { result ≡ verb_of word.now }
     {
-        Verb::ALL.iter().find(|verb| verb.is_named(word)).copied()
+        if is_word(word, "run") {
+            Some(Verb::Run)
+        } else if is_word(word, "step") {
+            Some(Verb::Step)
+        } else if is_word(word, "want") {
+            Some(Verb::Want)
+        } else if is_word(word, "drop") {
+            Some(Verb::Drop)
+        } else if is_word(word, "change") {
+            Some(Verb::Change)
+        } else {
+            Verb::ALL.iter().find(|verb| verb.is_named(word)).copied()
+        }
     }
 
     /// Whether the operation that it begins waits, where it may: all do but those of the verbs that begin with `try`.

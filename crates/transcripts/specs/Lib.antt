@@ -3,3 +3,6 @@ pub mod Printing
 pub mod Transcript
 pub mod Reached
 pub mod Sessions
+pub mod Replayed
+pub mod Replaying
+pub mod LineReplays

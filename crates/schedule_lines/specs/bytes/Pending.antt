@@ -1,6 +1,6 @@
 -- What was read and not yet taken.
 use Rattle.std.specs.Prelude.{ℕ, ◌-◌, List, slice_range}
-use Rattle.schedule_lines.specs.declared.bytes.input.Input.{Input}
+use Rattle.schedule_lines.specs.declared.lines.Input.{Input}
 
 -- the bytes of the block from the first not taken to the last read
 abbrev pub pending : Input → List ℕ
