@@ -5,8 +5,10 @@ those that it finds in full.
     tools/random_races.py [--races N] [--seed N] [--limit STATES] [PROGRAM]
 
 Both searches have to find the same outcomes, and the reduced one may visit no more states. The
-execution that is saved for an outcome is replayed, and has to answer what the outcome says. A race
-that has more states than the limit counts for nothing, and another one is taken. With no PROGRAM it
+execution that is saved for an outcome is replayed, and has to answer what the outcome says. Some
+calls come after one of a line before: an outcome in which nobody waits has to be one of the same
+race without that order, too. A race that has more states than the limit counts for nothing, and
+another one is taken. With no PROGRAM it
 is crates/mntgate/out/mntgate, and there are 300 races. Prints how many agree, and how many states
 were visited; or the first race that doesn't agree, and what differs: the exit status is 1 then."""
 
@@ -61,18 +63,32 @@ CALLS = [
 ANSWER = re.compile(r"^(\d+) ((?:ok|refused)\b.*)$")
 
 
+ORDER = re.compile(r"\bafter \S+ ")
+
+
+def drawn(dice, items):
+    """One of these."""
+    return items[dice.between(0, len(items) - 1)]
+
+
 def random_race(seed):
-    """A race of 2 or 3 tasks with 1 to 3 calls each, on 1 or 2 processors."""
+    """A race of 2 or 3 tasks with 1 to 3 calls each, on 1 or 2 processors. Its lines stand in an
+    order that is drawn, too, and one call of four comes after one of a line before."""
     dice = Dice(seed)
     tasks, cpus = dice.between(2, 3), dice.between(1, 2)
-    lines = [
-        f"config {tasks} {cpus} 1 3 8\n",
-        OPENINGS[dice.between(0, len(OPENINGS) - 1)],
-        "race\n",
-    ]
-    for task in range(tasks):
-        for call in CALLS[dice.between(0, len(CALLS) - 1)]:
-            lines.append(f"{task} {call}\n".replace("C", str(dice.between(0, cpus - 1))))
+    lines = [f"config {tasks} {cpus} 1 3 8\n", drawn(dice, OPENINGS), "race\n"]
+    left = {task: list(drawn(dice, CALLS)) for task in range(tasks)}
+    turns, names = [0] * tasks, []
+    while left:
+        task = drawn(dice, list(left))
+        call = left[task].pop(0).replace("C", str(dice.between(0, cpus - 1)))
+        if not call.startswith("hook"):
+            if names and dice.between(0, 3) == 0:
+                call = f"after {drawn(dice, names)} {call}"
+            names.append(f"{task}.{turns[task]}")
+            turns[task] += 1
+        lines.append(f"{task} {call}\n")
+        left = {task: calls for task, calls in left.items() if calls}
     return "".join(lines)
 
 
@@ -129,6 +145,22 @@ def wrong_executions(program, limit, race, lines):
     return None
 
 
+def wrong_orders(program, limit, race, lines):
+    """The first outcome of a race in which nobody waits, and which the same race doesn't have where
+    no call comes after another task's."""
+    free = outcomes(program, limit, ORDER.sub("", race)) if ORDER.search(race) else None
+    if free is None:
+        return None
+    return next(
+        (
+            f"{line}\nis no outcome without the order of calls"
+            for line in lines
+            if "waits" not in line and line not in free[1]
+        ),
+        None,
+    )
+
+
 def compare(program, limit, seed):
     """How many states the race of a seed has reduced and in full, and what differs; None where
     there are too many."""
@@ -139,7 +171,9 @@ def compare(program, limit, seed):
     reduced = outcomes(program, limit, race)
     if reduced is None or reduced[0] > full[0] or reduced[1] != full[1]:
         return full[0], 0, f"{race}in full: {full}\nreduced: {reduced}"
-    wrong = wrong_executions(program, limit, race, reduced[1])
+    wrong = wrong_executions(program, limit, race, reduced[1]) or wrong_orders(
+        program, limit, race, reduced[1]
+    )
     return full[0], reduced[0], wrong and race + wrong
 
 

@@ -235,7 +235,9 @@ fn tell_near(help: &mut Text, name: &str) {
 /// Returns what is printed of a word that stands where a command has to, and that only a race knows, or only in another place.
 fn misplaced(word: &[u8], is_race: bool) -> Option<&'static str> {
     let is_hook = word == b"hook".as_slice();
-    let is_prefix = word == b"if".as_slice() || word == b"retry".as_slice();
+    let is_prefix = word == b"after".as_slice()
+        || word == b"if".as_slice()
+        || word == b"retry".as_slice();
     match (is_hook, is_prefix) {
         (true, _) if is_race => Some(
             "a line 'hook' speaks of the task's last call, and has no prefix",
@@ -244,9 +246,9 @@ fn misplaced(word: &[u8], is_race: bool) -> Option<&'static str> {
             "'hook' stands behind a line 'race'; here 'T run HOOK CODE' lets a hook fail",
         ),
         (_, true) if is_race => Some(
-            "a line has 'if ok' or 'if refused' first, then 'retry', then its call",
+            "a line has 'after T.K' first, then 'if ok' or 'if refused', then 'retry', then its call",
         ),
-        (_, true) => Some("'if' and 'retry' stand behind a line 'race'"),
+        (_, true) => Some("'after', 'if' and 'retry' stand behind a line 'race'"),
         _ => None,
     }
 }

@@ -19,6 +19,18 @@ pub(crate) fn find_in_race<'a>(
         ),
         FaultKind::BranchExpected => {
             help.put("'ok' or 'refused' stands behind 'if', as in '0 if ok thaw'");
+            return Some(word_after(line, order_length(line).saturating_add(2)));
+        }
+        FaultKind::NameExpected => {
+            help.put(
+                "behind 'after' stands a call, as in '1 after 0.2 freeze': call 2 of task 0, from 0",
+            );
+            return Some(word_after(line, 2));
+        }
+        FaultKind::NoSuchCall => {
+            help.put(
+                "a call comes after one of the lines before; each task counts its calls from 0",
+            );
             return Some(word_after(line, 2));
         }
         FaultKind::NoCallBefore => help.put(
@@ -40,9 +52,20 @@ fn word_or_first<'a>(line: &'a [u8], before: usize) -> Place<'a> {
     }
 }
 
-/// Returns how many words stand between the task of a line and its command: `if ok`, `if refused` and `retry`.
+/// Returns how many words `after T.K` has on a line, behind its task: none if it isn't there.
+fn order_length(line: &[u8]) -> usize {
+    if is_word_at(line, 1, b"after") { 2 } else { 0 }
+}
+
+/// Returns how many words stand between the task of a line and its command: `after T.K`, `if ok`,
+/// `if refused` and `retry`.
 pub(crate) fn prefix_length(line: &[u8]) -> usize {
-    let branch: usize = if is_word_at(line, 1, b"if") { 2 } else { 0 };
+    let order = order_length(line);
+    let branch = if is_word_at(line, order.saturating_add(1), b"if") {
+        order.saturating_add(2)
+    } else {
+        order
+    };
     let next = branch.saturating_add(1);
     if is_word_at(line, next, b"retry") {
         next

@@ -6,7 +6,7 @@ use Rattle.exploration.proofs.Pulled.{first_move, nowhere}
 use Rattle.exploration.specs.Schedules.{LeadsTo}
 use Rattle.gate_world.specs.{declared.config.Config.{Config}, Worlds.{World}}
 use Rattle.races.specs.declared.calls.Call.{Call}
-use Rattle.races.specs.Races.{RaceStateIn, next_of_world}
+use Rattle.races.specs.Races.{RaceStateIn, move_of_world}
 use Rattle.histories.specs.declared.markers.Marker.{Marker}
 use Rattle.histories.specs.{Executions.{Has, IsAdmitted, beginning}, Histories.{HistoryStateIn, after_marker, marked, may_come, next_by, task_of, under_way}}
 
@@ -50,7 +50,7 @@ module _ {M : Type 0} (next : List (List (Option Call)) → RaceStateIn M → �
 module _ (c : Config) (markers : List Marker) (w : World) where
   pub few_passed : (n : ℕ) → Has c markers w n → n ≤ length markers
   few_passed n (ms, to, plays, is) =
-      let few = all_moves (next_of_world c) c.tasks markers (c.tasks + 1) ms (beginning c w) to plays (omega arith) in
+      let few = all_moves (move_of_world c) c.tasks markers (c.tasks + 1) ms (beginning c w) to plays (omega arith) in
       omega (arith, is, few)
 
   -- an execution with as many markers as there are has all

@@ -81,7 +81,7 @@ fails (Some call) = is_some call.failure
 
 abbrev pub with_failure : HookFailure → Option Call → Option Call
 with_failure failure None = None
-with_failure failure (Some call) = Some (record { op = call.op; failure = Some failure; when = call.when; retries = call.retries })
+with_failure failure (Some call) = Some (record { op = call.op; failure = Some failure; when = call.when; retries = call.retries; after = call.after })
 
 -- so many operations from a place on
 unfoldable pub failing_from : ℕ → ℕ → HookFailure → List (Option Call) → List (Option Call)

@@ -1,8 +1,8 @@
 //! What the tasks of a race call.
 
-ghost use Rattle.std.specs.Prelude.{◌≡◌, ◌≤◌, ◌⊎◌, is_none, length, Some, Ok, Err, IfOk, IfErr, OnOk};
+ghost use Rattle.std.specs.Prelude.{◌≡◌, ◌≤◌, ◌⊎◌, [], is_none, length, None, Some, Ok, Err, IfOk, IfErr, OnOk, slice_index_or};
 ghost use Rattle.std.specs.List.{position};
-ghost use Rattle.race_files.specs.Calls.{no_calls, count_of, is_unconditional, with_call, with_failure, added, failing, as_run, begin_line, hook_line, prefixed_line, calls_after};
+ghost use Rattle.race_files.specs.Calls.{no_calls, count_of, is_named, is_unconditional, with_call, with_failure, added, failing, as_run, begin_line, hook_line, prefixed_line, calls_after};
 ghost use Rattle.race_files.specs.Prefixes.{without_prefix};
 ghost use Rattle.race_files.specs.Faults.{IsToldOrMemory};
 ghost use Rattle.race_files.specs.Left.{calls_left, left_in, line_count};
@@ -14,8 +14,11 @@ ghost use Rattle.access_model.specs.declared.errors.GateError.TheVariants.{NoMem
 
 use crate::faults::RaceFault;
 use crate::lines::{Lines, is_claim, is_race};
-use crate::prefixes::{Prefix, command_at, has_prefix, print_without_prefix, retries_at, when_at};
-use races::{CALLS, Call, Race, When};
+use crate::prefixes::{
+    Prefix, after_at, behind_after, command_at, has_prefix, print_without_prefix, retries_at,
+    when_at,
+};
+use races::{CALLS, Call, CallName, Race, When};
 use schedule_lines::words::{after_word, first_word};
 use schedule_text::{Fault, HookFailure, Line, Output, Request, TaskCommand, parse};
 use std::alloc::{AllocError, Global};
@@ -66,11 +69,11 @@ impl Calls {
     }
 
     /// A call of a task; None where it has no such call.
-    pub fn call(&self, task: u8, turn: u8) -> Option<Call> {
-        match self.race.calls.get(usize::from(task)) {
-            Some(calls) if usize::from(turn) < CALLS => calls[usize::from(turn)],
-            _ => None,
-        }
+    pub fn call(&self, task: u8, turn: u8) -> Option<Call>
+        ensures { result ≡ slice_index_or (slice_index_or self.now.race.calls.items task []) turn None }
+    {
+        let calls = self.race.calls_of(task)?;
+        *calls.get(usize::from(turn))?
     }
 
     /// The line by which a task begins a call; empty where it has no such call.
@@ -105,14 +108,15 @@ impl Calls {
         self.read_call(alloc, Prefix::none(), line)
     }
 
-    /// Reads a line that has `if ok`, `if refused` or `retry` before its command.
+    /// Reads a line that has `after T.K`, `if ok`, `if refused` or `retry` before its command.
     #[tactic(auto, unfolding(crate::specs::Calls::prefixed_line))]
     fn read_prefixed(&mut self, alloc: Global, line: &[u8]) -> Result<(), RaceFault>
         ensures tasks { self.new.race.tasks ≡ self.old.race.tasks }
         ensures read { OnOk result (prefixed_line self.old.race.tasks self.old.race.calls.items line.now ≡ Ok self.new.race.calls.items) }
         ensures fault { IfErr result (IsToldOrMemory (prefixed_line self.old.race.tasks self.old.race.calls.items line.now)) }
     {
-        let rest = after_word(line);
+        let after = after_at(after_word(line))?;
+        let rest = behind_after(after_word(line));
         let Some(when) = when_at(rest) else {
             return Err(RaceFault::BranchExpected);
         };
@@ -122,6 +126,7 @@ impl Calls {
         let prefix = Prefix {
             when,
             retries: retries_at(rest),
+            after,
         };
         let plain = plain_line(alloc, line).map_err(no_memory)?;
         self.read_call(alloc, prefix, plain.as_slice())
@@ -178,6 +183,9 @@ impl Calls {
         ensures read { OnOk result (added self.old.race.calls.items task call ≡ Ok self.new.race.calls.items) }
         ensures fault { IfErr result (IsToldOrMemory (added self.old.race.calls.items task call)) }
     {
+        if !self.is_named(call.after) {
+            return Err(RaceFault::NoSuchCall);
+        }
         let Some(calls) = self.race.calls.get_mut(usize::from(task)) else {
             return Err(RaceFault::Schedule(Fault::NoSuchTask));
         };
@@ -185,6 +193,16 @@ impl Calls {
         *calls = with_call(*calls, call)?;
         self.keep(alloc, task, turn, line).map_err(no_memory)?;
         Ok(())
+    }
+
+    /// Whether the call that a call comes after stands among these, if it comes after one.
+    fn is_named(&self, after: Option<CallName>) -> bool
+        ensures { result ≡ is_named self.now.race.calls.items after }
+    {
+        match after {
+            Some(name) => self.call(name.task, name.turn).is_some(),
+            None => true,
+        }
     }
 
     /// Keeps the line by which a task begins a call.

@@ -17,7 +17,8 @@ pub enum RaceFault {
     RaceTwice,
     /// An operation is under way at the line `race`.
     UnderWay,
-    /// After `race`: neither a call nor a hook, a hook of a task that has no call yet, or no call behind `if ok`, `if refused` or `retry`.
+    /// After `race`: neither a call nor a hook, a hook of a task that has no call yet, or no call
+    /// behind `after`, `if ok`, `if refused` or `retry`.
     CallExpected,
     /// A ninth call of a task.
     TooManyCalls,
@@ -27,6 +28,10 @@ pub enum RaceFault {
     BranchExpected,
     /// `if` before a task's first call.
     NoCallBefore,
+    /// `after` without `T.K` behind it.
+    NameExpected,
+    /// `after` a call that stands in no line before.
+    NoSuchCall,
 }
 
 impl RaceFault {
@@ -46,6 +51,8 @@ impl RaceFault {
             RaceFault::HookTwice => FaultKind::HookTwice,
             RaceFault::BranchExpected => FaultKind::BranchExpected,
             RaceFault::NoCallBefore => FaultKind::NoCallBefore,
+            RaceFault::NameExpected => FaultKind::NameExpected,
+            RaceFault::NoSuchCall => FaultKind::NoSuchCall,
         }
     }
 

@@ -2,7 +2,7 @@
 use Rattle.std.specs.Prelude.{ℕ, List, codes}
 use Rattle.schedule_lines.specs.declared.faults.{Fault.{Fault}, FaultKind.{FaultKind}}
 use Rattle.schedule_lines.specs.declared.faults.Fault.TheVariants.{TooManyLines, LineTooLong, CutOff, ConfigExpected, ConfigTwice, UnknownCommand, WrongNumberOfWords, NoSuchTask, BadNumber, BadWord, ReadFailed, WriteFailed, Refused}
-use Rattle.schedule_lines.specs.declared.faults.FaultKind.TheVariants.{Schedule, RaceExpected, RaceTwice, UnderWay, CallExpected, TooManyCalls, HookTwice, BranchExpected, NoCallBefore, HistoryExpected, NothingUnderWay, BadAnswer}
+use Rattle.schedule_lines.specs.declared.faults.FaultKind.TheVariants.{Schedule, RaceExpected, RaceTwice, UnderWay, CallExpected, TooManyCalls, HookTwice, BranchExpected, NoCallBefore, NameExpected, NoSuchCall, HistoryExpected, NothingUnderWay, BadAnswer}
 
 -- the text that is printed of a fault of a schedule
 abbrev pub text_of : Fault → List ℕ
@@ -31,6 +31,8 @@ kind_text TooManyCalls = codes "too many calls"
 kind_text HookTwice = codes "hook twice"
 kind_text BranchExpected = codes "ok or refused expected"
 kind_text NoCallBefore = codes "no call before"
+kind_text NameExpected = codes "T.K expected"
+kind_text NoSuchCall = codes "no such call before"
 kind_text HistoryExpected = codes "history expected"
 kind_text NothingUnderWay = codes "nothing under way"
 kind_text BadAnswer = codes "bad answer"

@@ -49,7 +49,8 @@ pub enum FaultKind {
     RaceTwice,
     /// An operation is under way at the line `race` or `history`, or a task's last call at its next one.
     UnderWay,
-    /// After `race`: neither a call nor a hook, a hook of a task that has no call yet, or no call behind `if ok`, `if refused` or `retry`.
+    /// After `race`: neither a call nor a hook, a hook of a task that has no call yet, or no call
+    /// behind `after`, `if ok`, `if refused` or `retry`.
     CallExpected,
     /// A ninth call of a task, or a ninth operation of a call.
     TooManyCalls,
@@ -59,6 +60,10 @@ pub enum FaultKind {
     BranchExpected,
     /// `if` before a task's first call.
     NoCallBefore,
+    /// `after` without `T.K` behind it.
+    NameExpected,
+    /// `after` a call that stands in no line before.
+    NoSuchCall,
     /// The input ends with no line `history`, or has a line `race` before it.
     HistoryExpected,
     /// A return, or a hook, of a task that has no call under way.
@@ -105,6 +110,8 @@ impl FaultKind {
             FaultKind::HookTwice => "hook twice",
             FaultKind::BranchExpected => "ok or refused expected",
             FaultKind::NoCallBefore => "no call before",
+            FaultKind::NameExpected => "T.K expected",
+            FaultKind::NoSuchCall => "no such call before",
             FaultKind::HistoryExpected => "history expected",
             FaultKind::NothingUnderWay => "nothing under way",
             FaultKind::BadAnswer => "bad answer",
