@@ -1,14 +1,12 @@
 -- What comes after each step of a callback's line.
-use Rattle.std.proofs.Common.{◌≡◌, ℕ, refl, sym, ap}
-use Rattle.std.specs.Prelude.{Some, None, Ok, Bool, true, false}
-use Rattle.access_model.specs.declared.replies.{Next.{Next, TheVariants.{Go, Done}}, Reply.TheVariants.{Ran}}
+use Rattle.call_ends.proofs.Prelude.{Bool, Go, None, Ok, Some, ap, false, refl, sym, true, ℕ, ◌≡◌}
+use Rattle.call_ends.{proofs.Closing.{other_number, same_number}, specs.CallingBack.{called_or, calling_at, of_callback, sections_ended}}
+use Rattle.access_model.specs.declared.replies.{Next.{Next, TheVariants.Done}, Reply.TheVariants.Ran}
 use Rattle.gate_world.specs.Work.{after_of}
-use Rattle.percpu_rwsem.specs.{Graces.{looked, started}, SyncWords.{on_callback, on_claim, pack, unpack}}
-use Rattle.percpu_rwsem.specs.declared.callbacks.{Callback.{Callback}, CallbackStep.TheVariants.{AwaitsSections, CallsBack, Claims}}
-use Rattle.percpu_rwsem.specs.declared.grace.{Grace.{Grace}, GraceNext.TheVariants.{More, Wait as WaitsFor, Ended}}
-use Rattle.percpu_rwsem.specs.declared.{sync_word.SyncWord.{SyncWord}, transitions.Transition.TheVariants.{Loads, Exchanges}}
-use Rattle.call_ends.specs.CallingBack.{called_or, calling_at, of_callback, sections_ended}
-use Rattle.call_ends.proofs.Closing.{same_number, other_number}
+use Rattle.percpu_rwsem.specs.{Graces.{looked, started}, SyncWords.{on_callback, on_claim, pack, unpack}, declared.callbacks.Callback.Callback}
+use Rattle.percpu_rwsem.specs.declared.{callbacks.CallbackStep.TheVariants.{AwaitsSections, CallsBack, Claims}, grace.Grace.Grace}
+use Rattle.percpu_rwsem.specs.declared.{grace.GraceNext.TheVariants.{Ended, More, Wait as WaitsFor}, sync_word.SyncWord.SyncWord}
+use Rattle.percpu_rwsem.specs.declared.transitions.Transition.TheVariants.{Exchanges, Loads}
 
 module _ (level tasks : ℕ) where
   -- the claim

@@ -1,23 +1,19 @@
 -- What comes after each step of the closing of a level.
-use Rattle.std.proofs.Common.{◌≡◌, ℕ, ◌-◌, ◌<◌, Bool, true, false, refl, sym, ap, ◌∙◌, arith}
-use Rattle.std.specs.Prelude.{Some, None, Ok, ◌==◌, if◌then◌else◌}
-use Rattle.access_model.specs.declared.{actions.Action.TheVariants.{Clean}, replies.Next.{Next, TheVariants.{Go, Wait, Done}}}
-use Rattle.access_model.specs.declared.replies.Reply.{TheVariants.{Unit as UnitReply}}
-use Rattle.cpu_words.specs.{Hooks.{HookAnswer}, Sums.{sum_taking}, declared.sums.{Sum.{Sum}}}
-use Rattle.cpu_words.specs.declared.sums.Taken.TheVariants.{More as MoreWords, Total}
-use Rattle.freeze_levels.specs.{Freezes.{after_closing, at_freeze, level_closed}, Levels.{closing}, declared.freezes.Freeze.{Freeze}}
-use Rattle.freeze_levels.specs.declared.freezes.FreezeStep.{FreezeStep, TheVariants.{Closes, Cleans, Locks, LocksAgain, LoadsStage}}
-use Rattle.freeze_levels.specs.declared.freezes.FreezeStep.TheVariants.{LoadsSuperblock, SetsWrite, SetsPageFault, SetsFs, SetsComplete}
-use Rattle.gate_world.specs.{declared.work.Phase.TheVariants.{Freezes}, Accesses.{accesses_after}, Work.{after_of}}
-use Rattle.gate_world.specs.declared.accesses.Accesses.{Accesses}
-use Rattle.node_words.specs.{Nodes.{dirty_in, node_after}, declared.marks.ClearMarks.{ClearMarks}}
-use Rattle.percpu_rwsem.specs.{Graces.{looked}, SyncWords.{on_enter, on_callback, pack, unpack}}
-use Rattle.percpu_rwsem.specs.{Writers.{at_down_write, entered_from, sum_begun}, declared.grace.Grace.{Grace}}
-use Rattle.percpu_rwsem.specs.declared.{grace.GraceNext.TheVariants.{More, Wait as WaitsFor, Ended}, sync_word.SyncWord.{SyncWord}}
-use Rattle.percpu_rwsem.specs.declared.{transitions.Transition.{Transition, TheVariants.{Loads, Exchanges}}, writers.DownWrite.{DownWrite}}
-use Rattle.percpu_rwsem.specs.declared.writers.DownWriteStep.{DownWriteStep}
-use Rattle.percpu_rwsem.specs.declared.writers.DownWriteStep.TheVariants.{Enters, AwaitsSections, CallsBack, SetsBlock, Sums}
-use Rattle.call_ends.specs.Closings.{closed_or, closing_at, waiting_at, awaited, summed, of_freeze, standing}
+use Rattle.call_ends.proofs.Prelude.{Accesses, Bool, Go, None, Ok, Some, ap, arith, closing_at, false, refl, standing, sym, true, ℕ, ◌-◌, ◌∙◌, ◌≡◌}
+use Rattle.call_ends.specs.Closings.{awaited, closed_or, of_freeze, summed, waiting_at}
+use Rattle.std.{proofs.Common.◌<◌, specs.Prelude.{if◌then◌else◌, ◌==◌}}
+use Rattle.access_model.specs.declared.{actions.Action.TheVariants.Clean, replies.Next.{Next, TheVariants.{Done, Wait}}}
+use Rattle.access_model.specs.declared.replies.Reply.TheVariants.{Unit as UnitReply}
+use Rattle.cpu_words.specs.{Hooks.HookAnswer, Sums.sum_taking, declared.sums.{Sum.Sum, Taken.TheVariants.{More as MoreWords, Total}}}
+use Rattle.freeze_levels.specs.{Freezes.{after_closing, at_freeze, level_closed}, Levels.closing, declared.freezes.Freeze.Freeze}
+use Rattle.freeze_levels.specs.declared.freezes.FreezeStep.{FreezeStep, TheVariants.{Cleans, Closes, LoadsStage, LoadsSuperblock, Locks, LocksAgain}}
+use Rattle.freeze_levels.specs.declared.freezes.FreezeStep.TheVariants.{SetsComplete, SetsFs, SetsPageFault, SetsWrite}
+use Rattle.gate_world.specs.{Accesses.accesses_after, Work.after_of, declared.work.Phase.TheVariants.Freezes}
+use Rattle.node_words.specs.{Nodes.{dirty_in, node_after}, declared.marks.ClearMarks.ClearMarks}
+use Rattle.percpu_rwsem.specs.{Graces.looked, SyncWords.{on_callback, on_enter, pack, unpack}, Writers.{at_down_write, entered_from, sum_begun}}
+use Rattle.percpu_rwsem.specs.declared.{grace.{Grace.Grace, GraceNext.TheVariants.{Ended, More, Wait as WaitsFor}}, sync_word.SyncWord.SyncWord}
+use Rattle.percpu_rwsem.specs.declared.{transitions.Transition.{TheVariants.{Exchanges, Loads}, Transition}, writers.DownWrite.DownWrite}
+use Rattle.percpu_rwsem.specs.declared.writers.DownWriteStep.{DownWriteStep, TheVariants.{AwaitsSections, CallsBack, Enters, SetsBlock, Sums}}
 
 -- equal numbers are found equal, and others not
 pub same_number : (a b : ℕ) → a ≡ b → (a == b) ≡ true

@@ -1,14 +1,12 @@
 -- The first two steps of a taking of write access, whose words are known.
-use Rattle.std.proofs.Common.{◌≡◌, ℕ, sym, ap, ◌∙◌, subst}
-use Rattle.std.specs.Prelude.{Option, None, Ok}
-use Rattle.access_model.specs.declared.replies.Next.{Next, TheVariants.{Go}}
-use Rattle.composite_ops.specs.declared.write_access.phases.WritePhase.{WritePhase}
-use Rattle.gate_world.specs.declared.{accesses.Accesses.Accesses, operations.Op.Op, work.Phase.Phase}
-use Rattle.gate_world.specs.{declared.work.Phase.TheVariants.{Writes}, Work.{after_of}}
-use Rattle.percpu_rwsem.specs.declared.readers.DownReadStep.TheVariants.{EntersSection, LoadsSync, CountsUpFast}
-use Rattle.gate_steps.specs.{declared.call_events.words.GateWords.{GateWords}, call_events.Led.{Led, TaskSeat}}
-use Rattle.gate_steps.proofs.call_events.Leading.{led_on, led_to}
+use Rattle.call_ends.proofs.Prelude.{Accesses, Go, Led, None, Ok, Op, ap, led_on, led_to, subst, sym, ℕ, ◌∙◌, ◌≡◌}
 use Rattle.call_ends.specs.Paths.{taking_at}
+use Rattle.std.specs.Prelude.{Option}
+use Rattle.access_model.specs.declared.replies.Next.{Next}
+use Rattle.composite_ops.specs.declared.write_access.phases.WritePhase.{WritePhase}
+use Rattle.gate_world.specs.{Work.after_of, declared.work.Phase.{Phase, TheVariants.Writes}}
+use Rattle.percpu_rwsem.specs.declared.readers.DownReadStep.TheVariants.{CountsUpFast, EntersSection, LoadsSync}
+use Rattle.gate_steps.specs.{call_events.Led.TaskSeat, declared.call_events.words.GateWords.GateWords}
 
 -- what comes after a step of a taking or a return that stood there
 abbrev after_step : WritePhase → ℕ → Next Phase

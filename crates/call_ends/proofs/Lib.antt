@@ -1,3 +1,4 @@
+pub mod Prelude
 pub mod Closing
 pub mod CallingBack
 pub mod Remounting

@@ -1,14 +1,13 @@
 -- How many steps came to a wait, one after the other.
-use Rattle.std.proofs.Common.{◌≡◌, ℕ, ◌+◌, ◌-◌, ◌^◌, min, arith, ap, sym, subst, ◌∙◌}
-use Rattle.std.specs.Prelude.{Some, None, Result}
+use Rattle.call_ends.proofs.Prelude.{Go, None, Op, Some, ap, arith, subst, sym, ℕ, ◌-◌, ◌∙◌, ◌≡◌}
+use Rattle.std.{proofs.Common.{min, ◌+◌, ◌^◌}, specs.Prelude.Result}
 use Rattle.atomic_table.specs.Seated.{TableId}
-use Rattle.access_model.specs.declared.{errors.GateError.{GateError}, replies.{Next.{Next, TheVariants.{Go, Wait, Done}}, Reply.{Reply}}}
+use Rattle.access_model.specs.declared.{errors.GateError.GateError, replies.{Next.{Next, TheVariants.{Done, Wait}}, Reply.Reply}}
 use Rattle.cpu_words.specs.Hooks.{HookAnswer}
 use Rattle.freeze_levels.specs.declared.hooks.HookCall.{HookCall}
-use Rattle.gate_world.specs.{Views.{phase_after}, declared.{config.Config.{Config}, operations.Op.{Op}, work.Phase.{Phase}}}
-use Rattle.gate_steps.specs.{Seating.{DealtNumbers}, declared.seating.Knowledge.{Knowledge}}
-use Rattle.gate_steps.specs.call_events.Asking.{CalledAsking, OpUnderWayAsking, OpAfterStepAsking, WereAsked}
-use Rattle.gate_steps.specs.call_events.{SeatedTasks.{SeatedTask, task_state}, Waited.{counted}}
+use Rattle.gate_world.specs.{Views.phase_after, declared.{config.Config.Config, work.Phase.Phase}}
+use Rattle.gate_steps.specs.{Seating.DealtNumbers, call_events.Asking.{CalledAsking, OpAfterStepAsking, OpUnderWayAsking, WereAsked}}
+use Rattle.gate_steps.specs.{call_events.{SeatedTasks.{SeatedTask, task_state}, Waited.counted}, declared.seating.Knowledge.Knowledge}
 
 -- a count that stands still at its end is of a sum the same
 counted_more : (n : ℕ) → counted (counted n + 1) ≡ counted (n + 1)

@@ -1,6 +1,5 @@
 -- each step goes on from what the one before it left
-use Rattle.std.proofs.Common.{sym, ◌∙◌}
-use Rattle.gate_steps.proofs.call_events.Leading.{led_on, led_to, still_stands}
+use Rattle.call_ends.proofs.Prelude.{led_on, led_to, still_stands, sym, ◌∙◌}
 use Rattle.call_ends.proofs.CallingBack.{called_false, called_true, claimed_not, claimed_so, claims_on}
 use Rattle.call_ends.proofs.callbacks.callback_first.Goals as goal
 

@@ -1,5 +1,5 @@
 -- the transition goes on from the grace period
-use Rattle.gate_steps.proofs.call_events.Leading.{led_on, still_stands}
+use Rattle.call_ends.proofs.Prelude.{led_on, still_stands}
 use Rattle.call_ends.proofs.callbacks.run_callback.Goals as goal
 
 pub call_back-requires : goal.call_back-requires

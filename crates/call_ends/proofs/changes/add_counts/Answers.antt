@@ -1,5 +1,5 @@
 -- each load of the sum goes on from what the one before it left
-use Rattle.gate_steps.proofs.call_events.Leading.{led_nowhere, led_on, still_stands}
+use Rattle.call_ends.proofs.Prelude.{led_nowhere, led_on, still_stands}
 use Rattle.call_ends.specs.Paths.{of_change}
 use Rattle.call_ends.proofs.changes.add_counts.Goals as goal
 

@@ -1,6 +1,5 @@
 -- Each step of the line goes on from what the one before it left.
-use Rattle.std.specs.Prelude.{None}
-use Rattle.gate_steps.specs.call_events.{Led.{Led}}
+use Rattle.call_ends.proofs.Prelude.{Led, None}
 use Rattle.call_ends.specs.Paths.{of_change}
 use Rattle.call_ends.proofs.changes.add_counts.Given as goal
 

@@ -1,7 +1,5 @@
 -- each step of the line goes on from what the one before it left
-use Rattle.std.proofs.Common.{refl}
-use Rattle.std.specs.Prelude.{Ok}
-use Rattle.gate_steps.proofs.call_events.Leading.{led_on, led_once, seated_stands, still_stands}
+use Rattle.call_ends.proofs.Prelude.{Ok, led_on, led_once, refl, seated_stands, still_stands}
 use Rattle.call_ends.proofs.changes.begin_change.Goals as goal
 
 pub step_if_at-next-requires : goal.step_if_at-next-requires

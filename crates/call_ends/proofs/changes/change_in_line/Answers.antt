@@ -1,5 +1,5 @@
 -- each part of the line goes on from what the one before it left
-use Rattle.gate_steps.proofs.call_events.Leading.{led_on, still_stands}
+use Rattle.call_ends.proofs.Prelude.{led_on, still_stands}
 use Rattle.call_ends.proofs.changes.change_in_line.Goals as goal
 
 pub add_counts-next-requires : goal.add_counts-next-requires

@@ -1,9 +1,7 @@
 -- each load goes on from what the one before it left
-use Rattle.access_model.specs.declared.replies.Next.TheVariants.{Go}
+use Rattle.call_ends.proofs.Prelude.{Go, closing_at, led_nowhere, led_on, led_to, still_stands}
+use Rattle.call_ends.proofs.Closing.{fewer_tasks, looks_in_vain, looks_last, looks_on}
 use Rattle.percpu_rwsem.specs.declared.writers.DownWriteStep.TheVariants.{AwaitsSections}
-use Rattle.call_ends.specs.Closings.{closing_at}
-use Rattle.gate_steps.proofs.call_events.Leading.{led_on, led_to, led_nowhere, still_stands}
-use Rattle.call_ends.proofs.Closing.{looks_on, looks_in_vain, looks_last, fewer_tasks}
 use Rattle.call_ends.proofs.closings.await_sections.Goals as goal
 
 pub loop-further-init : goal.loop-further-init

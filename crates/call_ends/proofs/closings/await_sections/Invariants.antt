@@ -1,10 +1,6 @@
 -- the loads have led to the grace period as far as it has come
-use Rattle.std.proofs.Common.{◌-◌}
-use Rattle.std.specs.Prelude.{None}
-use Rattle.access_model.specs.declared.replies.Next.TheVariants.{Go}
+use Rattle.call_ends.proofs.Prelude.{Go, Led, None, closing_at, ◌-◌}
 use Rattle.percpu_rwsem.specs.declared.writers.DownWriteStep.TheVariants.{AwaitsSections}
-use Rattle.call_ends.specs.Closings.{closing_at}
-use Rattle.gate_steps.specs.call_events.Led.{Led}
 use Rattle.call_ends.proofs.closings.await_sections.Given as goal
 
 abbrev pub invariant-loop-further : goal.invariant-loop-further

@@ -1,6 +1,5 @@
 -- the sum goes on from the exchange
-use Rattle.std.proofs.Common.{arith, sym, ◌∙◌}
-use Rattle.gate_steps.proofs.call_events.Leading.{led_on, led_to, still_stands}
+use Rattle.call_ends.proofs.Prelude.{arith, led_on, led_to, still_stands, sym, ◌∙◌}
 use Rattle.call_ends.proofs.Closing.{blocked, blocks}
 use Rattle.call_ends.proofs.closings.block.Goals as goal
 

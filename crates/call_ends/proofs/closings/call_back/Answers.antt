@@ -1,7 +1,6 @@
 -- the exchange goes on from the load
-use Rattle.std.proofs.Common.{sym, ◌∙◌}
-use Rattle.gate_steps.proofs.call_events.Leading.{led_on, led_to, still_stands}
-use Rattle.call_ends.proofs.Closing.{calls_on, called_so, called_not}
+use Rattle.call_ends.proofs.Prelude.{led_on, led_to, still_stands, sym, ◌∙◌}
+use Rattle.call_ends.proofs.Closing.{called_not, called_so, calls_on}
 use Rattle.call_ends.proofs.closings.call_back.Goals as goal
 
 pub find-found-requires-clause-stands : goal.find-found-requires-clause-stands

@@ -1,9 +1,6 @@
 -- the exchange goes on from the load
-use Rattle.std.proofs.Common.{sym, ap, ◌∙◌}
-use Rattle.access_model.specs.declared.replies.Next.TheVariants.{Go}
-use Rattle.call_ends.specs.Closings.{closing_at}
-use Rattle.gate_steps.proofs.call_events.Leading.{led_on, led_to, still_stands}
-use Rattle.call_ends.proofs.Closing.{enters_on, entered_so, entered_not}
+use Rattle.call_ends.proofs.Prelude.{Go, ap, closing_at, led_on, led_to, still_stands, sym, ◌∙◌}
+use Rattle.call_ends.proofs.Closing.{entered_not, entered_so, enters_on}
 use Rattle.call_ends.proofs.closings.enter.Goals as goal
 
 pub find-found-requires-clause-stands : goal.find-found-requires-clause-stands

@@ -1,10 +1,7 @@
 -- each part goes on from where the closing stands
-use Rattle.std.proofs.Common.{sym}
-use Rattle.access_model.specs.declared.replies.Next.TheVariants.{Go}
+use Rattle.call_ends.proofs.Prelude.{Go, closing_at, led_from, led_nowhere, led_to, stands_from, sym}
+use Rattle.call_ends.proofs.Closing.{closing_enters, closing_stands}
 use Rattle.percpu_rwsem.specs.declared.writers.DownWriteStep.TheVariants.{AwaitsSections, Enters, SetsBlock, Sums}
-use Rattle.call_ends.specs.Closings.{closing_at}
-use Rattle.gate_steps.proofs.call_events.Leading.{led_from, led_nowhere, led_to, stands_from}
-use Rattle.call_ends.proofs.Closing.{closing_stands, closing_enters}
 use Rattle.call_ends.proofs.closings.go_on_closing.Goals as goal
 
 pub close_level-requires : goal.close_level-requires

@@ -1,8 +1,5 @@
 -- each part goes on from what the one before it left
-use Rattle.std.proofs.Common.{ap, sym}
-use Rattle.access_model.specs.declared.replies.Next.TheVariants.{Go}
-use Rattle.call_ends.specs.Closings.{closing_at}
-use Rattle.gate_steps.proofs.call_events.Leading.{led_on, led_to, still_stands}
+use Rattle.call_ends.proofs.Prelude.{Go, ap, closing_at, led_on, led_to, still_stands, sym}
 use Rattle.call_ends.proofs.closings.pass.Goals as goal
 
 pub call_back-requires : goal.call_back-requires

@@ -1,6 +1,5 @@
 -- after the last load the level is closed, or the sum begins anew
-use Rattle.std.proofs.Common.{sym, ◌∙◌}
-use Rattle.gate_steps.proofs.call_events.Leading.{led_to}
+use Rattle.call_ends.proofs.Prelude.{led_to, sym, ◌∙◌}
 use Rattle.call_ends.proofs.Closing.{all_summed, some_summed}
 use Rattle.call_ends.proofs.closings.sum.Goals as goal
 

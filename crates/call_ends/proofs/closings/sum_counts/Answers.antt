@@ -1,9 +1,7 @@
 -- each load goes on from what the one before it left
-use Rattle.access_model.specs.declared.replies.Next.TheVariants.{Go}
+use Rattle.call_ends.proofs.Prelude.{Go, closing_at, led_nowhere, led_on, led_to, still_stands}
+use Rattle.call_ends.proofs.Closing.{fewer_words, sums_last, sums_on}
 use Rattle.percpu_rwsem.specs.declared.writers.DownWriteStep.TheVariants.{Sums}
-use Rattle.call_ends.specs.Closings.{closing_at}
-use Rattle.gate_steps.proofs.call_events.Leading.{led_on, led_to, led_nowhere, still_stands}
-use Rattle.call_ends.proofs.Closing.{sums_on, sums_last, fewer_words}
 use Rattle.call_ends.proofs.closings.sum_counts.Goals as goal
 
 pub loop-further-init : goal.loop-further-init

@@ -1,9 +1,7 @@
 -- each step goes on from what the one before it left, and fewer are left
-use Rattle.std.proofs.Common.{refl, ap, ◌∙◌}
-use Rattle.std.specs.Prelude.{None}
-use Rattle.access_model.specs.Replies.{map_next}
+use Rattle.call_ends.proofs.Prelude.{None, ap, map_next, refl, ◌∙◌}
 use Rattle.gate_world.specs.Views.{phase_after}
-use Rattle.gate_steps.proofs.call_events.{Onward.{stands_at, done_at, goes_so, tries_so, falls_so, agrees_so, called_so}, Turning.{went_so}}
+use Rattle.gate_steps.proofs.call_events.{Onward.{agrees_so, called_so, done_at, falls_so, goes_so, stands_at, tries_so}, Turning.went_so}
 use Rattle.call_ends.proofs.ends.run_to_reply.Goals as goal
 
 pub loop-answer-init : goal.loop-answer-init

@@ -1,10 +1,8 @@
 -- Each step goes on from what the one before it left, and fewer are left.
-use Rattle.std.proofs.Common.{◌≡◌, ℕ, Bool, List}
-use Rattle.std.specs.Prelude.{Some}
-use Rattle.gate_world.specs.declared.operations.Op.{Op}
-use Rattle.gate_steps.specs.call_events.{SeatedTasks.{SeatedTask, task_state}, GhostAgrees.{GhostAgrees}, Turns.{state_at, StateAgrees}}
-use Rattle.gate_steps.specs.call_events.Runs.{OpUnderWay, IsTrying}
-use Rattle.gate_steps.proofs.call_events.Running.{events_left}
+use Rattle.call_ends.proofs.Prelude.{Bool, Op, Some, ℕ, ◌≡◌}
+use Rattle.std.proofs.Common.{List}
+use Rattle.gate_steps.{proofs.call_events.Running.events_left, specs.call_events.{GhostAgrees.GhostAgrees, Runs.{IsTrying, OpUnderWay}}}
+use Rattle.gate_steps.specs.call_events.{SeatedTasks.{SeatedTask, task_state}, Turns.{StateAgrees, state_at}}
 use Rattle.call_ends.proofs.ends.run_to_reply.Given as goal
 
 abbrev pub invariant-loop-answer : goal.invariant-loop-answer

@@ -1,12 +1,11 @@
 -- each step goes on from what the one before it left
-use Rattle.std.proofs.Common.{◌≡◌, ℕ, ◌+◌, refl, sym, ap, ◌∙◌, subst}
-use Rattle.std.specs.Prelude.{Some, None}
-use Rattle.access_model.specs.{Replies.{map_next}, declared.replies.Next.TheVariants.{Go, Wait}}
-use Rattle.gate_world.specs.{Views.{phase_after}, declared.operations.Op.{Op}}
-use Rattle.gate_steps.specs.call_events.{Asking.{OpUnderWayAsking, OpAfterStepAsking}, SeatedTasks.{SeatedTask}}
-use Rattle.gate_steps.specs.call_events.{Led.{StaysSeated, seated_at}, Waited.{counted}}
-use Rattle.gate_steps.proofs.call_events.Leading.{seated_as, seated_nowhere, seated_on, seated_stands, stands_as}
-use Rattle.call_ends.proofs.{Waited.{one_more, going_on, replied, waiting_on}, ends.step_waiting.Goals.{in-Go, in-Wait}}
+use Rattle.call_ends.proofs.Prelude.{Go, None, Op, Some, ap, map_next, refl, seated_stands, subst, sym, ℕ, ◌∙◌, ◌≡◌}
+use Rattle.call_ends.proofs.{Waited.{going_on, one_more, replied, waiting_on}, ends.step_waiting.Goals.{in-Go, in-Wait}}
+use Rattle.std.proofs.Common.{◌+◌}
+use Rattle.access_model.specs.declared.replies.Next.TheVariants.{Wait}
+use Rattle.gate_world.specs.Views.{phase_after}
+use Rattle.gate_steps.{proofs.call_events.Leading.{seated_as, seated_nowhere, seated_on, stands_as}, specs.call_events.Asking.OpAfterStepAsking}
+use Rattle.gate_steps.specs.call_events.{Asking.OpUnderWayAsking, Led.{StaysSeated, seated_at}, SeatedTasks.SeatedTask, Waited.counted}
 use Rattle.call_ends.proofs.ends.step_waiting.Goals as goal
 
 pub loop-init : goal.loop-init

@@ -1,10 +1,6 @@
 -- Each step goes on from what the one before it left.
-use Rattle.std.proofs.Common.{◌≡◌, ℕ}
-use Rattle.std.specs.Prelude.{None}
-use Rattle.access_model.specs.Replies.{map_next}
-use Rattle.gate_world.specs.declared.operations.Op.{Op}
-use Rattle.gate_steps.specs.call_events.{SeatedTasks.{SeatedTask}, Led.{StaysSeated, seated_at}, Asking.{OpAfterStepAsking}}
-use Rattle.gate_steps.specs.call_events.Waited.{counted}
+use Rattle.call_ends.proofs.Prelude.{None, Op, map_next, ℕ, ◌≡◌}
+use Rattle.gate_steps.specs.call_events.{Asking.OpAfterStepAsking, Led.{StaysSeated, seated_at}, SeatedTasks.SeatedTask, Waited.counted}
 use Rattle.call_ends.proofs.ends.step_waiting.Given as goal
 
 abbrev pub invariant-loop : goal.invariant-loop

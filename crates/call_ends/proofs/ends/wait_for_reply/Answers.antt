@@ -1,10 +1,7 @@
 -- the rest goes on from where the line has led
-use Rattle.std.proofs.Common.{refl, ap, subst}
-use Rattle.std.specs.Prelude.{Some}
-use Rattle.access_model.specs.{Replies.{map_next}, declared.replies.Next.TheVariants.{Go}}
-use Rattle.gate_steps.specs.call_events.Led.{StaysSeated}
-use Rattle.gate_steps.proofs.call_events.Leading.{asking_stands, seated_on}
+use Rattle.call_ends.proofs.Prelude.{Go, Some, ap, asking_stands, map_next, refl, subst}
 use Rattle.call_ends.proofs.Waited.{replied}
+use Rattle.gate_steps.{proofs.call_events.Leading.seated_on, specs.call_events.Led.StaysSeated}
 use Rattle.call_ends.proofs.ends.wait_for_reply.Goals as goal
 
 pub step_waiting-requires : goal.step_waiting-requires

@@ -1,9 +1,7 @@
 -- each step goes on from what the one before it left
-use Rattle.access_model.specs.declared.replies.Next.TheVariants.{Go}
+use Rattle.call_ends.proofs.Prelude.{Go, led_nowhere, led_on, led_to, standing, still_stands}
+use Rattle.call_ends.proofs.Closing.{cleans_last, cleans_leave, cleans_on, fewer_nodes}
 use Rattle.freeze_levels.specs.declared.freezes.FreezeStep.TheVariants.{Cleans}
-use Rattle.call_ends.specs.Closings.{standing}
-use Rattle.gate_steps.proofs.call_events.Leading.{led_on, led_to, led_nowhere, still_stands}
-use Rattle.call_ends.proofs.Closing.{cleans_leave, cleans_on, cleans_last, fewer_nodes}
 use Rattle.call_ends.proofs.freeze_lines.clean.Goals as goal
 
 pub loop-node-init : goal.loop-node-init

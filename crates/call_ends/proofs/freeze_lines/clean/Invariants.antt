@@ -1,10 +1,6 @@
 -- the steps have led to the node that is next
-use Rattle.std.proofs.Common.{◌-◌}
-use Rattle.std.specs.Prelude.{None}
-use Rattle.access_model.specs.declared.replies.Next.TheVariants.{Go}
+use Rattle.call_ends.proofs.Prelude.{Go, Led, None, standing, ◌-◌}
 use Rattle.freeze_levels.specs.declared.freezes.FreezeStep.TheVariants.{Cleans}
-use Rattle.call_ends.specs.Closings.{standing}
-use Rattle.gate_steps.specs.call_events.Led.{Led}
 use Rattle.call_ends.proofs.freeze_lines.clean.Given as goal
 
 abbrev pub invariant-loop-node : goal.invariant-loop-node

@@ -1,6 +1,5 @@
 -- the closing goes on from the store
-use Rattle.std.proofs.Common.{refl}
-use Rattle.gate_steps.proofs.call_events.Leading.{asking_on, led_on, led_to, led_unasked, still_stands}
+use Rattle.call_ends.proofs.Prelude.{asking_on, led_on, led_to, led_unasked, refl, still_stands}
 use Rattle.call_ends.proofs.Closing.{closed_so, not_closed}
 use Rattle.call_ends.proofs.freeze_lines.close_second.Goals as goal
 

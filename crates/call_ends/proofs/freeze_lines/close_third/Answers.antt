@@ -1,8 +1,7 @@
 -- the closing goes on from what `sync` has answered
-use Rattle.std.proofs.Common.{ap, refl, sym}
-use Rattle.call_ends.specs.Closings.{of_freeze}
-use Rattle.gate_steps.proofs.call_events.Leading.{asking_on, asking_stands, asking_to, led_to, led_unasked, still_stands}
-use Rattle.call_ends.proofs.Closing.{closed_so, not_closed, syncs_leave}
+use Rattle.call_ends.proofs.Prelude.{ap, asking_on, asking_stands, led_to, led_unasked, refl, still_stands, sym}
+use Rattle.call_ends.{proofs.Closing.{closed_so, not_closed, syncs_leave}, specs.Closings.of_freeze}
+use Rattle.gate_steps.proofs.call_events.Leading.{asking_to}
 use Rattle.call_ends.proofs.freeze_lines.close_third.Goals as goal
 
 pub find_asking-answer-requires-clause-leaves : goal.find_asking-answer-requires-clause-leaves

@@ -1,10 +1,8 @@
 -- the end goes on from what `freeze_fs` has answered
-use Rattle.std.proofs.Common.{ap, refl, sym}
-use Rattle.access_model.specs.declared.replies.Next.TheVariants.{Go}
+use Rattle.call_ends.proofs.Prelude.{Go, ap, asking_on, asking_stands, led_unasked, refl, standing, sym}
+use Rattle.call_ends.{proofs.Closing.completes_leave, specs.Closings.of_freeze}
 use Rattle.freeze_levels.specs.declared.freezes.FreezeStep.TheVariants.{Holds}
-use Rattle.call_ends.specs.Closings.{of_freeze, standing}
-use Rattle.gate_steps.proofs.call_events.Leading.{asking_on, asking_stands, asking_to, led_unasked}
-use Rattle.call_ends.proofs.Closing.{completes_leave}
+use Rattle.gate_steps.proofs.call_events.Leading.{asking_to}
 use Rattle.call_ends.proofs.freeze_lines.complete.Goals as goal
 
 pub find_asking-answer-requires-clause-leaves : goal.find_asking-answer-requires-clause-leaves

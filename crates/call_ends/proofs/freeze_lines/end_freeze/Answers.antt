@@ -1,8 +1,7 @@
 -- the release goes on from the store
-use Rattle.std.proofs.Common.{ap, ◌∙◌}
-use Rattle.cpu_words.specs.declared.{events.Touch.TheVariants.{Store}, names.WordName.TheVariants.{Holders as HoldersWord}}
+use Rattle.call_ends.proofs.Prelude.{ap, led_on, still_stands, ◌∙◌}
+use Rattle.cpu_words.specs.declared.{events.Touch.TheVariants.Store, names.WordName.TheVariants.Holders as HoldersWord}
 use Rattle.freeze_levels.specs.Holders.{word_of}
-use Rattle.gate_steps.proofs.call_events.Leading.{led_on, still_stands}
 use Rattle.call_ends.proofs.freeze_lines.end_freeze.Goals as goal
 
 pub find-stored-requires-clause-known : goal.find-stored-requires-clause-known

@@ -1,6 +1,5 @@
 -- which level it was says what comes
-use Rattle.std.proofs.Common.{arith}
-use Rattle.gate_steps.proofs.call_events.Leading.{asking_from, stands_from}
+use Rattle.call_ends.proofs.Prelude.{arith, asking_from, stands_from}
 use Rattle.call_ends.proofs.Closing.{closed_first, closed_second, closed_third}
 use Rattle.call_ends.proofs.freeze_lines.go_on_closed.Goals as goal
 

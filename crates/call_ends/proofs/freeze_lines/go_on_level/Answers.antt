@@ -1,6 +1,5 @@
 -- what comes goes on from the closing
-use Rattle.std.proofs.Common.{refl}
-use Rattle.gate_steps.proofs.call_events.Leading.{asking_on, led_from, led_to, led_unasked, still_stands, stands_from}
+use Rattle.call_ends.proofs.Prelude.{asking_on, led_from, led_to, led_unasked, refl, stands_from, still_stands}
 use Rattle.call_ends.proofs.Closing.{closed_so, closing_of, not_closed}
 use Rattle.call_ends.proofs.freeze_lines.go_on_level.Goals as goal
 

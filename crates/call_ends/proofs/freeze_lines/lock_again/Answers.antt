@@ -1,6 +1,5 @@
 -- the store goes on from the taking of `umount`
-use Rattle.std.proofs.Common.{arith, refl, sym}
-use Rattle.gate_steps.proofs.call_events.Leading.{asking_on, led_to, led_unasked, still_stands}
+use Rattle.call_ends.proofs.Prelude.{arith, asking_on, led_to, led_unasked, refl, still_stands, sym}
 use Rattle.call_ends.proofs.Closing.{locked_again}
 use Rattle.call_ends.proofs.freeze_lines.lock_again.Goals as goal
 

@@ -1,9 +1,6 @@
 -- the marks are cleared from the first node on
-use Rattle.std.proofs.Common.{ap, refl}
-use Rattle.access_model.specs.declared.replies.Next.TheVariants.{Go}
+use Rattle.call_ends.proofs.Prelude.{Go, ap, asking_on, led_from, led_unasked, refl, standing, stands_from, still_stands}
 use Rattle.freeze_levels.specs.declared.freezes.FreezeStep.TheVariants.{Cleans}
-use Rattle.call_ends.specs.Closings.{standing}
-use Rattle.gate_steps.proofs.call_events.Leading.{asking_on, led_from, led_unasked, still_stands, stands_from}
 use Rattle.call_ends.proofs.freeze_lines.sync.Goals as goal
 
 pub clean-requires : goal.clean-requires

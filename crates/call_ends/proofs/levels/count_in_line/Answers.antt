@@ -1,5 +1,5 @@
 -- each step of the line goes on from what the one before it left
-use Rattle.gate_steps.proofs.call_events.Leading.{led_on, still_stands}
+use Rattle.call_ends.proofs.Prelude.{led_on, still_stands}
 use Rattle.call_ends.proofs.levels.count_in_line.Goals as goal
 
 pub step_if_at-next-requires : goal.step_if_at-next-requires

@@ -1,8 +1,5 @@
 -- an operation that the line goes on with has one step more
-use Rattle.std.proofs.Common.{sym, ap}
-use Rattle.std.specs.Prelude.{Ok}
-use Rattle.access_model.specs.Replies.{map_next}
-use Rattle.gate_steps.proofs.call_events.Leading.{led_from, led_nowhere, led_once, led_to, stands_from}
+use Rattle.call_ends.proofs.Prelude.{Ok, ap, led_from, led_nowhere, led_once, led_to, map_next, stands_from, sym}
 use Rattle.call_ends.proofs.lines.step_if_at.Goals as goal
 
 pub step_once-requires : goal.step_once-requires

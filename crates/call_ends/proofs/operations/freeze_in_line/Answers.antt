@@ -1,8 +1,7 @@
 -- the freeze stands where a line goes on
-use Rattle.std.proofs.Common.{refl}
-use Rattle.freeze_levels.specs.declared.freezes.FreezeStep.TheVariants.{Closes, Holds, LoadsStage, SetsPageFault}
-use Rattle.gate_steps.proofs.call_events.Leading.{asking_from, led_from, led_unasked, stands_from}
+use Rattle.call_ends.proofs.Prelude.{asking_from, led_from, led_unasked, refl, stands_from}
 use Rattle.call_ends.proofs.Closing.{stands_at_step}
+use Rattle.freeze_levels.specs.declared.freezes.FreezeStep.TheVariants.{Closes, Holds, LoadsStage, SetsPageFault}
 use Rattle.call_ends.proofs.operations.freeze_in_line.Goals as goal
 
 pub freeze_locked-requires : goal.freeze_locked-requires

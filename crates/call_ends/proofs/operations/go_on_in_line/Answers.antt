@@ -1,7 +1,5 @@
 -- an operation that does not go on has no line
-use Rattle.std.proofs.Common.{ap, refl, sym}
-use Rattle.access_model.specs.Replies.{map_next}
-use Rattle.gate_steps.proofs.call_events.Leading.{asking_from, led_nowhere, led_to, led_unasked, stands_from}
+use Rattle.call_ends.proofs.Prelude.{ap, asking_from, led_nowhere, led_to, led_unasked, map_next, refl, stands_from, sym}
 use Rattle.call_ends.proofs.operations.go_on_in_line.Goals as goal
 
 pub run_fast_path-requires : goal.run_fast_path-requires

@@ -1,6 +1,6 @@
 -- the remount stands where its line goes on
+use Rattle.call_ends.proofs.Prelude.{asking_from, stands_from}
 use Rattle.mount_counts.specs.declared.remounts.RemountStep.TheVariants.{LoadsStage}
-use Rattle.gate_steps.proofs.call_events.Leading.{asking_from, stands_from}
 use Rattle.call_ends.proofs.Remounting.{remount_stands}
 use Rattle.call_ends.proofs.operations.remount_in_line.Goals as goal
 

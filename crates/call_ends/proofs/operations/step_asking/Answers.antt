@@ -1,8 +1,7 @@
 -- the hook that the step reads was asked right before it
-use Rattle.std.proofs.Common.{sym, ◌∙◌}
-use Rattle.gate_steps.specs.call_events.Asking.{call_at, asks_with}
-use Rattle.gate_steps.proofs.call_events.Asking.{AskedFor, asks_more, was_asked, was_not}
-use Rattle.call_ends.proofs.operations.step_asking.Goals.{in-Some, in-None}
+use Rattle.call_ends.proofs.Prelude.{sym, ◌∙◌}
+use Rattle.call_ends.proofs.operations.step_asking.Goals.{in-None, in-Some}
+use Rattle.gate_steps.{proofs.call_events.Asking.{AskedFor, asks_more, was_asked, was_not}, specs.call_events.Asking.{asks_with, call_at}}
 use Rattle.call_ends.proofs.operations.step_asking.Goals as goal
 
 pub step_once-requires : goal.step_once-requires

@@ -1,8 +1,7 @@
 -- the thaw stands where a line goes on
-use Rattle.std.proofs.Common.{refl}
-use Rattle.freeze_levels.specs.declared.thaws.ThawStep.TheVariants.{LoadsStage, SetsUnfrozen}
-use Rattle.gate_steps.proofs.call_events.Leading.{asking_from, led_from, led_unasked, stands_from}
+use Rattle.call_ends.proofs.Prelude.{asking_from, led_from, led_unasked, refl, stands_from}
 use Rattle.call_ends.proofs.Reopening.{thaw_stands}
+use Rattle.freeze_levels.specs.declared.thaws.ThawStep.TheVariants.{LoadsStage, SetsUnfrozen}
 use Rattle.call_ends.proofs.operations.thaw_in_line.Goals as goal
 
 pub thaw_locked-requires : goal.thaw_locked-requires

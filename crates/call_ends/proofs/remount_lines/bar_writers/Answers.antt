@@ -1,6 +1,5 @@
 -- each step goes on from what the one before it left
-use Rattle.std.proofs.Common.{arith, refl, sym}
-use Rattle.gate_steps.proofs.call_events.Leading.{asking_on, led_on, led_to, led_unasked, still_stands}
+use Rattle.call_ends.proofs.Prelude.{arith, asking_on, led_on, led_to, led_unasked, refl, still_stands, sym}
 use Rattle.call_ends.proofs.Remounting.{none_removed_again}
 use Rattle.call_ends.proofs.remount_lines.bar_writers.Goals as goal
 

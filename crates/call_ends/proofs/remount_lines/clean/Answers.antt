@@ -1,6 +1,6 @@
 -- each step goes on from what the one before it left
-use Rattle.gate_steps.proofs.call_events.Leading.{led_on, led_to, still_stands}
-use Rattle.call_ends.proofs.Remounting.{cleans_leave, cleans_on, cleans_last}
+use Rattle.call_ends.proofs.Prelude.{led_on, led_to, still_stands}
+use Rattle.call_ends.proofs.Remounting.{cleans_last, cleans_leave, cleans_on}
 use Rattle.call_ends.proofs.remount_lines.clean.Goals as goal
 
 pub find-cleaned-requires-clause-leaves : goal.find-cleaned-requires-clause-leaves

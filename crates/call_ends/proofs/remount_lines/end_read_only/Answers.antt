@@ -1,6 +1,5 @@
 -- the stores go on from what `reconfigure` has answered
-use Rattle.std.proofs.Common.{refl}
-use Rattle.gate_steps.proofs.call_events.Leading.{asking_on, asking_stands, led_on, led_unasked, still_stands}
+use Rattle.call_ends.proofs.Prelude.{asking_on, asking_stands, led_on, led_unasked, refl, still_stands}
 use Rattle.call_ends.proofs.remount_lines.end_read_only.Goals as goal
 
 pub find-cleared-requires-clause-stands : goal.find-cleared-requires-clause-stands

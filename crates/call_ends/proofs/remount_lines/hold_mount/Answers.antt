@@ -1,10 +1,7 @@
 -- each step goes on from what the one before it left
-use Rattle.std.proofs.Common.{sym, ap}
-use Rattle.access_model.specs.declared.replies.Next.TheVariants.{Go}
-use Rattle.mount_counts.specs.Remounts.{past_mount}
-use Rattle.call_ends.specs.Remounting.{remounting_at}
-use Rattle.gate_steps.proofs.call_events.Leading.{led_on, led_to, still_stands}
+use Rattle.call_ends.proofs.Prelude.{Go, ap, led_on, led_to, remounting_at, still_stands, sym}
 use Rattle.call_ends.proofs.Remounting.{holds_on}
+use Rattle.mount_counts.specs.Remounts.{past_mount}
 use Rattle.call_ends.proofs.remount_lines.hold_mount.Goals as goal
 
 pub find-held-requires-clause-stands : goal.find-held-requires-clause-stands

@@ -1,10 +1,7 @@
 -- each mount goes on from what the one before it left
-use Rattle.std.proofs.Common.{sym, ap}
-use Rattle.access_model.specs.declared.replies.Next.TheVariants.{Go}
-use Rattle.mount_counts.specs.{Sets.{no_mounts}, declared.remounts.RemountStep.TheVariants.{LoadsFlags}}
-use Rattle.call_ends.specs.Remounting.{remounting_at}
-use Rattle.gate_steps.proofs.call_events.Leading.{led_on, led_to, led_nowhere, still_stands}
-use Rattle.call_ends.proofs.Remounting.{past_on, past_last}
+use Rattle.call_ends.proofs.Prelude.{Go, ap, led_nowhere, led_on, led_to, remounting_at, still_stands, sym}
+use Rattle.call_ends.proofs.Remounting.{past_last, past_on}
+use Rattle.mount_counts.specs.{Sets.no_mounts, declared.remounts.RemountStep.TheVariants.LoadsFlags}
 use Rattle.call_ends.proofs.remount_lines.hold_mounts.Goals as goal
 
 pub loop-held-init : goal.loop-held-init

@@ -1,10 +1,6 @@
 -- the steps have led to the mount that is next
-use Rattle.std.proofs.Common.{◌-◌}
-use Rattle.std.specs.Prelude.{None}
-use Rattle.access_model.specs.declared.replies.Next.TheVariants.{Go}
-use Rattle.mount_counts.specs.{Sets.{no_mounts}, declared.remounts.RemountStep.TheVariants.{LoadsFlags}}
-use Rattle.call_ends.specs.Remounting.{remounting_at}
-use Rattle.gate_steps.specs.call_events.Led.{Led}
+use Rattle.call_ends.proofs.Prelude.{Go, Led, None, remounting_at, ◌-◌}
+use Rattle.mount_counts.specs.{Sets.no_mounts, declared.remounts.RemountStep.TheVariants.LoadsFlags}
 use Rattle.call_ends.proofs.remount_lines.hold_mounts.Given as goal
 
 abbrev pub invariant-loop-held : goal.invariant-loop-held

@@ -1,10 +1,7 @@
 -- each step goes on from what the one before it left
-use Rattle.std.proofs.Common.{sym, ap, arith}
-use Rattle.access_model.specs.declared.replies.Next.TheVariants.{Go}
+use Rattle.call_ends.proofs.Prelude.{Go, ap, arith, led_on, led_to, remounting_at, still_stands, sym}
+use Rattle.call_ends.proofs.Remounting.{holds_left, none_held, some_held}
 use Rattle.mount_counts.specs.Remounts.{let_go}
-use Rattle.call_ends.specs.Remounting.{remounting_at}
-use Rattle.gate_steps.proofs.call_events.Leading.{led_on, led_to, still_stands}
-use Rattle.call_ends.proofs.Remounting.{none_held, some_held, holds_left}
 use Rattle.call_ends.proofs.remount_lines.let_mounts_go.Goals as goal
 
 pub find-cleared-requires-clause-stands : goal.find-cleared-requires-clause-stands

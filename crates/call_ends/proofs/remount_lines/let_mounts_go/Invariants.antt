@@ -1,9 +1,6 @@
 -- the steps have led to the holds that are still to be cleared
-use Rattle.std.specs.Prelude.{None}
-use Rattle.access_model.specs.declared.replies.Next.TheVariants.{Go}
+use Rattle.call_ends.proofs.Prelude.{Go, Led, None, remounting_at}
 use Rattle.mount_counts.specs.Remounts.{let_go}
-use Rattle.call_ends.specs.Remounting.{remounting_at}
-use Rattle.gate_steps.specs.call_events.Led.{Led}
 use Rattle.call_ends.proofs.remount_lines.let_mounts_go.Given as goal
 
 abbrev pub invariant-loop-held : goal.invariant-loop-held

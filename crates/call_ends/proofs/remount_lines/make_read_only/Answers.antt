@@ -1,6 +1,5 @@
 -- each step goes on from what the one before it left
-use Rattle.std.proofs.Common.{arith, refl, sym}
-use Rattle.gate_steps.proofs.call_events.Leading.{asking_on, led_on, led_to, led_unasked, still_stands}
+use Rattle.call_ends.proofs.Prelude.{arith, asking_on, led_on, led_to, led_unasked, refl, still_stands, sym}
 use Rattle.call_ends.proofs.Remounting.{none_removed}
 use Rattle.call_ends.proofs.remount_lines.make_read_only.Goals as goal
 

@@ -1,6 +1,5 @@
 -- the return goes on from what `reconfigure` has answered
-use Rattle.std.proofs.Common.{refl}
-use Rattle.gate_steps.proofs.call_events.Leading.{asking_on, asking_stands, led_unasked}
+use Rattle.call_ends.proofs.Prelude.{asking_on, asking_stands, led_unasked, refl}
 use Rattle.call_ends.proofs.remount_lines.make_writable.Goals as goal
 
 pub release-requires : goal.release-requires

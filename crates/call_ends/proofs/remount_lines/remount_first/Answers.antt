@@ -1,6 +1,5 @@
 -- the steps under `umount` go on from its taking
-use Rattle.std.proofs.Common.{arith, refl, sym}
-use Rattle.gate_steps.proofs.call_events.Leading.{asking_on, led_to, led_unasked, still_stands}
+use Rattle.call_ends.proofs.Prelude.{arith, asking_on, led_to, led_unasked, refl, still_stands, sym}
 use Rattle.call_ends.proofs.Remounting.{locked}
 use Rattle.call_ends.proofs.remount_lines.remount_first.Goals as goal
 

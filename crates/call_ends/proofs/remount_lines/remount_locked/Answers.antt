@@ -1,8 +1,7 @@
 -- each step goes on from what the one before it left
-use Rattle.std.proofs.Common.{arith, refl, sym, ap, true, false}
+use Rattle.call_ends.proofs.Prelude.{ap, arith, asking_on, false, led_on, led_to, led_unasked, refl, still_stands, sym, true}
+use Rattle.call_ends.proofs.{Closing.{other_number, same_number}, Remounting.{stage_free, state_found}}
 use Rattle.std.specs.Prelude.{not}
-use Rattle.gate_steps.proofs.call_events.Leading.{asking_on, led_on, led_to, led_unasked, still_stands}
-use Rattle.call_ends.proofs.{Closing.{same_number, other_number}, Remounting.{stage_free, state_found}}
 use Rattle.call_ends.proofs.remount_lines.remount_locked.Goals as goal
 
 pub returns-then-stage-ne0 : goal.returns-then-stage-ne0

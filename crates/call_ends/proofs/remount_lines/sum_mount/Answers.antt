@@ -1,10 +1,7 @@
 -- each load goes on from what the one before it left
-use Rattle.std.proofs.Common.{sym, ap, arith}
-use Rattle.access_model.specs.declared.replies.Next.TheVariants.{Go}
+use Rattle.call_ends.proofs.Prelude.{Go, ap, arith, led_nowhere, led_on, led_to, remounting_at, still_stands, sym}
+use Rattle.call_ends.{proofs.{Closing.fewer_words, Remounting.{sums_none, sums_on}}, specs.Remounting.first_count}
 use Rattle.mount_counts.specs.declared.remounts.RemountStep.TheVariants.{Sums}
-use Rattle.call_ends.specs.Remounting.{first_count, remounting_at}
-use Rattle.gate_steps.proofs.call_events.Leading.{led_on, led_to, led_nowhere, still_stands}
-use Rattle.call_ends.proofs.{Closing.{fewer_words}, Remounting.{sums_on, sums_none}}
 use Rattle.call_ends.proofs.remount_lines.sum_mount.Goals as goal
 
 pub loop-further-init : goal.loop-further-init

@@ -1,10 +1,7 @@
 -- the loads have led to the sum as far as it has come
-use Rattle.std.proofs.Common.{◌-◌}
-use Rattle.std.specs.Prelude.{None}
-use Rattle.access_model.specs.declared.replies.Next.TheVariants.{Go}
+use Rattle.call_ends.proofs.Prelude.{Go, Led, None, remounting_at, ◌-◌}
+use Rattle.call_ends.specs.Remounting.{first_count}
 use Rattle.mount_counts.specs.declared.remounts.RemountStep.TheVariants.{Sums}
-use Rattle.call_ends.specs.Remounting.{first_count, remounting_at}
-use Rattle.gate_steps.specs.call_events.Led.{Led}
 use Rattle.call_ends.proofs.remount_lines.sum_mount.Given as goal
 
 abbrev pub invariant-loop-further : goal.invariant-loop-further

@@ -1,6 +1,6 @@
 -- the exchange goes on from the load
-use Rattle.gate_steps.proofs.call_events.Leading.{led_on, led_to, still_stands}
-use Rattle.call_ends.proofs.Reopening.{exits_on, exits_last}
+use Rattle.call_ends.proofs.Prelude.{led_on, led_to, still_stands}
+use Rattle.call_ends.proofs.Reopening.{exits_last, exits_on}
 use Rattle.call_ends.proofs.thaw_lines.exit.Goals as goal
 
 pub find-found-requires-clause-stands : goal.find-found-requires-clause-stands

@@ -1,5 +1,5 @@
 -- the exit goes on from the store
-use Rattle.gate_steps.proofs.call_events.Leading.{led_on, still_stands}
+use Rattle.call_ends.proofs.Prelude.{led_on, still_stands}
 use Rattle.call_ends.proofs.thaw_lines.reopen.Goals as goal
 
 pub exit-requires : goal.exit-requires

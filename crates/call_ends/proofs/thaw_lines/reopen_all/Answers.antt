@@ -1,6 +1,5 @@
 -- each level goes on from what the one above it left
-use Rattle.std.proofs.Common.{sym}
-use Rattle.gate_steps.proofs.call_events.Leading.{led_on, led_to, still_stands}
+use Rattle.call_ends.proofs.Prelude.{led_on, led_to, still_stands, sym}
 use Rattle.call_ends.proofs.thaw_lines.reopen_all.Goals as goal
 
 pub reopen-requires : goal.reopen-requires

@@ -1,6 +1,5 @@
 -- the reopening goes on from what `unfreeze_fs` has answered
-use Rattle.std.proofs.Common.{refl}
-use Rattle.gate_steps.proofs.call_events.Leading.{asking_on, asking_stands, led_unasked}
+use Rattle.call_ends.proofs.Prelude.{asking_on, asking_stands, led_unasked, refl}
 use Rattle.call_ends.proofs.Reopening.{leaves_last}
 use Rattle.call_ends.proofs.thaw_lines.thaw_last.Goals as goal
 

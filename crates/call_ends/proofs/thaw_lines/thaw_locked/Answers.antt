@@ -1,7 +1,6 @@
 -- each step goes on from what the one before it left
-use Rattle.std.proofs.Common.{arith, refl, sym}
-use Rattle.gate_steps.proofs.call_events.Leading.{asking_on, led_on, led_to, led_unasked, still_stands}
-use Rattle.call_ends.proofs.Reopening.{stage_frozen, held_by_this, flag_clear}
+use Rattle.call_ends.proofs.Prelude.{arith, asking_on, led_on, led_to, led_unasked, refl, still_stands, sym}
+use Rattle.call_ends.proofs.Reopening.{flag_clear, held_by_this, stage_frozen}
 use Rattle.call_ends.proofs.thaw_lines.thaw_locked.Goals as goal
 
 pub returns-then-stage-ne4 : goal.returns-then-stage-ne4

@@ -1,7 +1,5 @@
 -- the second step goes on from what the first one left
-use Rattle.std.proofs.Common.{refl}
-use Rattle.std.specs.Prelude.{Ok}
-use Rattle.gate_steps.proofs.call_events.Leading.{led_on, led_once, seated_stands}
+use Rattle.call_ends.proofs.Prelude.{Ok, led_on, led_once, refl, seated_stands}
 use Rattle.call_ends.proofs.writes.give_in_line.Goals as goal
 
 pub step_if_at-requires : goal.step_if_at-requires

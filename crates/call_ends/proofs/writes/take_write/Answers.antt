@@ -1,12 +1,8 @@
 -- each step of the line goes on from what the one before it left
-use Rattle.std.proofs.Common.{refl, sym, ap, arith}
-use Rattle.std.specs.Prelude.{Ok}
-use Rattle.access_model.specs.declared.replies.Next.TheVariants.{Go}
+use Rattle.call_ends.proofs.Prelude.{Go, Ok, ap, arith, led_on, led_once, led_to, refl, seated_stands, stands_from, still_stands, sym}
+use Rattle.call_ends.{proofs.Entering.{led_entered, led_idle, led_sync}, specs.Paths.of_write}
 use Rattle.composite_ops.specs.declared.write_access.phases.WritePhase.{WritePhase}
 use Rattle.gate_world.specs.declared.work.Phase.TheVariants.{Writes}
-use Rattle.call_ends.specs.Paths.{of_write}
-use Rattle.gate_steps.proofs.call_events.Leading.{led_on, led_once, led_to, seated_stands, stands_from, still_stands}
-use Rattle.call_ends.proofs.Entering.{led_entered, led_sync, led_idle}
 use Rattle.call_ends.proofs.writes.take_write.Goals as goal
 
 pub find_first-section-requires-clause-stands : goal.find_first-section-requires-clause-stands

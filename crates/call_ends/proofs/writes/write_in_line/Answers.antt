@@ -1,12 +1,9 @@
 -- a taking and a return go on as what they are
-use Rattle.std.proofs.Common.{◌≡◌, sym, ap, subst, ◌∙◌, true, false}
-use Rattle.std.specs.Prelude.{Option, Some}
-use Rattle.access_model.specs.declared.replies.Next.TheVariants.{Go}
-use Rattle.gate_world.specs.declared.{operations.Op.{Op}, work.Phase.{Phase, TheVariants.{Writes}}}
-use Rattle.gate_steps.specs.call_events.{Led.{Led, Stands}}
-use Rattle.gate_steps.proofs.call_events.Leading.{led_from, led_to, stands_from}
-use Rattle.call_ends.proofs.Begun.{IsFirstWrite, none_else, write_begun}
-use Rattle.call_ends.specs.Paths.{done_or, of_write}
+use Rattle.call_ends.proofs.Prelude.{Go, Led, Op, Some, ap, false, led_from, led_to, stands_from, subst, sym, true, ◌∙◌, ◌≡◌}
+use Rattle.call_ends.{proofs.Begun.{IsFirstWrite, none_else, write_begun}, specs.Paths.{done_or, of_write}}
+use Rattle.std.specs.Prelude.{Option}
+use Rattle.gate_world.specs.declared.work.Phase.{Phase, TheVariants.Writes}
+use Rattle.gate_steps.specs.call_events.Led.{Stands}
 use Rattle.call_ends.proofs.writes.write_in_line.Goals as goal
 
 -- what holds of a taking that begins holds of it by its parts

@@ -1,6 +1,5 @@
 -- the operation stands at its first step
-use Rattle.std.proofs.Common.{refl}
-use Rattle.gate_steps.proofs.call_events.Leading.{led_from, led_unasked, stands_from}
+use Rattle.call_ends.proofs.Prelude.{led_from, led_unasked, refl, stands_from}
 use Rattle.call_ends.proofs.Beginning.{callback_begun}
 use Rattle.call_ends.proofs.operations.CallbackLinedOp.begin_in_line.Goals as goal
 

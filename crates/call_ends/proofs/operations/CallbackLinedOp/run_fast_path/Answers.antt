@@ -1,6 +1,5 @@
 -- its line asks no hook
-use Rattle.std.proofs.Common.{refl}
-use Rattle.gate_steps.proofs.call_events.Leading.{led_unasked}
+use Rattle.call_ends.proofs.Prelude.{led_unasked, refl}
 use Rattle.call_ends.proofs.operations.CallbackLinedOp.run_fast_path.Goals as goal
 
 pub returns : goal.returns

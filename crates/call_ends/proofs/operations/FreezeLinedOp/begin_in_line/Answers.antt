@@ -1,5 +1,5 @@
 -- the operation stands at its first step
-use Rattle.gate_steps.proofs.call_events.Leading.{asking_from, stands_from}
+use Rattle.call_ends.proofs.Prelude.{asking_from, stands_from}
 use Rattle.call_ends.proofs.Beginning.{freeze_begun}
 use Rattle.call_ends.proofs.operations.FreezeLinedOp.begin_in_line.Goals as goal
 

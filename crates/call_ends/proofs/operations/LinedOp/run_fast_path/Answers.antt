@@ -1,7 +1,5 @@
 -- no step
-use Rattle.std.proofs.Common.{refl}
-use Rattle.access_model.specs.declared.replies.Next.TheVariants.{Go}
-use Rattle.gate_steps.proofs.call_events.Leading.{led_nowhere, led_unasked}
+use Rattle.call_ends.proofs.Prelude.{Go, led_nowhere, led_unasked, refl}
 use Rattle.call_ends.proofs.operations.LinedOp.run_fast_path.Goals as goal
 
 pub returns : goal.returns

@@ -1,7 +1,5 @@
 -- its line is its one step, which reads no answer of a hook
-use Rattle.std.proofs.Common.{refl}
-use Rattle.std.specs.Prelude.{Ok}
-use Rattle.gate_steps.proofs.call_events.Leading.{led_once, led_unasked}
+use Rattle.call_ends.proofs.Prelude.{Ok, led_once, led_unasked, refl}
 use Rattle.call_ends.proofs.operations.MountPhaseLinedOp.begin_in_line.Goals as goal
 
 pub returns : goal.returns
