@@ -1,10 +1,10 @@
 -- Whether an operation may begin, as a task's fields say.
-use Rattle.vfs_gates.proofs.Prelude.{Bool, Config, Err, GateError, IsWithin, List, Ok, Op, Option, Phase, Result, SeatedTask, [], ap, is_some}
-use Rattle.vfs_gates.proofs.Prelude.{own_number, own_view, refl, refusal_at, sym, ℕ, ◌∙◌, ◌∷◌, ◌≡◌}
+use Rattle.vfs_gates.proofs.Prelude.{Bool, Config, Err, GateError, GhostAgrees, IsWithin, List, Ok, Op, Option, Phase, Result, SeatedTask, TaskState}
+use Rattle.vfs_gates.proofs.Prelude.{[], ap, is_some, own_number, own_view, refl, refusal_at, sym, task_state, ℕ, ◌∙◌, ◌∷◌, ◌≡◌}
+use Rattle.vfs_gates.specs.{TaskStates.beginning_at, declared.task.Task.TheInside.Inside}
 use Rattle.gate_world.specs.{Beginnings.{beginning, first_phase, or_refusal, refusal}, Views.held_of}
 use Rattle.gate_steps.{proofs.call_events.Beginnings.{err_means, ok_means, refusal_agree}, specs.call_events.Answers.unless_refused}
-use Rattle.gate_steps.specs.call_events.{GhostAgrees.GhostAgrees, Seating.DealtNumbers, TaskState.TaskState, TaskStates.task_holdings}
-use Rattle.vfs_gates.specs.{TaskStates.{beginning_at, task_state}, declared.task.Task.TheInside.Inside}
+use Rattle.gate_steps.specs.call_events.{Seating.DealtNumbers, TaskStates.task_holdings}
 
 module _ (number : ℕ) (c : Config) (begins : Option Op) (state : TaskState) (flags : List Bool) where
   -- the configuration of a task is within its limits

@@ -1,15 +1,15 @@
 -- A call that begins an operation and does its steps on what the task keeps, and what it writes down at the end.
-use Rattle.vfs_gates.proofs.Prelude.{Bool, Called, Config, Done, Err, GateError, Go, HookAnswer, List, Next, None, Numbered, Ok, Op, Option, Phase}
-use Rattle.vfs_gates.proofs.Prelude.{Reply, Result, SeatedTask, Some, Wait, [], ap, false, is_some, own_number, own_view, phase_after, refl}
-use Rattle.vfs_gates.proofs.Prelude.{refusal_at, subst, sym, ℕ, ◌∙◌, ◌∷◌, ◌≡◌}
+use Rattle.vfs_gates.proofs.Prelude.{Bool, Called, Config, Done, Err, GateError, GhostAgrees, Go, HookAnswer, List, Next, None, Numbered, Ok, Op}
+use Rattle.vfs_gates.proofs.Prelude.{OpUnderWay, Option, Phase, Reply, Result, SeatedTask, Some, TaskState, Wait, [], ap, false, is_some, own_number}
+use Rattle.vfs_gates.proofs.Prelude.{own_view, phase_after, refl, refusal_at, subst, sym, task_state, ℕ, ◌∙◌, ◌∷◌, ◌≡◌}
+use Rattle.vfs_gates.{proofs.Admitting.{admitted_by, admitted_unless, first_by, first_so}, specs.TaskStates.beginning_at}
+use Rattle.vfs_gates.specs.declared.task.Task.TheInside.{Inside}
 use Rattle.gate_steps.proofs.call_events.{Beginnings.{MayBegin, first_fits, may_begin}, Running.{not_refused, starts_asking_none}}
-use Rattle.gate_steps.specs.call_events.{Answers.unless_refused, Asking.{CalledAsking, OpUnderWayWith}, GhostAgrees.{GhostAgrees, OwnNumberAgrees}}
-use Rattle.gate_steps.specs.call_events.{GhostAgrees.PhaseOk, Runs.OpUnderWay, Seating.DealtNumbers, TaskState.TaskState, Turns.AgreesAfter}
-use Rattle.gate_steps.specs.{call_events.{Turns.{StateAgrees, state_at}, Waited.OpAfterStepWaiting}, declared.seating.Knowledge.Knowledge}
+use Rattle.gate_steps.specs.call_events.{Answers.unless_refused, Asking.{CalledAsking, OpUnderWayWith}, GhostAgrees.{OwnNumberAgrees, PhaseOk}}
+use Rattle.gate_steps.specs.call_events.{Seating.DealtNumbers, Turns.{AgreesAfter, StateAgrees, state_at}, Waited.OpAfterStepWaiting}
+use Rattle.gate_steps.specs.declared.seating.Knowledge.{Knowledge}
 use Rattle.gate_world.specs.{Beginnings.{first_phase, refusal}, Fits.Fits, Views.held_of, declared.accesses.Accesses.Accesses}
 use Rattle.atomic_table.specs.Seated.{TableId}
-use Rattle.vfs_gates.{proofs.Admitting.{admitted_by, admitted_unless, first_by, first_so}, specs.TaskStates.{beginning_at, task_state}}
-use Rattle.vfs_gates.specs.declared.task.Task.TheInside.{Inside}
 use Rattle.freeze_levels.specs.declared.hooks.HookCall.{HookCall}
 
 -- an option that has nothing in it

@@ -1,18 +1,17 @@
 -- What whole calls leave of what a task holds.
-use Rattle.vfs_gates.proofs.Prelude.{Action, AreMoves, Bool, Called, ChangeMount, Config, Done, Entry, Err, Freeze, GateError, Go, Grant, List, Next}
-use Rattle.vfs_gates.proofs.Prelude.{None, Ok, Op, Option, Phase, Reply, Result, SeatedTask, Some, Traced, Wait, WantWrite, WordName, [], actions_of}
-use Rattle.vfs_gates.proofs.Prelude.{ap, cases_Bool, false, inl, inr, own_actions, own_number, own_view, ran_items, refl, refusal_at, state_of_trace}
-use Rattle.vfs_gates.proofs.Prelude.{subst, sym, told_as, true, ℕ, ◌++◌, ◌<◌, ◌∙◌, ◌∷◌, ◌≡◌}
+use Rattle.vfs_gates.proofs.Prelude.{Action, AreMoves, Bool, Called, ChangeMount, Config, Done, Entry, Err, Freeze, GateError, Go, Grant, IsAsBefore}
+use Rattle.vfs_gates.proofs.Prelude.{List, Next, None, Ok, Op, Option, Phase, RemountSb, Reply, Rests, Result, SeatedTask, Some, Traced, Wait, Want}
+use Rattle.vfs_gates.proofs.Prelude.{WantWrite, WordName, [], actions_of, ap, cases_Bool, false, inl, inr, own_actions, own_number, own_view}
+use Rattle.vfs_gates.proofs.Prelude.{ran_items, refl, refusal_at, state_of_trace, subst, sym, told_as, true, true≢false, ℕ, ◌++◌, ◌<◌, ◌∙◌, ◌∷◌, ◌≡◌}
+use Rattle.vfs_gates.specs.{Held.takes_nothing, TaskStates.IsIdle}
 use Rattle.gate_world.specs.{Holdings.{Holdings, held_after, holdings_of}, Operations.all_levels_closed, declared.operations.Op.TheVariants.Close}
-use Rattle.gate_world.specs.declared.operations.Op.TheVariants.{Create, DropMount, DropWrite, End, Open, RemountSb, Start, Thaw, Want}
-use Rattle.gate_world.specs.traces.Found.{clean_found, cleans, found_complete, found_read_only, found_sealed, found_shared}
-use Rattle.std.proofs.Common.{true≢false}
+use Rattle.gate_world.specs.{declared.operations.Op.TheVariants.{Create, DropMount, DropWrite, End, Open, Start, Thaw}, traces.Found.clean_found}
+use Rattle.gate_world.specs.traces.Found.{cleans, found_complete, found_read_only, found_sealed, found_shared}
 use Rattle.access_model.specs.declared.actions.Action.TheVariants.{Clean, Close as CloseAction, Leave, Open as OpenAction, Pass, Return, SbRo, SbRw}
 use Rattle.access_model.specs.declared.{actions.Action.TheVariants.Stage as StageAction, replies.Reply.TheVariants.Node as NodeReply}
 use Rattle.cpu_words.specs.declared.{events.Touch.{TheVariants.And, Touch}, names.WordName.TheVariants.Node}
 use Rattle.mount_counts.specs.Phases.{has_flag}
 use Rattle.gate_steps.{proofs.call_events.Asked.either_way, specs.call_events.{Runs.{IsNextMove, Replies}, Seating.DealtNumbers}}
-use Rattle.vfs_gates.specs.{Held.{IsAsBefore, Rests, takes_nothing}, TaskStates.IsIdle}
 
 -- an action that is neither a grant nor a return, and neither opens nor closes a file
 abbrev is_free : Action → Bool

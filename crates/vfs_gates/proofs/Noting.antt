@@ -1,20 +1,19 @@
 -- The room for snapshots follows a step of a snapshot: what the step has loaded is noted there.
-use Rattle.vfs_gates.proofs.Prelude.{Bool, BufferWords, DealtNumbers, Done, Err, Event, Go, HookAnswer, Next, None, Numbered, Op, Option, Phase, Some}
-use Rattle.vfs_gates.proofs.Prelude.{Traced, Wait, WordName, after_of, ap, arith, at_snapshot, cases_Bool, if◌then◌else◌, inl, inr, is_some, next_of}
-use Rattle.vfs_gates.proofs.Prelude.{own_view, phase_after, refl, subst, suc, sym, zero, ℕ, ◌+◌, ◌==◌, ◌∙◌, ◌≡◌, ◌≤◌}
+use Rattle.vfs_gates.proofs.Prelude.{Bool, BufferWords, BuffersMatch, DealtNumbers, Done, Err, Event, Go, HookAnswer, List, Next, None, Numbered, Op}
+use Rattle.vfs_gates.proofs.Prelude.{Option, Phase, Some, Traced, TreeWords, Trees, Wait, WordName, [], after_of, ap, arith, at_snapshot, cases_Bool}
+use Rattle.vfs_gates.proofs.Prelude.{done_by, event_of, false, if◌then◌else◌, inl, inr, is_load, is_some, length, map_next, next_of, not, own_view}
+use Rattle.vfs_gates.proofs.Prelude.{phase_after, refl, subst, suc, sym, true, zero, ℕ, ◌+◌, ◌==◌, ◌∙◌, ◌∷◌, ◌≡◌, ◌≤◌}
+use Rattle.vfs_gates.specs.Buffers.{HasNodes, IsSized, LastTells, NextTells, StepTells, after_noting, completed, noted_in, trace_so_far, with_words}
 use Rattle.std.proofs.{Common.add-one, lemmas.{Bool.Decides.nat_tests, Grind.common_steps, List.{length-replicate, length-set, take-set, take_all}}}
-use Rattle.std.specs.Prelude.{List, [], false, length, not, slice_set as set, take, true, ◌∷◌}
-use Rattle.access_model.specs.{Replies.map_next, declared.errors.GateError.TheVariants.{Again, Invalid}}
-use Rattle.cpu_words.specs.{Touches.event_of, declared.names.WordName.TheVariants.Kids}
+use Rattle.std.specs.Prelude.{slice_set as set, take}
+use Rattle.access_model.specs.declared.errors.GateError.TheVariants.{Again, Invalid}
+use Rattle.cpu_words.specs.declared.names.WordName.TheVariants.{Kids}
 use Rattle.node_words.specs.Nodes.{node_after, unpacked}
 use Rattle.gated_tree.specs.{Phases.{kids_step, node_step}, Trees.loaded, declared.phases.TreePhase.TheVariants.Snapshot as Snapshots}
 use Rattle.gated_tree.specs.declared.snapshots.{Snapshot.Snapshot as Taking, SnapshotStep.{SnapshotStep, TheVariants.{LoadsKids, LoadsNode}}}
-use Rattle.gated_tree.specs.declared.{snapshots.SnapshotStep.TheVariants.{LoadsStage, LoadsUsed, Locks, Releases}, trees.TreeWords.TreeWords}
-use Rattle.gate_world.specs.{declared.{views.Snapshot.Snapshot as Noted, work.Phase.TheVariants.Trees}, traces.{Found.is_load, Snapshots.completes}}
-use Rattle.gate_world.specs.traces.Snapshots.{last_snapshot, loads_noted, noted_last}
-use Rattle.gate_steps.specs.Seating.{done_by, items_after}
-use Rattle.vfs_gates.specs.Buffers.{BuffersMatch, HasNodes, IsSized, LastTells, NextTells, StepTells, after_noting, completed, noted_in, trace_so_far}
-use Rattle.vfs_gates.specs.Buffers.{with_words}
+use Rattle.gated_tree.specs.declared.snapshots.SnapshotStep.TheVariants.{LoadsStage, LoadsUsed, Locks, Releases}
+use Rattle.gate_world.specs.{declared.views.Snapshot.Snapshot as Noted, traces.Snapshots.{completes, last_snapshot, loads_noted, noted_last}}
+use Rattle.gate_steps.specs.Seating.{items_after}
 
 -- what a step adds to the own view: itself, and the snapshot that it completes
 trace_after : (begins : Option Op) (phase : Phase) (hook : HookAnswer) (found : ℕ) (x : Numbered) (xs : DealtNumbers) →

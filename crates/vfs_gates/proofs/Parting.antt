@@ -1,17 +1,17 @@
 -- A task's fields are what its seat knows, after a split and a join, and of the first task.
-use Rattle.vfs_gates.proofs.Prelude.{Bool, Config, IsWithin, List, None, Numbered, Op, Option, View, [], ap, arith, false, get_elem?, inl, inr}
-use Rattle.vfs_gates.proofs.Prelude.{length, own_view, refl, some, subst, suc, sym, true, zero, ℕ, ◌++◌, ◌<◌, ◌∙◌, ◌∷◌, ◌≡◌, ◌≤◌}
-use Rattle.std.proofs.{Common.{cond, eqb, get_or, get_or-set_other, get_or-set_same, replicate, set, ⊎_elim, ◌↔◌, ◌⊎◌}, lemmas.Bool.cases_lt}
+use Rattle.vfs_gates.proofs.Prelude.{Bool, Config, Empty, GhostAgrees, IsWithin, List, None, Numbered, Op, Option, TaskState, View, [], ap, arith}
+use Rattle.vfs_gates.proofs.Prelude.{dite, false, get_elem?, get_or, inl, inr, length, own_view, refl, some, spare_of, subst, suc, sym, true, zero, ℕ}
+use Rattle.vfs_gates.proofs.Prelude.{ℕ_discrete, ◌++◌, ◌<◌, ◌∙◌, ◌∷◌, ◌≡◌, ◌≤◌, ◌⊎◌}
+use Rattle.vfs_gates.{proofs.FlagSteps.{IsSet, false_true}, specs.TaskStates.IsNothing}
+use Rattle.std.proofs.{Common.{cond, eqb, get_or-set_other, get_or-set_same, replicate, set, ⊎_elim, ◌↔◌}, lemmas.Bool.cases_lt}
 use Rattle.std.proofs.lemmas.List.{get_or-replicate, get_or_past}
-use mathlib.Core.{Logic.dite, Option.{some-injective, some-ne-none}}
-use native.Mathlib.Decide.{dec_lt, ℕ_discrete}
+use mathlib.Core.Option.{some-injective, some-ne-none}
+use native.Mathlib.Decide.{dec_lt}
 use Rattle.gate_world.specs.Views.{opening_view}
 use Rattle.gate_steps.proofs.call_events.{Dealing.{one_if-other, one_if-same, times-append}, Giving.{times-without, times-without_other, view_in-at}}
-use Rattle.gate_steps.{proofs.call_events.Opening.{times-deal, times-deal_above, times-deal_below}, specs.call_events.GhostAgrees.AllRest}
-use Rattle.gate_steps.specs.call_events.{GhostAgrees.{GhostAgrees, IsStill, Keeps, OwnNumberAgrees, PhaseOk}, Seating.{DealtNumbers, deal, given_of}}
-use Rattle.gate_steps.specs.call_events.{Seating.{kept_of, numbered, one_if, renewed, times, view_in, without}, TaskState.TaskState}
-use Rattle.gate_steps.specs.call_events.TaskStates.{idle_task}
-use Rattle.vfs_gates.{proofs.FlagSteps.{IsSet, false_true}, specs.TaskStates.{Empty, IsNothing, spare_of}}
+use Rattle.gate_steps.{proofs.call_events.Opening.{times-deal, times-deal_above, times-deal_below}, specs.call_events.GhostAgrees.{AllRest, IsStill}}
+use Rattle.gate_steps.specs.call_events.{GhostAgrees.{Keeps, OwnNumberAgrees, PhaseOk}, Seating.{DealtNumbers, deal, given_of, kept_of, numbered}}
+use Rattle.gate_steps.specs.call_events.{Seating.{one_if, renewed, times, view_in, without}, TaskStates.idle_task}
 
 -- an idle seat has no access at a mount
 idle_mount : (m : ℕ) → m < 8 → ◌≡◌ {A = ℕ} (get_or (replicate 8 0) m 0) 0

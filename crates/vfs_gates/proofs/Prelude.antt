@@ -1,19 +1,28 @@
 -- What many of the proofs of this crate take, by one name each. Nothing of the proofs themselves is passed on here.
-pub use Rattle.access_model.specs.{Histories.{IsLegal, end_of, own_part}, States.{Limits, State}, declared.actions.Action.{Action, TheVariants.Grant}}
-pub use Rattle.access_model.specs.declared.{actions.Holder.Holder, errors.GateError.GateError, replies.Next.{Next, TheVariants.{Done, Go, Wait}}}
-pub use Rattle.access_model.specs.declared.replies.Reply.{Reply}
-pub use Rattle.cpu_words.specs.{Hooks.HookAnswer, declared.{events.Event.Event, names.WordName.WordName}}
-pub use Rattle.gate_steps.{proofs.call_events.{Effects.call_effect, Grown.{after_more, only}, Moments.actions_append}, specs.Seating.DealtNumbers}
-pub use Rattle.gate_steps.specs.{Seating.{HaveHistory, IsPrefix}, call_events.{Grown.{HasSeen, StaySeen}, Runs.{AreMoves, Called, ran_items}}}
-pub use Rattle.gate_steps.specs.{call_events.Runs.{told_as, unit_of}, declared.seating.Numbered.Numbered}
+pub use Rattle.access_model.specs.{Histories.{IsLegal, end_of, own_part}, Replies.map_next, States.{Limits, State}, declared.actions.Action.Action}
+pub use Rattle.access_model.specs.declared.actions.{Action.TheVariants.Grant, Gate.{Gate, TheVariants.{Level, Mount}}, Holder.Holder}
+pub use Rattle.access_model.specs.declared.{errors.GateError.GateError, replies.{Next.{Next, TheVariants.{Done, Go, Wait}}, Reply.Reply}}
+pub use Rattle.cpu_words.specs.{Hooks.HookAnswer, Touches.event_of, Words.read, declared.{events.Event.Event, names.WordName.WordName}}
+pub use Rattle.gate_schedules.proofs.schedules.HeadlineProof.{whole_run}
+pub use Rattle.gate_steps.proofs.call_events.{Effects.call_effect, Grown.{after_more, only, stays_seen_on}, Moments.{actions_append, part_more}}
+pub use Rattle.gate_steps.specs.Seating.{DealtNumbers, HaveHistory, IsPrefix, deal, done_by, given_of, kept_of, times, view_in}
+pub use Rattle.gate_steps.specs.call_events.{GhostAgrees.GhostAgrees, Grown.{HasSeen, StaySeen}, Runs.{AreMoves, Called, OpUnderWay, Performs}}
+pub use Rattle.gate_steps.specs.call_events.{Runs.{ran_items, told_as, unit_of}, Spans.{IsEventDuring, TakesEffect}, TaskState.TaskState}
+pub use Rattle.gate_steps.specs.declared.seating.Numbered.{Numbered}
 pub use Rattle.gate_world.specs.{Configs.{IsWithin, model_limits}, Headline.{actions_since, actions_so_far, world_after}, Shown.shown}
 pub use Rattle.gate_world.specs.{Views.phase_after, Work.{after_of, next_of}, Worlds.World, declared.{config.Config.Config, entries.Entry.Entry}}
-pub use Rattle.gate_world.specs.declared.{operations.Op.{Op, TheVariants.{ChangeMount, Freeze, WantWrite}}, views.{Traced.Traced, View.View}}
-pub use Rattle.gate_world.specs.{declared.work.Phase.Phase, traces.{TraceStates.state_of_trace, Traces.actions_of}}
-pub use Rattle.gated_tree.specs.Phases.{at_snapshot}
-pub use Rattle.std.proofs.Common.{Bool, List, [], ap, arith, false, inl, inr, length, refl, subst, suc, sym, true, zero, ℕ, ◌++◌, ◌+◌, ◌<◌, ◌∙◌, ◌∷◌}
-pub use Rattle.std.{proofs.{Common.{◌≡◌, ◌≤◌}, lemmas.{Bool.{Decides.eqb_tells, cases_Bool}, List.append_assoc}}, specs.Prelude.{Err, None, Ok}}
-pub use Rattle.std.specs.Prelude.{Option, Result, Some, if◌then◌else◌, is_some, ◌==◌}
-pub use Rattle.vfs_gates.specs.{Buffers.BufferWords, Held.own_actions, TaskStates.{SeatedTask, own_number, own_view, refusal_at}}
+pub use Rattle.gate_world.specs.declared.{entries.Entry.TheVariants.Steps, operations.Op.{Op, TheVariants.{ChangeMount, Freeze, RemountSb, Want}}}
+pub use Rattle.gate_world.specs.declared.{operations.Op.TheVariants.WantWrite, views.{Traced.Traced, View.View}, work.Phase.Phase}
+pub use Rattle.gate_world.specs.{declared.work.Phase.TheVariants.Trees, traces.{Found.is_load, TraceStates.state_of_trace, Traces.IsHonestAnswer}}
+pub use Rattle.gate_world.specs.traces.Traces.{actions_of}
+pub use Rattle.gated_tree.specs.{Phases.at_snapshot, declared.trees.TreeWords.TreeWords}
+pub use Rattle.std.proofs.Common.{Bool, Err, List, None, Ok, Some, [], ap, arith, false, get_or, inl, inr, length, lt-ltb, refl, subst, suc, sym}
+pub use Rattle.std.proofs.{Common.{true, true≢false, zero, ℕ, ◌++◌, ◌+◌, ◌<◌, ◌∙◌, ◌∷◌, ◌≡◌, ◌≤◌, ◌⊎◌}, lemmas.Bool.{Decides.eqb_tells, and_parts}}
+pub use Rattle.std.{proofs.lemmas.{Bool.cases_Bool, List.{append-nil, append_assoc}}, specs.Prelude.{Option, Result, if◌then◌else◌, is_some, not}}
+pub use Rattle.std.specs.Prelude.{◌==◌}
+pub use Rattle.vfs_gates.specs.{Buffers.{BufferWords, BuffersMatch, words_in}, Ended.EndedWith, Held.{IsAsBefore, Rests, own_actions}}
+pub use Rattle.vfs_gates.specs.{Meetings.{HasDone, NoneIs}, Noted.snapshot_at, Parts.SplitOf, TaskStates.{Empty, SeatedTask, own_number, own_view}}
+pub use Rattle.vfs_gates.specs.TaskStates.{refusal_at, spare_of, task_state}
 pub use lib.ListN.{get_elem?}
-pub use mathlib.Core.Option.{some}
+pub use mathlib.Core.{Logic.dite, Option.some}
+pub use native.Mathlib.Decide.{ℕ_discrete}

@@ -1,7 +1,6 @@
 -- A change of a mount to writable, which waits: it is done.
-use Rattle.vfs_gates.proofs.Prelude.{Action, Config, HookAnswer, Next, Ok, Op, Phase, Reply, Traced, after_of, cases_Bool, false, inl, inr, refl}
-use Rattle.vfs_gates.proofs.Prelude.{state_of_trace, subst, sym, true, ℕ, ◌==◌, ◌≡◌}
-use Rattle.std.specs.Prelude.{List, [], ◌∷◌}
+use Rattle.vfs_gates.proofs.Prelude.{Action, Config, HookAnswer, List, Next, Ok, Op, Phase, Reply, Traced, [], after_of, cases_Bool, false, inl, inr}
+use Rattle.vfs_gates.proofs.Prelude.{refl, state_of_trace, subst, sym, true, ℕ, ◌==◌, ◌∷◌, ◌≡◌}
 use Rattle.mount_counts.specs.{Phases.has_flag, declared.phases.{ChangeStep.ChangeStep, MountPhase.MountPhase}}
 use Rattle.gate_world.specs.traces.TraceStates.{trace_state_after}
 

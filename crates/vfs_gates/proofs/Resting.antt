@@ -1,15 +1,16 @@
 -- What calls are of a task that rests.
-use Rattle.vfs_gates.proofs.Prelude.{Bool, Called, ChangeMount, Config, DealtNumbers, Entry, Err, GateError, List, None, Ok, Op, Option, Reply}
-use Rattle.vfs_gates.proofs.Prelude.{Result, SeatedTask, Some, Traced, View, [], ap, arith, false, length, own_actions, own_number, own_view, refl}
-use Rattle.vfs_gates.proofs.Prelude.{refusal_at, subst, suc, sym, told_as, true, unit_of, zero, ℕ, ◌++◌, ◌<◌, ◌∙◌, ◌∷◌, ◌≡◌, ◌≤◌}
-use Rattle.std.{proofs.Common.{cond, eqb, lt-ltb, true≢false}, specs.Prelude.IfErr}
+use Rattle.vfs_gates.proofs.Prelude.{Bool, Called, ChangeMount, Config, DealtNumbers, Empty, EndedWith, Entry, Err, GateError, GhostAgrees}
+use Rattle.vfs_gates.proofs.Prelude.{IsHonestAnswer, List, None, Ok, Op, Option, Performs, Reply, Rests, Result, SeatedTask, Some, SplitOf, TaskState}
+use Rattle.vfs_gates.proofs.Prelude.{Traced, View, Want, [], ap, arith, deal, false, given_of, kept_of, length, lt-ltb, own_actions, own_number}
+use Rattle.vfs_gates.proofs.Prelude.{own_view, refl, refusal_at, spare_of, subst, suc, sym, task_state, times, told_as, true, true≢false, unit_of}
+use Rattle.vfs_gates.proofs.Prelude.{view_in, zero, ℕ, ◌++◌, ◌<◌, ◌∙◌, ◌∷◌, ◌≡◌, ◌≤◌}
+use Rattle.vfs_gates.{proofs.{Holding.{adds, keeps, refused_call_keeps, rests_on}, Parting.rest-at}, specs.TaskStates.IsFrom}
+use Rattle.vfs_gates.specs.declared.gates.Gates.{Gates}
+use Rattle.std.{proofs.Common.{cond, eqb}, specs.Prelude.IfErr}
 use Rattle.access_model.specs.declared.errors.GateError.TheVariants.{Again, Busy, ReadOnly}
-use Rattle.gate_world.specs.{Views.opening_view, declared.operations.Op.TheVariants.Want, traces.Traces.IsHonestAnswer}
+use Rattle.gate_world.specs.Views.{opening_view}
 use Rattle.atomic_table.specs.Seated.{TableId}
-use Rattle.gate_steps.{proofs.call_events.Giving.view_in-at, specs.{Rules.first_known, Seating.{HaveViews, deal, given_of, kept_of, numbered, times}}}
-use Rattle.gate_steps.specs.{Seating.view_in, call_events.{GhostAgrees.GhostAgrees, Runs.Performs, TaskState.TaskState}}
-use Rattle.vfs_gates.{proofs.{Holding.{adds, keeps, refused_call_keeps, rests_on}, Parting.rest-at}, specs.{Ended.EndedWith, Held.Rests}}
-use Rattle.vfs_gates.specs.{Parts.SplitOf, TaskStates.{Empty, IsFrom, spare_of, task_state}, declared.gates.Gates.Gates}
+use Rattle.gate_steps.{proofs.call_events.Giving.view_in-at, specs.{Rules.first_known, Seating.{HaveViews, numbered}}}
 
 -- there is a mount and a processor
 pub some_mount : (s : SeatedTask) (g : Gates) → IsFrom s g → 0 < s.config.mounts

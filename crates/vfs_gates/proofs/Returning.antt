@@ -1,14 +1,14 @@
 -- What a return leaves of a task whose access was granted before.
-use Rattle.vfs_gates.proofs.Prelude.{Bool, Called, Config, Err, GateError, Grant, List, None, Ok, Op, Option, Reply, Result, SeatedTask, Some, Traced}
-use Rattle.vfs_gates.proofs.Prelude.{WantWrite, ap, arith, eqb_tells, false, inl, inr, is_some, own_actions, own_view, refl, refusal_at, subst, sym}
-use Rattle.vfs_gates.proofs.Prelude.{told_as, true, unit_of, ℕ, ◌+◌, ◌<◌, ◌∙◌, ◌∷◌, ◌≡◌}
-use Rattle.std.{proofs.{Common.{lt-ltb, ◌-◌}, Math.Path.fun_ext, lemmas.Bool.{and_parts, ltb-true, not-true}}, specs.Prelude.{nat_lt, not}}
+use Rattle.vfs_gates.proofs.Prelude.{Bool, Called, Config, Err, GateError, Grant, IsAsBefore, IsHonestAnswer, Level, List, Mount, None, Ok, Op}
+use Rattle.vfs_gates.proofs.Prelude.{Option, Performs, Reply, Result, SeatedTask, Some, Traced, Want, WantWrite, and_parts, ap, arith, eqb_tells}
+use Rattle.vfs_gates.proofs.Prelude.{false, inl, inr, is_some, lt-ltb, not, own_actions, own_view, refl, refusal_at, subst, sym, told_as, true}
+use Rattle.vfs_gates.proofs.Prelude.{unit_of, ℕ, ◌+◌, ◌<◌, ◌∙◌, ◌∷◌, ◌≡◌}
+use Rattle.vfs_gates.{proofs.Holding.{adds, stays, unchanged}, specs.{Held.IsGivenBack, TaskStates.IsIdle}}
+use Rattle.std.{proofs.{Common.◌-◌, Math.Path.fun_ext, lemmas.Bool.{ltb-true, not-true}}, specs.Prelude.nat_lt}
 use Rattle.finite_sums.{proofs.Totals.{update_at, update_off}, specs.Sums.update}
-use Rattle.access_model.specs.{Histories.{levels_of, mounts_of}, declared.actions.{Action.TheVariants.Return, Gate.TheVariants.{Level, Mount}}}
+use Rattle.access_model.specs.{Histories.{levels_of, mounts_of}, declared.actions.Action.TheVariants.Return}
 use Rattle.gate_world.specs.{Holdings.{Holdings, held_after, holdings_of}, Views.held_of, declared.operations.Op.TheVariants.{DropMount, DropWrite}}
-use Rattle.gate_world.specs.{declared.operations.Op.TheVariants.Want, traces.Traces.IsHonestAnswer}
-use Rattle.gate_steps.{proofs.call_events.Beginnings.{MayBegin, may_begin}, specs.call_events.Runs.Performs}
-use Rattle.vfs_gates.{proofs.Holding.{adds, stays, unchanged}, specs.{Held.{IsAsBefore, IsGivenBack}, TaskStates.IsIdle}}
+use Rattle.gate_steps.proofs.call_events.Beginnings.{MayBegin, may_begin}
 
 -- a call that was done began, and was one whole operation that replied
 pub record WasDone (op : Op) (old left : SeatedTask) : Type 0 where

@@ -1,13 +1,13 @@
 -- Tasks that are split off, one after the other, take the numbers in their order, and none is refused but for memory.
-use Rattle.vfs_gates.proofs.Prelude.{Config, DealtNumbers, GateError, List, SeatedTask, [], ap, arith, false, length, own_number, own_view, refl}
-use Rattle.vfs_gates.proofs.Prelude.{subst, suc, sym, true, zero, ℕ, ◌++◌, ◌+◌, ◌<◌, ◌∙◌, ◌∷◌, ◌≡◌, ◌≤◌}
+use Rattle.vfs_gates.proofs.Prelude.{Config, DealtNumbers, GateError, List, SeatedTask, SplitOf, [], ap, arith, deal, dite, false, given_of, kept_of}
+use Rattle.vfs_gates.proofs.Prelude.{length, own_number, own_view, refl, spare_of, subst, suc, sym, times, true, view_in, zero, ℕ, ℕ_discrete, ◌++◌}
+use Rattle.vfs_gates.proofs.Prelude.{◌+◌, ◌<◌, ◌∙◌, ◌∷◌, ◌≡◌, ◌≤◌}
+use Rattle.vfs_gates.specs.{Parts.SplitRefused, Splitting.{AreNumbered, Gives, HasBegun, HaveDoneNothing}, TaskStates.IsIdle}
 use Rattle.std.proofs.Common.{cond, eqb, ◌≢◌}
-use mathlib.Core.Logic.{dite}
-use native.Mathlib.Decide.{dec_lt, ℕ_discrete}
+use native.Mathlib.Decide.{dec_lt}
 use Rattle.access_model.specs.declared.errors.GateError.TheVariants.{NoMemory, Order, TooMany}
 use Rattle.gate_steps.proofs.call_events.{Giving.{times-without, times-without_other}, Opening.{times-deal, times-deal_below}}
-use Rattle.gate_steps.specs.{Rules.first_items, Seating.{deal, given_of, kept_of, times, view_in, without}}
-use Rattle.vfs_gates.specs.{Parts.{SplitOf, SplitRefused}, Splitting.{AreNumbered, Gives, HasBegun, HaveDoneNothing}, TaskStates.{IsIdle, spare_of}}
+use Rattle.gate_steps.specs.{Rules.first_items, Seating.without}
 
 -- the numbers behind the first of so many
 later_dealt : (count k : ℕ) → 1 ≤ k → k < count → times k (spare_of (deal 0 count)) ≡ 1

@@ -1,19 +1,16 @@
 -- A snapshot that replied has taken one: its last load but its release is the last load of the tree.
-use Rattle.vfs_gates.proofs.Prelude.{Action, Bool, Called, Config, DealtNumbers, Done, Err, GateError, Go, Next, None, Ok, Op, Option, Phase, Reply}
-use Rattle.vfs_gates.proofs.Prelude.{Result, SeatedTask, Some, Traced, View, Wait, ap, arith, at_snapshot, cases_Bool, inl, inr, is_some, own_number}
-use Rattle.vfs_gates.proofs.Prelude.{own_view, ran_items, refl, refusal_at, state_of_trace, subst, told_as, unit_of, ℕ, ◌==◌, ◌∙◌, ◌≡◌, ◌≤◌}
-use Rattle.std.specs.Prelude.{List, [], false, length, true, ◌++◌, ◌∷◌}
-use Rattle.access_model.specs.Replies.{map_next}
+use Rattle.vfs_gates.proofs.Prelude.{Action, Bool, Called, Config, DealtNumbers, Done, Err, GateError, Go, List, Next, None, Ok, Op, Option, Performs}
+use Rattle.vfs_gates.proofs.Prelude.{Phase, Reply, Result, SeatedTask, Some, Traced, TreeWords, Trees, View, Wait, [], ap, arith, at_snapshot}
+use Rattle.vfs_gates.proofs.Prelude.{cases_Bool, done_by, false, inl, inr, is_some, length, map_next, own_number, own_view, ran_items, refl}
+use Rattle.vfs_gates.proofs.Prelude.{refusal_at, spare_of, state_of_trace, subst, told_as, true, unit_of, ℕ, ◌++◌, ◌==◌, ◌∙◌, ◌∷◌, ◌≡◌, ◌≤◌}
+use Rattle.vfs_gates.{proofs.Seeing.{call_saw, same_own}, specs.Seen.HasTaken}
 use Rattle.gated_tree.specs.{Phases.{kids_step, node_step, snapshot_after, snapshot_locked_out}, Trees.{LoadedClean, LoadedSound}}
 use Rattle.gated_tree.specs.declared.{phases.TreePhase.TheVariants.Snapshot as Snapshots, snapshots.{Snapshot.Snapshot, SnapshotStep.SnapshotStep}}
 use Rattle.gated_tree.specs.declared.snapshots.SnapshotStep.TheVariants.{LoadsKids, LoadsNode, LoadsStage, LoadsUsed, Locks, Releases}
-use Rattle.gated_tree.specs.declared.trees.TreeWords.{TreeWords}
 use Rattle.node_words.specs.Nodes.{node_after, unpacked}
 use Rattle.gate_world.specs.{Views.actions_after, declared.{operations.Op.TheVariants.Snapshot as SnapshotOp, views.Snapshot.Snapshot as Noted}}
-use Rattle.gate_world.specs.{declared.work.Phase.TheVariants.Trees, traces.Snapshots.{last_snapshot, noted_last, snapshot_completes}}
-use Rattle.gate_world.specs.traces.TraceStates.{IsNext, IsTrace, trace_state_after}
-use Rattle.gate_steps.specs.{Seating.done_by, call_events.Runs.{Performs, completed_by, ran_snapshot}}
-use Rattle.vfs_gates.{proofs.Seeing.{call_saw, same_own}, specs.{Seen.HasTaken, TaskStates.spare_of}}
+use Rattle.gate_world.specs.traces.{Snapshots.{last_snapshot, noted_last, snapshot_completes}, TraceStates.{IsNext, IsTrace, trace_state_after}}
+use Rattle.gate_steps.specs.call_events.Runs.{completed_by, ran_snapshot}
 
 -- no step of a snapshot adds an action
 pub adds_none : (s : Snapshot) (step : SnapshotStep) (found : ℕ) → (snapshot_after s step found).1 ≡ None

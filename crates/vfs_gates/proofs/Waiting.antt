@@ -1,19 +1,20 @@
 -- What a task tells of its waits, as its operations begin, go on and end.
-use Rattle.vfs_gates.proofs.Prelude.{Action, Bool, ChangeMount, Config, DealtNumbers, Done, Entry, Event, Freeze, Go, HookAnswer, Next, None, Op}
-use Rattle.vfs_gates.proofs.Prelude.{Option, Phase, SeatedTask, Some, Traced, View, Wait, WantWrite, after_of, ap, arith, false, is_some, length}
-use Rattle.vfs_gates.proofs.Prelude.{next_of, own_number, own_view, phase_after, ran_items, refl, state_of_trace, subst, suc, sym, true, zero, ℕ, ◌+◌}
-use Rattle.vfs_gates.proofs.Prelude.{◌∙◌, ◌≡◌, ◌≤◌}
+use Rattle.vfs_gates.proofs.Prelude.{Action, Bool, ChangeMount, Config, DealtNumbers, Done, Entry, Event, Freeze, GhostAgrees, Go, HookAnswer, List}
+use Rattle.vfs_gates.proofs.Prelude.{Next, None, Op, Option, Phase, RemountSb, SeatedTask, Some, TaskState, Traced, View, Wait, Want, WantWrite, []}
+use Rattle.vfs_gates.proofs.Prelude.{after_of, ap, arith, deal, done_by, event_of, false, given_of, is_some, kept_of, length, next_of, own_number}
+use Rattle.vfs_gates.proofs.Prelude.{own_view, phase_after, ran_items, refl, state_of_trace, subst, suc, sym, task_state, true, true≢false, zero, ℕ}
+use Rattle.vfs_gates.proofs.Prelude.{◌++◌, ◌+◌, ◌∙◌, ◌∷◌, ◌≡◌, ◌≤◌}
+use Rattle.vfs_gates.{proofs.Calling.{Call, Left, same}, specs.Waits.{StandsBy, WaitsTell, counted, is_wait}}
 use Rattle.gate_world.specs.{Views.{begun_view, opening_view, view_after_with_others, with_hook}, declared.accesses.Accesses.Accesses}
-use Rattle.gate_world.specs.declared.operations.Op.TheVariants.{Callback, Close, RemountSb, Snapshot, Start, Thaw, Want}
-use Rattle.gate_world.specs.traces.{TraceStates.TraceState, Traces.{MayWait, most_events}}
-use Rattle.gate_steps.{proofs.call_events.Running.{course_is, same_wait}, specs.{Rules.first_items, Seating.{deal, done_by, given_of, items_after}}}
-use Rattle.gate_steps.specs.{Seating.{kept_of, knows}, call_events.{GhostAgrees.{GhostAgrees, PhaseOk}, Refused.{IsHonestWait, WaitsHonestly}}}
-use Rattle.gate_steps.specs.call_events.{Runs.{IsBounded, begins_at, items_at}, Step.Step, Stepped.Stepped, TaskState.TaskState, Turns.state_at}
-use Rattle.gate_steps.specs.call_events.{Turns.step_was, Waited.{OpAfterStepWaiting, OpUnderWayWaiting, waits_by, waits_in}}
-use Rattle.std.{proofs.Common.{add-zero, true≢false}, specs.Prelude.{List, [], ◌++◌, ◌∷◌}}
+use Rattle.gate_world.specs.{declared.operations.Op.TheVariants.{Callback, Close, Snapshot, Start, Thaw}, traces.TraceStates.TraceState}
+use Rattle.gate_world.specs.traces.Traces.{MayWait, most_events}
+use Rattle.gate_steps.{proofs.call_events.Running.{course_is, same_wait}, specs.{Rules.first_items, Seating.{items_after, knows}}}
+use Rattle.gate_steps.specs.call_events.{GhostAgrees.PhaseOk, Refused.{IsHonestWait, WaitsHonestly}, Runs.{IsBounded, begins_at, items_at}, Step.Step}
+use Rattle.gate_steps.specs.call_events.{Stepped.Stepped, Turns.{state_at, step_was}, Waited.{OpAfterStepWaiting, OpUnderWayWaiting, waits_by}}
+use Rattle.gate_steps.specs.call_events.Waited.{waits_in}
+use Rattle.std.proofs.Common.{add-zero}
 use Rattle.atomic_table.specs.Seated.{TableId}
-use Rattle.cpu_words.specs.Touches.{event_of, found_by}
-use Rattle.vfs_gates.{proofs.Calling.{Call, Left, same}, specs.{TaskStates.task_state, Waits.{StandsBy, WaitsTell, counted, is_wait}}}
+use Rattle.cpu_words.specs.Touches.{found_by}
 
 -- an idle number with no operation has none to tell
 pub tell_none : (c : Config) (t : ℕ) (v : View) → v.op ≡ None → v.phase ≡ None → WaitsTell c t v 0

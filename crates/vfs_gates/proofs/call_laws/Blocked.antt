@@ -1,7 +1,8 @@
 -- A step that waits finds its blocker in the state in which it is done.
-use Rattle.vfs_gates.proofs.Prelude.{AreMoves, Called, Config, DealtNumbers, Entry, GateError, HookAnswer, IsPrefix, List, Next, None, Numbered, Op}
-use Rattle.vfs_gates.proofs.Prelude.{Option, Phase, Reply, Result, Some, Traced, View, Wait, World, [], after_of, ap, append_assoc, arith, next_of}
-use Rattle.vfs_gates.proofs.Prelude.{refl, state_of_trace, subst, sym, world_after, ℕ, ◌++◌, ◌∙◌, ◌∷◌, ◌≡◌}
+use Rattle.vfs_gates.proofs.Prelude.{AreMoves, Called, Config, DealtNumbers, Entry, GateError, HookAnswer, IsEventDuring, IsPrefix, List, Next, None}
+use Rattle.vfs_gates.proofs.Prelude.{Numbered, Op, Option, Phase, Reply, Result, Some, Traced, View, Wait, World, [], after_of, ap, append_assoc}
+use Rattle.vfs_gates.proofs.Prelude.{arith, next_of, refl, state_of_trace, subst, sym, world_after, ℕ, ◌++◌, ◌∙◌, ◌∷◌, ◌≡◌}
+use Rattle.vfs_gates.specs.Blockers.{WasBlocked, WasBlockedDuring}
 use Rattle.cpu_words.specs.{Touches.found_by, declared.events.Touch.Touch}
 use Rattle.gate_world.specs.{Worlds.found_at, declared.entries.Entry.TheVariants.Begins, refusals.Waits.HasCulpritAmong}
 use Rattle.gate_world.specs.traces.TraceStates.{TraceState, trace_state_after, trace_state_with}
@@ -9,8 +10,7 @@ use Rattle.gate_transitions.specs.{Answers.progress_of, declared.steps.{Progress
 use Rattle.gate_schedules.proofs.schedules.HeadlineProof.{whole_waits}
 use Rattle.gate_steps.{proofs.call_events.{Running.course_is, Spanning.each_event}, specs.{Histories.then_begins, Seating.HasWitness}}
 use Rattle.gate_steps.specs.{Seating.{NumberMayStep, entered, world_entered}, call_events.{SeatedTasks.{SeatedTask, own_number}, Spans.HappensAfter}}
-use Rattle.gate_steps.specs.call_events.{Spans.IsEventDuring, Stepped.{Stepped, ToldIn}, Waited.is_wait}
-use Rattle.vfs_gates.specs.Blockers.{WasBlocked, WasBlockedDuring}
+use Rattle.gate_steps.specs.call_events.{Stepped.{Stepped, ToldIn}, Waited.is_wait}
 
 -- what comes next is a wait
 waits_so : (next : Next Phase) → progress_of next ≡ Waiting → (again : Phase) × (next ≡ Wait again)

@@ -1,11 +1,12 @@
 -- The state of gates that are closed.
-use Rattle.vfs_gates.proofs.Prelude.{Config, DealtNumbers, Entry, List, View, World, ap, arith, refl, subst, suc, sym, zero, ℕ, ◌<◌, ◌∙◌, ◌≡◌, ◌≤◌}
+use Rattle.vfs_gates.proofs.Prelude.{Config, DealtNumbers, EndedWith, Entry, List, View, World, ap, arith, deal, refl, subst, suc, sym, times}
+use Rattle.vfs_gates.proofs.Prelude.{view_in, zero, ℕ, ◌<◌, ◌∙◌, ◌≡◌, ◌≤◌}
+use Rattle.vfs_gates.{proofs.Parting.rest-at, specs.Ended.{Ended, HasOpeningWords, IsLeftAfter, IsLeftBySchedule}}
 use Rattle.gate_steps.{proofs.call_events.{Giving.{view_in-at, view_in-is}, Opening.times-deal, OperationLaws.by_bool}, specs.Histories.IsReached}
-use Rattle.gate_steps.specs.{Rules.{TableShows, first_items}, Seating.{deal, numbered, times, view_in}, Tables.IsClosing}
-use Rattle.gate_steps.specs.{call_events.GhostAgrees.{AllRest, IsStill}, declared.seating.Knowledge.Knowledge}
+use Rattle.gate_steps.specs.{Rules.{TableShows, first_items}, Seating.numbered, Tables.IsClosing, call_events.GhostAgrees.{AllRest, IsStill}}
+use Rattle.gate_steps.specs.declared.seating.Knowledge.{Knowledge}
 use Rattle.std.proofs.Common.{cond, eqb}
 use Rattle.gate_world.specs.Views.{opening_view}
-use Rattle.vfs_gates.{proofs.Parting.rest-at, specs.Ended.{Ended, EndedWith, HasOpeningWords, IsLeftAfter, IsLeftBySchedule}}
 
 -- all numbers are back in a seat whose views rest: so each number rests, and has the view that the seat knows
 pub ended : (c : Config) (k : Knowledge) (ws : List ℕ) → IsClosing c ws k → AllRest c k.items →

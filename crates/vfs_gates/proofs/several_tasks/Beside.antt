@@ -1,14 +1,15 @@
 -- What tasks that meet know of each other's calls.
-use Rattle.vfs_gates.proofs.Prelude.{Action, ChangeMount, Config, DealtNumbers, Entry, Err, GateError, Grant, HasSeen, HaveHistory, List, Numbered}
-use Rattle.vfs_gates.proofs.Prelude.{Ok, Op, Reply, Result, SeatedTask, StaySeen, WantWrite, [], ap, arith, get_elem?, length, own_actions}
-use Rattle.vfs_gates.proofs.Prelude.{own_number, own_view, refl, some, subst, suc, sym, ℕ, ◌++◌, ◌+◌, ◌<◌, ◌∙◌, ◌∷◌, ◌≡◌, ◌≤◌}
-use Rattle.std.specs.Prelude.{Bool, IfErr, true}
-use Rattle.finite_sums.proofs.Totals.{update_at}
-use Rattle.access_model.specs.{Histories.mounts_of, declared.{actions.Gate.TheVariants.{Level, Mount}, errors.GateError.TheVariants.Busy}}
-use Rattle.gate_world.specs.{Views.held_at, declared.operations.Op.TheVariants.RemountSb}
-use Rattle.gate_steps.{proofs.call_events.Grown.{both_stay_seen, same_stays_seen, stays_seen_on}, specs.{Seating.numbered, call_events.Runs.Performs}}
+use Rattle.vfs_gates.proofs.Prelude.{Action, Bool, ChangeMount, Config, DealtNumbers, Entry, Err, GateError, Grant, HasDone, HaveHistory, Level, List}
+use Rattle.vfs_gates.proofs.Prelude.{Mount, Numbered, Ok, Op, Performs, RemountSb, Reply, Rests, Result, SeatedTask, StaySeen, WantWrite, [], ap}
+use Rattle.vfs_gates.proofs.Prelude.{arith, get_elem?, length, own_actions, own_number, own_view, refl, some, stays_seen_on, subst, suc, sym, true, ℕ}
+use Rattle.vfs_gates.proofs.Prelude.{◌++◌, ◌+◌, ◌<◌, ◌∙◌, ◌∷◌, ◌≡◌, ◌≤◌}
 use Rattle.vfs_gates.proofs.{Holding.adds, Resting.change_busy, Returning.was_done, several_tasks.Keeping.{change_refused, remount_busy}}
-use Rattle.vfs_gates.specs.{Held.Rests, Meetings.{Encloses, HasDone, HoldsAt, Meets}}
+use Rattle.vfs_gates.specs.Meetings.{Encloses, HoldsAt, Meets}
+use Rattle.std.specs.Prelude.{IfErr}
+use Rattle.finite_sums.proofs.Totals.{update_at}
+use Rattle.access_model.specs.{Histories.mounts_of, declared.errors.GateError.TheVariants.Busy}
+use Rattle.gate_world.specs.Views.{held_at}
+use Rattle.gate_steps.proofs.call_events.Grown.{both_stay_seen, same_stays_seen}
 
 -- what either had seen, both have seen
 pub met_stays : (one two first second : SeatedTask) → Meets one two first second →

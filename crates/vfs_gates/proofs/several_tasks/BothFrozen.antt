@@ -1,18 +1,14 @@
 -- What two tasks that have all numbers know of a freeze that one of them was granted.
-use Rattle.vfs_gates.proofs.Prelude.{Action, Bool, Err, Freeze, GateError, Grant, Holder, List, None, Ok, Op, Reply, Result, SeatedTask, Traced}
-use Rattle.vfs_gates.proofs.Prelude.{WantWrite, WordName, [], actions_of, ap, arith, cases_Bool, false, if◌then◌else◌, inl, inr, refl, refusal_at}
-use Rattle.vfs_gates.proofs.Prelude.{subst, sym, told_as, true, unit_of, ℕ, ◌++◌, ◌<◌, ◌∷◌, ◌≡◌, ◌≤◌}
-use Rattle.std.{proofs.Common.lt-ltb, specs.Prelude.IfErr}
-use Rattle.access_model.specs.declared.actions.{Action.TheVariants.{Clean, Hold, Pass, Stage as StageAction}, Gate.Gate}
-use Rattle.access_model.specs.declared.errors.GateError.TheVariants.{Again}
+use Rattle.vfs_gates.proofs.Prelude.{Action, Bool, Err, Freeze, Gate, GateError, Grant, Holder, IsHonestAnswer, List, None, NoneIs, Ok, Op, Performs}
+use Rattle.vfs_gates.proofs.Prelude.{Reply, Rests, Result, SeatedTask, Traced, WantWrite, WordName, [], actions_of, ap, arith, cases_Bool, false, inl}
+use Rattle.vfs_gates.proofs.Prelude.{inr, lt-ltb, refl, refusal_at, subst, sym, told_as, unit_of, ℕ, ◌++◌, ◌<◌, ◌∷◌, ◌≡◌}
+use Rattle.vfs_gates.proofs.{Returning.was_done, several_tasks.{Between.{around_both, writable_there}, GrantedFreeze.none_started_later}}
+use Rattle.vfs_gates.{proofs.several_tasks.GrantedFreeze.none_written_later, specs.Meetings.{HaveAll, Meets, NoneDone, Seals, Thaws}}
+use Rattle.std.specs.Prelude.{IfErr}
+use Rattle.access_model.specs.declared.{actions.Action.TheVariants.{Clean, Hold, Pass, Stage as StageAction}, errors.GateError.TheVariants.Again}
 use Rattle.cpu_words.specs.declared.{events.Touch.{TheVariants.And, Touch}, names.WordName.TheVariants.Node}
 use Rattle.gate_world.specs.{declared.operations.Op.TheVariants.Start, traces.Found.{clean_found, cleans, found_complete, found_sealed}}
-use Rattle.gate_world.specs.traces.Traces.{IsHonestAnswer}
 use Rattle.mount_counts.specs.Phases.{has_flag}
-use Rattle.gate_steps.specs.call_events.Runs.{Performs}
-use Rattle.vfs_gates.proofs.{Returning.was_done, several_tasks.{Between.{around_both, writable_there}, GrantedFreeze.none_started_later}}
-use Rattle.vfs_gates.{proofs.several_tasks.GrantedFreeze.none_written_later, specs.{Held.Rests, Meetings.{HaveAll, Meets, NoneDone, NoneIs, Seals}}}
-use Rattle.vfs_gates.specs.Meetings.{Thaws}
 
 -- a kind of actions of which a freeze that was granted adds none
 module _ (Is : Action → Type 0) (holds : (h : Holder) → Is (Hold h) → ⊥) (stages : (n : ℕ) → Is (StageAction n) → ⊥)

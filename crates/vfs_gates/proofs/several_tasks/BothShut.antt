@@ -1,12 +1,12 @@
 -- What two tasks that have all numbers know of a mount that one of them has made read-only.
-use Rattle.vfs_gates.proofs.Prelude.{Bool, ChangeMount, Err, GateError, List, None, Ok, Op, Reply, Result, SeatedTask, Traced, WantWrite, actions_of}
-use Rattle.vfs_gates.proofs.Prelude.{ap, arith, cases_Bool, inl, inr, refl, refusal_at, subst, sym, told_as, true, unit_of, ℕ, ◌++◌, ◌<◌, ◌≡◌}
-use Rattle.std.{proofs.Common.lt-ltb, specs.Prelude.IfErr}
+use Rattle.vfs_gates.proofs.Prelude.{Bool, ChangeMount, Err, GateError, IsHonestAnswer, List, None, NoneIs, Ok, Op, Performs, Reply, Rests, Result}
+use Rattle.vfs_gates.proofs.Prelude.{SeatedTask, Traced, Want, WantWrite, actions_of, ap, arith, cases_Bool, inl, inr, lt-ltb, refl, refusal_at}
+use Rattle.vfs_gates.proofs.Prelude.{subst, sym, told_as, true, unit_of, ℕ, ◌++◌, ◌<◌, ◌≡◌}
+use Rattle.vfs_gates.{proofs.{Returning.was_done, several_tasks.{Between.around_both, Shut.none_admitted}}, specs.Meetings.{HaveAll, Meets, Reopens}}
+use Rattle.vfs_gates.specs.Meetings.{TakesMount}
+use Rattle.std.specs.Prelude.{IfErr}
 use Rattle.access_model.specs.declared.{actions.Action.TheVariants.MountRo, errors.GateError.TheVariants.ReadOnly}
-use Rattle.gate_world.specs.{declared.operations.Op.TheVariants.Want, traces.{Found.found_read_only, Traces.IsHonestAnswer}}
-use Rattle.gate_steps.specs.call_events.Runs.{Performs}
-use Rattle.vfs_gates.{proofs.{Returning.was_done, several_tasks.{Between.around_both, Shut.none_admitted}}, specs.{Held.Rests, Meetings.HaveAll}}
-use Rattle.vfs_gates.specs.Meetings.{Meets, NoneIs, Reopens, TakesMount}
+use Rattle.gate_world.specs.traces.Found.{found_read_only}
 
 -- a change to read-only, and an operation that takes an access, make no mount writable
 no_reopening : (m : ℕ) → Reopens m (MountRo m) → ⊥

@@ -1,25 +1,18 @@
 -- What stands the same before a call and after it stands so at each moment of the call.
-use Rattle.vfs_gates.proofs.Prelude.{Action, AreMoves, Bool, Called, ChangeMount, Config, DealtNumbers, Entry, Event, Grant, HasSeen, HaveHistory}
-use Rattle.vfs_gates.proofs.Prelude.{IsLegal, IsPrefix, IsWithin, Limits, List, Ok, Op, Reply, Result, SeatedTask, Some, State, Traced, View}
-use Rattle.vfs_gates.proofs.Prelude.{WordName, World, [], actions_append, actions_of, actions_since, actions_so_far, after_more, ap, append_assoc}
-use Rattle.vfs_gates.proofs.Prelude.{arith, call_effect, cases_Bool, end_of, eqb_tells, false, get_elem?, if◌then◌else◌, inl, inr, length}
-use Rattle.vfs_gates.proofs.Prelude.{model_limits, next_of, only, own_part, refl, shown, some, state_of_trace, subst, sym, true, world_after, ℕ, ◌++◌}
-use Rattle.vfs_gates.proofs.Prelude.{◌+◌, ◌<◌, ◌==◌, ◌∙◌, ◌∷◌, ◌≡◌, ◌≤◌}
-use Rattle.std.proofs.{Common.{⊎_elim, ◌-◌}, lemmas.{Bool.{and_parts, eq-eqb, false≢true}, List.{append-nil, append_cancel_right}}}
-use Rattle.std.specs.Prelude.{not, ◌&&◌, ◌||◌, ◌⊎◌}
-use mathlib.Core.Logic.{dite}
-use native.Mathlib.Decide.{ℕ_discrete}
+use Rattle.vfs_gates.proofs.Prelude.{Action, Bool, Config, DealtNumbers, Entry, Grant, HasDone, HaveHistory, IsLegal, IsPrefix, IsWithin, Limits}
+use Rattle.vfs_gates.proofs.Prelude.{List, Mount, State, View, WordName, World, [], actions_append, actions_since, actions_so_far, and_parts, ap}
+use Rattle.vfs_gates.proofs.Prelude.{arith, dite, end_of, eqb_tells, if◌then◌else◌, inl, inr, model_limits, not, own_part, part_more, read, shown}
+use Rattle.vfs_gates.proofs.Prelude.{subst, sym, true, whole_run, world_after, ℕ, ℕ_discrete, ◌++◌, ◌+◌, ◌<◌, ◌==◌, ◌∙◌, ◌∷◌, ◌≡◌, ◌≤◌, ◌⊎◌}
+use Rattle.vfs_gates.proofs.several_tasks.FrozenUntilThawed.{in_between}
+use Rattle.std.{proofs.{Common.{⊎_elim, ◌-◌}, lemmas.Bool.{eq-eqb, false≢true}}, specs.Prelude.◌||◌}
 use Rattle.finite_sums.{proofs.Totals.{update_at, update_off}, specs.Sums.update}
-use Rattle.access_model.{proofs.Lists.follows, specs.{Actions.{IsAllowed, mounts_after}, Histories.{Done, mounts_of}, Laws.IsReadOnly}}
-use Rattle.access_model.specs.declared.actions.{Action.TheVariants.{MountRo, Return, SbRo}, Gate.TheVariants.Mount}
-use Rattle.cpu_words.specs.{Words.{Words, read}, declared.names.WordName.TheVariants.{MountFlags, Remount, SbFlags}}
+use Rattle.access_model.specs.{Actions.{IsAllowed, mounts_after}, Histories.{Done, mounts_of}, Laws.IsReadOnly}
+use Rattle.access_model.specs.declared.actions.Action.TheVariants.{Return}
+use Rattle.cpu_words.specs.declared.names.WordName.TheVariants.{MountFlags, Remount, SbFlags}
 use Rattle.mount_counts.{proofs.laws.Bits.read_only_set, specs.{Phases.has_flag, Roles.ro_bit}}
-use Rattle.gate_world.specs.{Headline.IsOneRun, Rules.{AtMount, IsGood, Owner, Stages}, declared.entries.Entry.TheVariants.{Begins, Steps}}
-use Rattle.gate_world.specs.traces.Found.{found_read_only, is_load, says_read_only, some_event}
-use Rattle.gate_schedules.proofs.{schedules.HeadlineProof.{whole_nobody, whole_rule, whole_run}, traces.Moments.or_true}
-use Rattle.gate_steps.{proofs.call_events.{Moments.part_more, Spanning.each_event}, specs.{Seating.numbered, call_events.SeatedTasks.own_number}}
-use Rattle.gate_steps.specs.call_events.Spans.{GoesOnFromSeen, IsEventDuring, TakesEffect}
-use Rattle.vfs_gates.{proofs.several_tasks.FrozenUntilThawed.{SomeSays, in_between, load_finds, some_of}, specs.Meetings.{Encloses, HasDone}}
+use Rattle.gate_world.specs.{Headline.IsOneRun, Rules.{AtMount, IsGood, Owner, Stages}, traces.Found.says_read_only}
+use Rattle.gate_schedules.proofs.{schedules.HeadlineProof.whole_nobody, traces.Moments.or_true}
+use Rattle.gate_steps.specs.Seating.{numbered}
 
 -- a list that an earlier and a later schedule leave a number is that of each in between
 pub stood : (c : Config) (n : ℕ) (a b d : List Entry) (list : List Action) → IsPrefix a b → IsPrefix b d →

@@ -1,12 +1,10 @@
 -- The first two tasks of some gates: they have all numbers between them, and none of these has done anything.
-use Rattle.vfs_gates.proofs.Prelude.{Action, Config, DealtNumbers, List, SeatedTask, View, [], ap, arith, false, length, refl, subst, suc, sym, true}
-use Rattle.vfs_gates.proofs.Prelude.{zero, ℕ, ◌++◌, ◌+◌, ◌<◌, ◌==◌, ◌∙◌, ◌∷◌, ◌≡◌, ◌≤◌}
-use Rattle.std.specs.Prelude.{cond}
-use mathlib.Core.Logic.{dite}
-use native.Mathlib.Decide.{ℕ_discrete}
+use Rattle.vfs_gates.proofs.Prelude.{Action, Config, DealtNumbers, NoneIs, SeatedTask, SplitOf, [], ap, arith, deal, dite, false, given_of, kept_of}
+use Rattle.vfs_gates.proofs.Prelude.{subst, suc, sym, times, true, view_in, zero, ℕ, ℕ_discrete, ◌++◌, ◌+◌, ◌<◌, ◌==◌, ◌∙◌, ◌∷◌, ◌≡◌, ◌≤◌}
+use Rattle.vfs_gates.specs.Meetings.{HaveAll, NoneDone}
+use Rattle.std.proofs.Common.{cond}
 use Rattle.gate_steps.{proofs.{Dealing.{one_if-same, times-append}, Giving.times-without_other, Opening.times-deal}, specs.Rules.first_items}
-use Rattle.gate_steps.specs.Seating.{deal, given_of, kept_of, times, view_in, without}
-use Rattle.vfs_gates.specs.{Meetings.{HaveAll, NoneDone, NoneIs}, Parts.SplitOf}
+use Rattle.gate_steps.specs.Seating.{without}
 
 -- a number that stands among some is kept or given
 kept_or_given : (given n : ℕ) (items : DealtNumbers) → 1 ≤ times n items → 1 ≤ times n (given_of given items) + times n (kept_of given items)

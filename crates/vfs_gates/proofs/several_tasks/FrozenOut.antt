@@ -1,20 +1,18 @@
 -- While a holder's freeze stands nobody goes inside.
-use Rattle.vfs_gates.proofs.Prelude.{Action, Bool, Called, Config, DealtNumbers, Entry, Freeze, Grant, HasSeen, HaveHistory, Holder, IsLegal}
-use Rattle.vfs_gates.proofs.Prelude.{IsPrefix, IsWithin, Limits, List, Ok, Op, Reply, Result, SeatedTask, State, StaySeen, Traced, WantWrite, []}
-use Rattle.vfs_gates.proofs.Prelude.{actions_append, actions_of, actions_since, actions_so_far, after_more, ap, append_assoc, arith, call_effect}
-use Rattle.vfs_gates.proofs.Prelude.{end_of, false, get_elem?, inl, inr, length, model_limits, only, own_part, refl, shown, some, state_of_trace}
-use Rattle.vfs_gates.proofs.Prelude.{subst, sym, true, ℕ, ◌++◌, ◌+◌, ◌<◌, ◌==◌, ◌∙◌, ◌∷◌, ◌≡◌, ◌≤◌}
-use Rattle.std.proofs.lemmas.{Bool.{both_ways, false≢true}, List.append-nil}
+use Rattle.vfs_gates.proofs.Prelude.{Action, Bool, Called, Config, DealtNumbers, Entry, Gate, Grant, HasSeen, Holder, IsLegal, IsPrefix, IsWithin}
+use Rattle.vfs_gates.proofs.Prelude.{Level, Limits, List, Mount, Ok, Op, Reply, SeatedTask, State, TakesEffect, WantWrite, [], actions_append}
+use Rattle.vfs_gates.proofs.Prelude.{actions_since, actions_so_far, after_more, ap, append-nil, append_assoc, arith, call_effect, end_of, false}
+use Rattle.vfs_gates.proofs.Prelude.{get_elem?, inl, inr, model_limits, only, own_part, part_more, refl, shown, some, state_of_trace, subst, sym}
+use Rattle.vfs_gates.proofs.Prelude.{true, whole_run, ℕ, ◌++◌, ◌+◌, ◌∙◌, ◌∷◌, ◌≡◌}
+use Rattle.vfs_gates.proofs.several_tasks.{Keeping.NoneOfThese, Shut.{legal_at, none_between, none_earlier, none_within, splits_at}}
+use Rattle.vfs_gates.specs.Meetings.{Encloses, IsWritable, NoneSince, Seals, Thaws}
+use Rattle.std.proofs.lemmas.Bool.{both_ways}
 use Rattle.finite_sums.proofs.Totals.{update_at}
 use Rattle.access_model.{proofs.{Closed.closed, Frozen.{frozen_shut, frozen_still}, Lists.follows}, specs.Actions.{IsAllowed, after_action}}
-use Rattle.access_model.specs.{Histories.{Done, levels_of}, Holders.{held_by, with_holder}, Laws.{IsFrozenFor, IsFrozenStill, NeverLeaves}}
-use Rattle.access_model.specs.declared.actions.{Action.TheVariants.{Hold, SbRo, SbRw}, Gate.{Gate, TheVariants.{Level, Mount}}}
-use Rattle.access_model.specs.declared.actions.{Holder.TheVariants.{Kernel, User}, Holders.Holders}
+use Rattle.access_model.specs.{Histories.{Done, levels_of}, Holders.held_by, Laws.{IsFrozenFor, IsFrozenStill, NeverLeaves}}
+use Rattle.access_model.specs.declared.actions.Action.TheVariants.{SbRo, SbRw}
 use Rattle.gate_world.specs.declared.operations.Op.TheVariants.{Start}
-use Rattle.gate_schedules.proofs.schedules.HeadlineProof.{whole_run}
-use Rattle.gate_steps.{proofs.call_events.Moments.part_more, specs.call_events.{SeatedTasks.own_number, Spans.TakesEffect}}
-use Rattle.vfs_gates.proofs.several_tasks.{Keeping.NoneOfThese, Shut.{legal_at, none_between, none_earlier, none_later, none_within, splits_at}}
-use Rattle.vfs_gates.specs.Meetings.{Encloses, IsWritable, NoneIs, NoneSince, Seals, Thaws}
+use Rattle.gate_steps.specs.call_events.SeatedTasks.{own_number}
 
 pub never_leaves : (h : Holder) (log : List Done) → NoneOfThese (Thaws h) log → NeverLeaves h log
 never_leaves h [] none = tt

@@ -1,10 +1,9 @@
 -- A holder that sent word of its access, and was sent word of a change before it did more.
-use Rattle.vfs_gates.proofs.Prelude.{Action, Called, ChangeMount, Config, DealtNumbers, Entry, GateError, HaveHistory, List, Ok, Op, Reply, Result}
-use Rattle.vfs_gates.proofs.Prelude.{SeatedTask, StaySeen, [], ap, arith, length, own_number, own_view, refl, subst, sym, ℕ, ◌∙◌, ◌∷◌, ◌≡◌, ◌≤◌}
-use Rattle.std.specs.Prelude.{Bool, true}
+use Rattle.vfs_gates.proofs.Prelude.{Bool, Called, ChangeMount, Config, DealtNumbers, GateError, HasDone, HaveHistory, Ok, Op, Reply, Result}
+use Rattle.vfs_gates.proofs.Prelude.{SeatedTask, StaySeen, [], ap, arith, own_number, own_view, refl, stays_seen_on, subst, sym, true, ℕ, ◌∙◌, ◌∷◌}
+use Rattle.vfs_gates.proofs.Prelude.{◌≡◌, ◌≤◌}
+use Rattle.vfs_gates.{proofs.several_tasks.{Begun.call_begins, Keeping.change_refused}, specs.Meetings.{BeginsIn, Encloses, HoldsAt}}
 use Rattle.gate_world.specs.Views.{held_at}
-use Rattle.gate_steps.proofs.call_events.Grown.{stays_seen_on}
-use Rattle.vfs_gates.{proofs.several_tasks.{Begun.call_begins, Keeping.change_refused}, specs.Meetings.{BeginsIn, Encloses, HasDone, HoldsAt}}
 
 -- who holds an access has it by its own number's list
 own_done : (m : ℕ) (items : DealtNumbers) → 1 ≤ held_at (own_view items) m → HasDone (own_number items) (own_view items).actions items

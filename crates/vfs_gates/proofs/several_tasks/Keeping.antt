@@ -1,21 +1,20 @@
 -- A task that holds an access at a mount keeps it writable.
-use Rattle.vfs_gates.proofs.Prelude.{Action, AreMoves, Bool, Called, ChangeMount, Config, DealtNumbers, Entry, Err, Event, GateError, HasSeen}
-use Rattle.vfs_gates.proofs.Prelude.{HaveHistory, IsLegal, IsPrefix, IsWithin, Limits, List, Ok, Op, Reply, Result, SeatedTask, Some, State, Traced}
-use Rattle.vfs_gates.proofs.Prelude.{View, WordName, [], actions_append, actions_since, actions_so_far, after_more, ap, append_assoc, arith}
-use Rattle.vfs_gates.proofs.Prelude.{call_effect, cases_Bool, end_of, eqb_tells, false, get_elem?, if◌then◌else◌, inl, inr, length, model_limits}
-use Rattle.vfs_gates.proofs.Prelude.{next_of, only, own_part, refl, shown, some, state_of_trace, subst, suc, sym, true, world_after, ℕ, ◌++◌, ◌+◌}
-use Rattle.vfs_gates.proofs.Prelude.{◌<◌, ◌==◌, ◌∙◌, ◌∷◌, ◌≡◌, ◌≤◌}
-use Rattle.std.{proofs.{Common.{length-append, ⊎_elim}, lemmas.{Bool.{and_parts, false≢true}, List.append-nil}}, specs.Prelude.{◌&&◌, ◌⊎◌}}
-use Rattle.access_model.{proofs.Lists.follows, specs.{Actions.IsAllowed, Histories.{Done, mounts_of}, Laws.IsReadOnly}}
-use Rattle.access_model.specs.declared.{actions.Action.TheVariants.{MountRo, SbRo, SbRw}, errors.GateError.TheVariants.{Busy, Hook}}
-use Rattle.cpu_words.specs.{Words.{Words, read}, declared.names.WordName.TheVariants.SbFlags}
-use Rattle.gate_world.specs.{Headline.IsOneRun, declared.{entries.Entry.TheVariants.{Begins, Steps}, operations.Op.TheVariants.RemountSb}}
-use Rattle.gate_world.specs.traces.Found.{cleans, found_read_only, found_sealed, is_load, says_read_only, says_sealed}
-use Rattle.gate_schedules.proofs.schedules.HeadlineProof.{whole_rule, whole_run}
-use Rattle.gate_steps.{proofs.call_events.{Moments.part_more, Spanning.each_event}, specs.call_events.{SeatedTasks.own_number, Spans.GoesOnFromSeen}}
-use Rattle.gate_steps.specs.call_events.Spans.{IsEventDuring, TakesEffect}
+use Rattle.vfs_gates.proofs.Prelude.{Action, AreMoves, Bool, Called, ChangeMount, Config, DealtNumbers, Entry, Err, Event, GateError, HasDone}
+use Rattle.vfs_gates.proofs.Prelude.{HasSeen, IsEventDuring, IsLegal, IsPrefix, IsWithin, Limits, List, NoneIs, Ok, Op, RemountSb, Reply, Result}
+use Rattle.vfs_gates.proofs.Prelude.{SeatedTask, Steps, TakesEffect, Traced, WordName, [], actions_append, actions_since, actions_so_far, after_more}
+use Rattle.vfs_gates.proofs.Prelude.{and_parts, ap, append-nil, arith, call_effect, cases_Bool, end_of, eqb_tells, get_elem?, if◌then◌else◌, inl, inr}
+use Rattle.vfs_gates.proofs.Prelude.{is_load, length, model_limits, next_of, only, own_part, part_more, read, refl, some, state_of_trace, subst, sym}
+use Rattle.vfs_gates.proofs.Prelude.{true, whole_run, world_after, ℕ, ◌++◌, ◌+◌, ◌∙◌, ◌∷◌, ◌≡◌, ◌≤◌}
 use Rattle.vfs_gates.proofs.several_tasks.Enclosed.{done_there, granted_there, mount_there, not_read_only, read_only_found, stood}
-use Rattle.vfs_gates.{proofs.several_tasks.FrozenUntilThawed.{SomeSays, load_finds, some_of}, specs.Meetings.{Encloses, HasDone, NoneIs, Shuts}}
+use Rattle.vfs_gates.{proofs.several_tasks.FrozenUntilThawed.{SomeSays, load_finds, some_of}, specs.Meetings.{Encloses, Shuts}}
+use Rattle.std.{proofs.{Common.length-append, lemmas.Bool.false≢true}, specs.Prelude.◌&&◌}
+use Rattle.access_model.{proofs.Lists.follows, specs.{Actions.IsAllowed, Histories.{Done, mounts_of}, declared.actions.Action.TheVariants.MountRo}}
+use Rattle.access_model.specs.declared.{actions.Action.TheVariants.{SbRo, SbRw}, errors.GateError.TheVariants.{Busy, Hook}}
+use Rattle.cpu_words.specs.{Words.Words, declared.names.WordName.TheVariants.SbFlags}
+use Rattle.gate_world.specs.{declared.entries.Entry.TheVariants.Begins, traces.Found.{cleans, found_read_only, found_sealed, says_read_only}}
+use Rattle.gate_world.specs.traces.Found.{says_sealed}
+use Rattle.gate_schedules.proofs.schedules.HeadlineProof.{whole_rule}
+use Rattle.gate_steps.{proofs.call_events.Spanning.each_event, specs.call_events.{SeatedTasks.own_number, Spans.GoesOnFromSeen}}
 
 -- none of these actions, of whatever task, is such a one
 abbrev pub NoneOfThese : (Action → Type 0) → List Done → Type 0

@@ -1,12 +1,10 @@
 -- A number's list goes with it, when tasks are split and joined.
-use Rattle.vfs_gates.proofs.Prelude.{Action, DealtNumbers, Entry, HaveHistory, List, Numbered, SeatedTask, View, [], ap, arith, eqb_tells, get_elem?}
-use Rattle.vfs_gates.proofs.Prelude.{inl, inr, refl, some, subst, suc, sym, zero, ℕ, ◌++◌, ◌==◌, ◌∙◌, ◌∷◌, ◌≡◌, ◌≤◌}
-use Rattle.std.specs.Prelude.{cond, ◌⊎◌}
+use Rattle.vfs_gates.proofs.Prelude.{Action, DealtNumbers, Entry, HasDone, HaveHistory, List, Numbered, SeatedTask, SplitOf, View, [], ap, eqb_tells}
+use Rattle.vfs_gates.proofs.Prelude.{get_elem?, given_of, inl, inr, kept_of, some, subst, suc, sym, times, view_in, zero, ℕ, ◌++◌, ◌∙◌, ◌∷◌, ◌≡◌, ◌≤◌}
+use Rattle.vfs_gates.proofs.Prelude.{◌⊎◌}
 use mathlib.Core.Option.{some-injective, some-ne-none}
-use Rattle.gate_steps.{proofs.{Dealing.times-at, Giving.{at_behind, view_in-at}}, specs.Seating.{HaveViews, given_of, kept_of, numbered, renewed}}
-use Rattle.gate_steps.specs.Seating.{times, view_in, without}
+use Rattle.gate_steps.{proofs.{Dealing.times-at, Giving.{at_behind, view_in-at}}, specs.Seating.{HaveViews, numbered, renewed, without}}
 use Rattle.atomic_table.proofs.Lists.{at_longer}
-use Rattle.vfs_gates.specs.{Meetings.HasDone, Parts.SplitOf}
 
 -- of two tasks' numbers after a join
 pub joined_first : (n : ℕ) (list : List Action) (items others : DealtNumbers) → HasDone n list items → HasDone n list (items ++ others)

@@ -1,25 +1,21 @@
 -- A mount that is read-only, and that nobody makes writable, admits nobody.
 use Rattle.vfs_gates.proofs.Prelude.{Action, AreMoves, Bool, Called, ChangeMount, Config, DealtNumbers, Entry, Event, Grant, HasSeen, HaveHistory}
-use Rattle.vfs_gates.proofs.Prelude.{IsLegal, IsPrefix, IsWithin, Limits, List, Ok, Op, Reply, Result, SeatedTask, Some, State, StaySeen, Traced}
-use Rattle.vfs_gates.proofs.Prelude.{View, WantWrite, World, [], actions_append, actions_of, actions_since, actions_so_far, after_more, ap}
-use Rattle.vfs_gates.proofs.Prelude.{append_assoc, arith, call_effect, cases_Bool, end_of, eqb_tells, false, get_elem?, if◌then◌else◌, inl, inr}
-use Rattle.vfs_gates.proofs.Prelude.{length, model_limits, next_of, only, own_part, refl, shown, some, state_of_trace, subst, suc, sym, true}
-use Rattle.vfs_gates.proofs.Prelude.{world_after, ℕ, ◌++◌, ◌+◌, ◌<◌, ◌==◌, ◌∙◌, ◌∷◌, ◌≡◌, ◌≤◌}
-use Rattle.std.proofs.{Common.⊎_elim, lemmas.{Bool.{and_parts, both_ways, false≢true}, List.{append-nil, append_cancel_left, append_cancel_right}}}
-use Rattle.std.specs.Prelude.{◌&&◌, ◌⊎◌}
-use mathlib.Core.Logic.{dite}
-use native.Mathlib.Decide.{ℕ_discrete}
+use Rattle.vfs_gates.proofs.Prelude.{IsEventDuring, IsLegal, IsPrefix, IsWithin, Level, Limits, List, Mount, NoneIs, Ok, Op, Reply, SeatedTask, State}
+use Rattle.vfs_gates.proofs.Prelude.{StaySeen, Steps, TakesEffect, Traced, Want, WantWrite, [], actions_append, actions_of, actions_since}
+use Rattle.vfs_gates.proofs.Prelude.{actions_so_far, after_more, and_parts, ap, append-nil, append_assoc, call_effect, cases_Bool, dite, end_of}
+use Rattle.vfs_gates.proofs.Prelude.{eqb_tells, false, get_elem?, if◌then◌else◌, inl, inr, is_load, model_limits, next_of, only, own_part, part_more}
+use Rattle.vfs_gates.proofs.Prelude.{read, refl, some, state_of_trace, subst, sym, true, whole_run, world_after, ℕ, ℕ_discrete, ◌++◌, ◌+◌, ◌<◌, ◌∙◌}
+use Rattle.vfs_gates.proofs.Prelude.{◌∷◌, ◌≡◌}
+use Rattle.vfs_gates.proofs.several_tasks.{Enclosed.read_only_found, FrozenUntilThawed.{SomeSays, load_finds, some_of}, Keeping.NoneOfThese}
+use Rattle.vfs_gates.{proofs.several_tasks.Keeping.none_own, specs.Meetings.{NoneSince, Reopens, TakesMount}}
+use Rattle.std.{proofs.lemmas.{Bool.both_ways, List.{append_cancel_left, append_cancel_right}}, specs.Prelude.◌&&◌}
 use Rattle.finite_sums.{proofs.Totals.{update_at, update_off}, specs.Sums.update}
 use Rattle.access_model.specs.{Actions.{IsAllowed, after_action}, Histories.Done, Laws.IsReadOnly, declared.actions.Action.TheVariants.MountRo}
-use Rattle.access_model.specs.declared.actions.{Action.TheVariants.{MountRw, SbRo, SbRw}, Gate.TheVariants.{Level, Mount}}
-use Rattle.cpu_words.specs.Words.{Words, read}
-use Rattle.gate_world.specs.{Headline.IsOneRun, declared.{entries.Entry.TheVariants.{Begins, Steps}, operations.Op.TheVariants.Want}}
-use Rattle.gate_world.specs.traces.Found.{found_read_only, is_load, says_read_only}
-use Rattle.gate_schedules.proofs.schedules.HeadlineProof.{whole_rule, whole_run}
-use Rattle.gate_steps.{proofs.call_events.{Moments.part_more, Spanning.each_event}, specs.call_events.{SeatedTasks.own_number, Spans.GoesOnFromSeen}}
-use Rattle.gate_steps.specs.call_events.Spans.{IsEventDuring, TakesEffect}
-use Rattle.vfs_gates.proofs.several_tasks.{Enclosed.read_only_found, FrozenUntilThawed.{SomeSays, load_finds, some_of}, Keeping.NoneOfThese}
-use Rattle.vfs_gates.{proofs.several_tasks.Keeping.none_own, specs.Meetings.{NoneIs, NoneSince, Reopens, TakesMount}}
+use Rattle.access_model.specs.declared.actions.Action.TheVariants.{MountRw, SbRo, SbRw}
+use Rattle.cpu_words.specs.Words.{Words}
+use Rattle.gate_world.specs.{declared.entries.Entry.TheVariants.Begins, traces.Found.{found_read_only, says_read_only}}
+use Rattle.gate_schedules.proofs.schedules.HeadlineProof.{whole_rule}
+use Rattle.gate_steps.{proofs.call_events.Spanning.each_event, specs.call_events.SeatedTasks.own_number}
 
 -- an action that doesn't make a mount writable leaves it read-only
 module _ (l : Limits) (s : State) (t m : ℕ) where

@@ -1,7 +1,7 @@
 use Rattle.vfs_gates.proofs.Prelude.{Bool, List, ap, arith, length, subst, sym, true, ℕ, ◌+◌, ◌≡◌}
-use Rattle.std.proofs.Common.{length-set}
 use Rattle.vfs_gates.proofs.{FlagSteps.{SetBelow, end_below, more_below, skip_below, start_below}, numbers.add_all.Goals.else-others-i}
 use Rattle.vfs_gates.proofs.numbers.add_all.Goals.{then-others-i}
+use Rattle.std.proofs.Common.{length-set}
 use Rattle.vfs_gates.proofs.numbers.add_all.Goals as goal
 
 pub loop-i-init : goal.loop-i-init

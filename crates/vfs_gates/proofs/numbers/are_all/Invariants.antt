@@ -1,5 +1,4 @@
-use Rattle.vfs_gates.proofs.Prelude.{false, true, ℕ, ◌<◌, ◌≡◌}
-use Rattle.std.proofs.Common.{get_or, ◌⊎◌}
+use Rattle.vfs_gates.proofs.Prelude.{false, get_or, true, ℕ, ◌<◌, ◌≡◌, ◌⊎◌}
 use Rattle.vfs_gates.proofs.numbers.are_all.Given as goal
 
 abbrev pub invariant-loop-i : goal.invariant-loop-i

@@ -1,5 +1,4 @@
-use Rattle.vfs_gates.proofs.Prelude.{false, ℕ, ◌<◌, ◌≡◌}
-use Rattle.std.proofs.Common.{get_or}
+use Rattle.vfs_gates.proofs.Prelude.{false, get_or, ℕ, ◌<◌, ◌≡◌}
 use Rattle.vfs_gates.proofs.numbers.lowest.Given as goal
 
 abbrev pub invariant-loop-i : goal.invariant-loop-i

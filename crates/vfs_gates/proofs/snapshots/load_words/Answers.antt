@@ -1,10 +1,9 @@
 -- each part goes on from what the one before it left, and what was lent has the words that were loaded
-use Rattle.vfs_gates.proofs.Prelude.{BufferWords, ap, arith, at_snapshot, sym, ◌∙◌, ◌≡◌}
-use Rattle.std.specs.Prelude.{length}
-use Rattle.gated_tree.{proofs.Lent.{words_with_kids, words_with_nodes}, specs.Lending.{with_kids as kids_lent, with_nodes as nodes_lent}}
-use Rattle.gated_tree.specs.{Trees.words_of, declared.{snapshots.SnapshotStep.TheVariants.LoadsUsed, trees.{Tree.Tree, TreeWords.TreeWords}}}
-use Rattle.gate_steps.proofs.call_events.Leading.{still_stands}
+use Rattle.vfs_gates.proofs.Prelude.{BufferWords, TreeWords, ap, arith, at_snapshot, length, sym, ◌∙◌, ◌≡◌}
 use Rattle.vfs_gates.{proofs.Loading.{noted_as, noted_on, taking_leaves, used_noted}, specs.Buffers.{completed, with_words}}
+use Rattle.gated_tree.{proofs.Lent.{words_with_kids, words_with_nodes}, specs.Lending.{with_kids as kids_lent, with_nodes as nodes_lent}}
+use Rattle.gated_tree.specs.{Trees.words_of, declared.{snapshots.SnapshotStep.TheVariants.LoadsUsed, trees.Tree.Tree}}
+use Rattle.gate_steps.proofs.call_events.Leading.{still_stands}
 use Rattle.vfs_gates.proofs.snapshots.load_words.Goals as goal
 
 pub find-used-requires-clause-leaves : goal.find-used-requires-clause-leaves

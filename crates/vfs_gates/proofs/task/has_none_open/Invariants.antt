@@ -1,4 +1,4 @@
-use Rattle.std.proofs.Common.{◌≡◌, ◌<◌, ℕ, false, get_or}
+use Rattle.vfs_gates.proofs.Prelude.{false, get_or, ℕ, ◌<◌, ◌≡◌}
 use Rattle.vfs_gates.proofs.task.has_none_open.Given as goal
 
 abbrev pub invariant-loop-file : goal.invariant-loop-file

@@ -1,4 +1,4 @@
-use Rattle.std.proofs.Common.{◌≡◌, ◌<◌, ℕ, get_or}
+use Rattle.vfs_gates.proofs.Prelude.{get_or, ℕ, ◌<◌, ◌≡◌}
 use Rattle.vfs_gates.proofs.task.holds_nothing.Given as goal
 
 abbrev pub invariant-loop-mount : goal.invariant-loop-mount

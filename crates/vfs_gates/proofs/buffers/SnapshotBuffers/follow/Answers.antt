@@ -1,9 +1,7 @@
 -- a step of a snapshot is noted, and one of any other operation leaves the room as it is
-use Rattle.vfs_gates.proofs.Prelude.{BufferWords, None, after_of, ap, phase_after, subst, sym, ◌∙◌}
-use Rattle.gate_world.specs.declared.work.Phase.TheVariants.{Trees}
+use Rattle.vfs_gates.proofs.Prelude.{BufferWords, BuffersMatch, None, Trees, after_of, ap, phase_after, subst, sym, words_in, ◌∙◌}
+use Rattle.vfs_gates.{proofs.{Noting.follows_taking, Rooming.{follows_other, not_snapshot, not_tree}}, specs.Buffers.is_of_snapshot}
 use Rattle.gate_steps.specs.Seating.{items_after}
-use Rattle.vfs_gates.{proofs.{Noting.follows_taking, Rooming.{follows_other, not_snapshot, not_tree}}, specs.Buffers.{BuffersMatch, is_of_snapshot}}
-use Rattle.vfs_gates.specs.Buffers.{words_in}
 use Rattle.vfs_gates.proofs.buffers.SnapshotBuffers.follow.Goals as goal
 
 pub returns-in_default : goal.returns-in_default

@@ -1,7 +1,6 @@
 -- the words are as they begin until the first step, and the first task rests
-use Rattle.vfs_gates.proofs.Prelude.{SeatedTask, refl, subst, sym}
-use Rattle.std.proofs.Common.{true≢false}
-use Rattle.vfs_gates.{proofs.{Resting.first_empty, closed_gates.Closing.opens_so}, specs.{Ended.HasOpeningWords, Held.Rests}}
+use Rattle.vfs_gates.proofs.Prelude.{Rests, SeatedTask, refl, subst, sym, true≢false}
+use Rattle.vfs_gates.{proofs.{Resting.first_empty, closed_gates.Closing.opens_so}, specs.Ended.HasOpeningWords}
 use Rattle.vfs_gates.proofs.gates.Gates.new.Goals as goal
 
 pub returns-clause-words : goal.returns-clause-words

@@ -1,6 +1,6 @@
 -- the laws are lemmas
-use Rattle.vfs_gates.proofs.Prelude.{Entry, List, SeatedTask, StaySeen, ap, subst, sym}
-use Rattle.gate_steps.proofs.call_events.Grown.{both_stay_seen, call_stays_seen, same_stays_seen, stays_seen_on}
+use Rattle.vfs_gates.proofs.Prelude.{Entry, List, SeatedTask, StaySeen, ap, stays_seen_on, subst, sym}
+use Rattle.gate_steps.proofs.call_events.Grown.{both_stay_seen, call_stays_seen, same_stays_seen}
 use Rattle.vfs_gates.proofs.laws.in_time.what_was_seen_stays_seen.Goals as goal
 
 pub returns-clause-calls : goal.returns-clause-calls

@@ -1,7 +1,7 @@
 -- the laws are lemmas
 use Rattle.vfs_gates.proofs.Prelude.{Entry, List, StaySeen, subst, sym}
-use Rattle.gate_steps.proofs.call_events.Grown.{both_stay_seen}
 use Rattle.vfs_gates.proofs.several_tasks.Beside.{met_stays}
+use Rattle.gate_steps.proofs.call_events.Grown.{both_stay_seen}
 use Rattle.vfs_gates.proofs.laws.one_world.what_is_sent_is_seen.Goals as goal
 
 pub returns-clause-meetings : goal.returns-clause-meetings

@@ -1,5 +1,5 @@
 -- the first phase or the refusal, as the task's fields say
-use Rattle.vfs_gates.proofs.Admitting.{within, admitted_as}
+use Rattle.vfs_gates.proofs.Admitting.{admitted_as, within}
 use Rattle.vfs_gates.proofs.task.Task.admit.Goals as goal
 
 pub begin-requires-clause-mounts : goal.begin-requires-clause-mounts

@@ -1,11 +1,8 @@
 -- a call that has a most number of steps: its beginning, its steps, and what the task shows then
-use Rattle.std.proofs.Common.{refl, sym, ap, ◌∙◌}
-use Rattle.access_model.specs.declared.replies.Next.TheVariants.{Done}
-use Rattle.gate_steps.specs.call_events.Runs.{the_reply}
-use Rattle.vfs_gates.proofs.{Admitting.{refused_by}, Calling.{Call, Left, call_with, is_agrees, has_begun, ghost_agrees_done, ended_at}}
-use Rattle.vfs_gates.proofs.{Rooming.{room_done}, Waiting.{left_tells, waits_for_nobody}, task.Task.call.Goals.{After-run_to_reply}}
-use Rattle.vfs_gates.specs.TaskStates.{SeatedTask, own_number}
-use Rattle.gate_steps.proofs.call_events.Running.{was_refused, was_done, told_whole}
+use Rattle.vfs_gates.proofs.Prelude.{Done, SeatedTask, ap, own_number, refl, sym, ◌∙◌}
+use Rattle.vfs_gates.proofs.{Admitting.refused_by, Calling.{Call, Left, call_with, ended_at, ghost_agrees_done, has_begun, is_agrees}}
+use Rattle.vfs_gates.proofs.{Rooming.room_done, Waiting.{left_tells, waits_for_nobody}, task.Task.call.Goals.After-run_to_reply}
+use Rattle.gate_steps.{proofs.call_events.Running.{told_whole, was_done, was_refused}, specs.call_events.Runs.the_reply}
 use Rattle.vfs_gates.proofs.task.Task.call.Goals as goal
 
 -- the call, and what its steps have left

@@ -1,6 +1,5 @@
 -- it tells of the reply whether a callback ran
-use Rattle.gate_steps.specs.call_events.Runs.{ran_of}
-use Rattle.gate_steps.proofs.call_events.Running.{was_told}
+use Rattle.gate_steps.{proofs.call_events.Running.was_told, specs.call_events.Runs.ran_of}
 use Rattle.gate_world.specs.declared.operations.Op.TheVariants.{Callback}
 use Rattle.vfs_gates.proofs.CallingBack.{replied_ran}
 use Rattle.vfs_gates.proofs.task.Task.callback.Goals as goal

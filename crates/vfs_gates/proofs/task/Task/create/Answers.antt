@@ -1,12 +1,10 @@
 -- it tells of the reply the node that it took
-use Rattle.std.proofs.Common.{◌≡◌, ℕ, Some, None, Ok, Err, refl, sym, subst}
-use Rattle.std.specs.Prelude.{Option, Result, IfOk, List}
-use Rattle.access_model.specs.declared.{errors.GateError.{GateError}, actions.Kind.{Kind}, replies.Reply.{Reply}}
-use Rattle.gate_world.specs.{Operations.{IsNodeReply}, traces.Traces.{IsHonestAnswer}, declared.config.Config.{Config}}
-use Rattle.gate_world.specs.declared.{views.Traced.{Traced}, operations.Op.TheVariants.{Create}}
-use Rattle.gate_steps.specs.call_events.Runs.{told_as, node_of, the_reply, Replies}
-use Rattle.gate_steps.proofs.call_events.Running.{was_told}
-use Rattle.vfs_gates.specs.TaskStates.{SeatedTask, refusal_at}
+use Rattle.vfs_gates.proofs.Prelude.{Config, Err, GateError, IsHonestAnswer, List, None, Ok, Option, Reply, Result, SeatedTask, Some, Traced, refl}
+use Rattle.vfs_gates.proofs.Prelude.{refusal_at, subst, sym, told_as, ℕ, ◌≡◌}
+use Rattle.std.specs.Prelude.{IfOk}
+use Rattle.access_model.specs.declared.actions.Kind.{Kind}
+use Rattle.gate_world.specs.{Operations.IsNodeReply, declared.operations.Op.TheVariants.Create}
+use Rattle.gate_steps.{proofs.call_events.Running.was_told, specs.call_events.Runs.{Replies, node_of, the_reply}}
 use Rattle.vfs_gates.proofs.task.Task.create.Goals as goal
 
 -- an answer that is justified tells of a node

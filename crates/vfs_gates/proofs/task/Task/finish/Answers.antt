@@ -1,6 +1,5 @@
-use Rattle.std.proofs.Common.{refl, sym, subst, ◌∙◌}
-use Rattle.gate_world.specs.Configs.{IsWithin}
-use Rattle.gate_steps.proofs.call_events.Running.{goes_further, ends_there, falls}
+use Rattle.vfs_gates.proofs.Prelude.{IsWithin, refl, subst, sym, ◌∙◌}
+use Rattle.gate_steps.proofs.call_events.Running.{ends_there, falls, goes_further}
 use Rattle.vfs_gates.proofs.task.Task.finish.Goals as goal
 
 pub loop-answer-init : goal.loop-answer-init

@@ -1,8 +1,5 @@
-use Rattle.std.proofs.Common.{◌≡◌}
-use Rattle.gate_world.specs.declared.operations.Op.{Op}
-use Rattle.vfs_gates.specs.TaskStates.{SeatedTask}
-use Rattle.gate_steps.specs.call_events.Runs.{OpUnderWay, IsTrying}
-use Rattle.gate_steps.proofs.call_events.Running.{events_left}
+use Rattle.vfs_gates.proofs.Prelude.{Op, OpUnderWay, SeatedTask, ◌≡◌}
+use Rattle.gate_steps.{proofs.call_events.Running.events_left, specs.call_events.Runs.IsTrying}
 use Rattle.vfs_gates.proofs.task.Task.finish.Given as goal
 
 abbrev pub invariant-loop-answer : goal.invariant-loop-answer

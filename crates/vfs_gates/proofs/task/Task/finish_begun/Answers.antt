@@ -1,9 +1,7 @@
 -- what is left of an operation that has not ended
-use Rattle.std.proofs.Common.{refl, subst}
+use Rattle.vfs_gates.proofs.Prelude.{refl, subst, unit_of}
+use Rattle.vfs_gates.{proofs.AtOnce.{begun_by, goes_by}, specs.AtOnce.BeginsAtOnce}
 use Rattle.gate_steps.proofs.call_events.Running.{was_done}
-use Rattle.gate_steps.specs.call_events.Runs.{unit_of}
-use Rattle.vfs_gates.specs.AtOnce.{BeginsAtOnce}
-use Rattle.vfs_gates.proofs.AtOnce.{begun_by, goes_by}
 use Rattle.vfs_gates.proofs.task.Task.finish_begun.Goals as goal
 
 pub finish-requires : goal.finish-requires

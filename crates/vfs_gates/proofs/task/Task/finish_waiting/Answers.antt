@@ -1,6 +1,5 @@
-use Rattle.std.proofs.Common.{refl, sym, subst, ◌∙◌}
-use Rattle.gate_world.specs.Configs.{IsWithin}
-use Rattle.gate_steps.proofs.call_events.Running.{goes_further, ends_there}
+use Rattle.vfs_gates.proofs.Prelude.{IsWithin, refl, subst, sym, ◌∙◌}
+use Rattle.gate_steps.proofs.call_events.Running.{ends_there, goes_further}
 use Rattle.vfs_gates.proofs.task.Task.finish_waiting.Goals as goal
 
 pub loop-init : goal.loop-init

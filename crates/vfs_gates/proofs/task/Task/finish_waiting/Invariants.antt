@@ -1,7 +1,4 @@
-use Rattle.std.proofs.Common.{◌≡◌}
-use Rattle.gate_world.specs.declared.operations.Op.{Op}
-use Rattle.vfs_gates.specs.TaskStates.{SeatedTask}
-use Rattle.gate_steps.specs.call_events.Runs.{OpUnderWay}
+use Rattle.vfs_gates.proofs.Prelude.{Op, OpUnderWay, SeatedTask, ◌≡◌}
 use Rattle.vfs_gates.proofs.task.Task.finish_waiting.Given as goal
 
 abbrev pub invariant-loop : goal.invariant-loop

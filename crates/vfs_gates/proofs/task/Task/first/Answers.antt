@@ -1,7 +1,5 @@
-use Rattle.std.proofs.Common.{ap, sym, subst, ◌∙◌, None}
-use Rattle.gate_steps.specs.{Seating.{DealtNumbers}, call_events.{GhostAgrees.{GhostAgrees}, TaskState.{TaskState}}}
-use Rattle.vfs_gates.proofs.{Parting.{first_ghost_agrees}, Rooming.{first_unseen, room_new}, Waiting.{first_tells}}
-use Rattle.vfs_gates.specs.{Buffers.{words_in}, TaskStates.{own_view}}
+use Rattle.vfs_gates.proofs.Prelude.{DealtNumbers, GhostAgrees, None, TaskState, ap, own_view, subst, sym, words_in, ◌∙◌}
+use Rattle.vfs_gates.proofs.{Parting.first_ghost_agrees, Rooming.{first_unseen, room_new}, Waiting.first_tells}
 use Rattle.vfs_gates.proofs.task.Task.first.Goals as goal
 
 pub invariant_of-result : goal.invariant_of-result

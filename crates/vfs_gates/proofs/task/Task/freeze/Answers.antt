@@ -1,5 +1,5 @@
 -- it tells of the reply whether the operation was done
-use Rattle.gate_steps.specs.call_events.Runs.{unit_of}
+use Rattle.vfs_gates.proofs.Prelude.{unit_of}
 use Rattle.gate_steps.proofs.call_events.Asking.{was_told_asking}
 use Rattle.gate_world.specs.declared.operations.Op.TheVariants.{Freeze as FreezeOp}
 use Rattle.vfs_gates.proofs.task.Task.freeze.Goals as goal

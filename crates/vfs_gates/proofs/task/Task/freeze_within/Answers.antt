@@ -1,8 +1,7 @@
 -- the freeze asks the file system's hooks by those with a limit
 use Rattle.std.proofs.Common.{rules}
 use Rattle.gate_world.specs.declared.operations.Op.TheVariants.{Freeze as FreezeOp}
-use Rattle.vfs_gates.specs.Patience.{with_deadline}
-use Rattle.vfs_gates.proofs.OwnHooks.{own_end}
+use Rattle.vfs_gates.{proofs.OwnHooks.own_end, specs.Patience.with_deadline}
 use Rattle.vfs_gates.proofs.task.Task.freeze_within.Goals as goal
 
 pub returns : goal.returns

@@ -1,6 +1,4 @@
-use Rattle.std.proofs.Common.{ℕ, ◌<◌, ◌≤◌, refl, sym, subst}
-use Rattle.gate_steps.specs.Seating.{times}
-use Rattle.vfs_gates.specs.TaskStates.{SeatedTask}
+use Rattle.vfs_gates.proofs.Prelude.{SeatedTask, refl, subst, sym, times, ℕ, ◌<◌, ◌≤◌}
 use Rattle.vfs_gates.proofs.Parting.{all_marked}
 use Rattle.vfs_gates.proofs.task.Task.has_all.Goals as goal
 

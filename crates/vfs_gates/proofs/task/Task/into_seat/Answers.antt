@@ -1,8 +1,7 @@
 -- what a task that rests knows rests
-use Rattle.std.proofs.Common.{sym, ap, ◌∙◌, subst}
-use Rattle.vfs_gates.specs.TaskStates.{SeatedTask, HoldsNothing}
+use Rattle.vfs_gates.proofs.Prelude.{SeatedTask, ap, subst, sym, ◌∙◌}
+use Rattle.vfs_gates.{proofs.Parting.all_rest, specs.TaskStates.HoldsNothing}
 use Rattle.gate_steps.specs.call_events.GhostAgrees.{AllRest}
-use Rattle.vfs_gates.proofs.Parting.{all_rest}
 use Rattle.vfs_gates.proofs.task.Task.into_seat.Goals as goal
 
 pub returns-clause-rested : goal.returns-clause-rested

@@ -1,5 +1,5 @@
 -- both rest, and the other gives its numbers
-use Rattle.std.proofs.Common.{refl}
+use Rattle.vfs_gates.proofs.Prelude.{refl}
 use Rattle.vfs_gates.proofs.task.Task.join.Goals as goal
 
 pub returns-clause-joined : goal.returns-clause-joined

@@ -1,8 +1,7 @@
-use Rattle.std.proofs.Common.{◌≡◌, set, true, length, arith, sym, ap, ◌∙◌, subst, None}
-use Rattle.gate_world.specs.declared.config.Config.{Config}
-use Rattle.gate_steps.specs.{Seating.{DealtNumbers}, call_events.GhostAgrees.{GhostAgrees}}
-use Rattle.vfs_gates.specs.{TaskStates.{SeatedTask, Empty, own_number, own_view}, Buffers.{words_in}}
-use Rattle.vfs_gates.proofs.{Parting.{join_self, below}, Rooming.{joined_view, room_same}, Waiting.{joined_number, tell_same}}
+use Rattle.vfs_gates.proofs.Prelude.{Config, DealtNumbers, Empty, GhostAgrees, None, SeatedTask, ap, arith, length, own_number, own_view, subst, sym}
+use Rattle.vfs_gates.proofs.Prelude.{true, words_in, ◌∙◌, ◌≡◌}
+use Rattle.vfs_gates.proofs.{Parting.{below, join_self}, Rooming.{joined_view, room_same}, Waiting.{joined_number, tell_same}}
+use Rattle.std.proofs.Common.{set}
 use Rattle.vfs_gates.proofs.task.Task.leave_to.Goals as goal
 
 pub invariant_of-task : goal.invariant_of-task

@@ -1,8 +1,8 @@
 -- both tasks are as they were, but for what they have seen
-use Rattle.std.proofs.Common.{◌≡◌, List, ◌++◌, sym, ap, ◌∙◌, subst}
-use Rattle.gate_world.specs.declared.{config.Config.{Config}, entries.Entry.{Entry}}
-use Rattle.gate_steps.specs.{Meetings.{StandsNow}, Seating.{DealtNumbers}, call_events.GhostAgrees.{GhostAgrees}}
-use Rattle.vfs_gates.specs.{Buffers.{BuffersMatch, words_in}, Meetings.{Meets}, TaskStates.{SeatedTask, task_state, own_number, own_view}, Waits.{WaitsTell}}
+use Rattle.vfs_gates.proofs.Prelude.{BuffersMatch, Config, DealtNumbers, Entry, GhostAgrees, List, SeatedTask, ap, own_number, own_view, subst, sym}
+use Rattle.vfs_gates.proofs.Prelude.{task_state, words_in, ◌++◌, ◌∙◌, ◌≡◌}
+use Rattle.vfs_gates.specs.{Meetings.Meets, Waits.WaitsTell}
+use Rattle.gate_steps.specs.Meetings.{StandsNow}
 use Rattle.vfs_gates.proofs.task.Task.meet.Goals as goal
 
 pub invariant_of-self : goal.invariant_of-self

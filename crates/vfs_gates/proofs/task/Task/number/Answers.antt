@@ -1,7 +1,5 @@
 -- a task has a number of its own
-use Rattle.std.proofs.Common.{◌≤◌, subst}
-use Rattle.std.specs.Prelude.{length}
-use Rattle.vfs_gates.specs.TaskStates.{SeatedTask}
+use Rattle.vfs_gates.proofs.Prelude.{SeatedTask, length, subst, ◌≤◌}
 use Rattle.vfs_gates.proofs.Parting.{has_own}
 use Rattle.vfs_gates.proofs.task.Task.number.Goals as goal
 

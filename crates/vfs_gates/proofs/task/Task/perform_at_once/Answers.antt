@@ -1,15 +1,9 @@
 -- a beginning, and a line of steps that may ask hooks
-use Rattle.std.proofs.Common.{sym, ap, ◌∙◌}
-use Rattle.std.specs.Prelude.{Some}
-use Rattle.access_model.specs.Replies.{map_next}
-use Rattle.gate_steps.proofs.call_events.Onward.{stands_at, done_at}
-use Rattle.gate_steps.specs.call_events.Progress.TheVariants.{Going, Done}
-use Rattle.gate_world.specs.declared.work.Phase.{Phase}
-use Rattle.vfs_gates.proofs.{Admitting.{refused_by}, AtOnce.{went_there, refused_at_once, told_at_once}}
-use Rattle.vfs_gates.proofs.Calling.{Call, Left, call_with, is_agrees, has_asked_none, not_begun, ghost_agrees_at, ghost_agrees_done, goes_at, ended_at}
-use Rattle.vfs_gates.proofs.{Rooming.{room_at, room_done}, Waiting.{left_tells, once}}
-use Rattle.vfs_gates.proofs.task.Task.perform_at_once.Goals.{After-begin_in_line-next}
-use Rattle.vfs_gates.specs.TaskStates.{SeatedTask}
+use Rattle.vfs_gates.proofs.Prelude.{Phase, SeatedTask, Some, ap, map_next, sym, ◌∙◌}
+use Rattle.vfs_gates.proofs.{Admitting.refused_by, AtOnce.{refused_at_once, told_at_once, went_there}, Calling.{Call, Left, call_with, ended_at}}
+use Rattle.vfs_gates.proofs.{Calling.{ghost_agrees_at, ghost_agrees_done, goes_at, has_asked_none, is_agrees, not_begun}, Rooming.room_at}
+use Rattle.vfs_gates.proofs.{Rooming.room_done, Waiting.{left_tells, once}, task.Task.perform_at_once.Goals.After-begin_in_line-next}
+use Rattle.gate_steps.{proofs.call_events.Onward.{done_at, stands_at}, specs.call_events.Progress.TheVariants.{Done, Going}}
 use Rattle.vfs_gates.proofs.task.Task.perform_at_once.Goals as goal
 
 -- the call, and what its line has left

@@ -1,7 +1,6 @@
 -- the task is as it was
-use Rattle.std.proofs.Common.{◌≡◌, sym, ap, ◌∙◌, subst}
-use Rattle.gate_steps.specs.{Seating.{DealtNumbers}, call_events.GhostAgrees.{GhostAgrees}}
-use Rattle.vfs_gates.specs.{Buffers.{BuffersMatch, words_in}, TaskStates.{own_number, own_view}, Waits.{WaitsTell}}
+use Rattle.vfs_gates.proofs.Prelude.{BuffersMatch, DealtNumbers, GhostAgrees, ap, own_number, own_view, subst, sym, words_in, ◌∙◌}
+use Rattle.vfs_gates.specs.Waits.{WaitsTell}
 use Rattle.vfs_gates.proofs.task.Task.receipt.Goals as goal
 
 pub invariant_of-self : goal.invariant_of-self

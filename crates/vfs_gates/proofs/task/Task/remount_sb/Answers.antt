@@ -1,7 +1,6 @@
 -- it tells of the reply whether the operation was done
-use Rattle.gate_steps.specs.call_events.Runs.{unit_of}
+use Rattle.vfs_gates.proofs.Prelude.{RemountSb, unit_of}
 use Rattle.gate_steps.proofs.call_events.Asking.{was_told_asking}
-use Rattle.gate_world.specs.declared.operations.Op.TheVariants.{RemountSb}
 use Rattle.vfs_gates.proofs.task.Task.remount_sb.Goals as goal
 
 pub returns : goal.returns

@@ -1,5 +1,4 @@
-use Rattle.std.proofs.Common.{refl, sym, subst}
-use Rattle.vfs_gates.specs.TaskStates.{SeatedTask, Empty, own_view}
+use Rattle.vfs_gates.proofs.Prelude.{Empty, SeatedTask, own_view, refl, subst, sym}
 use Rattle.vfs_gates.proofs.Parting.{holds_same}
 use Rattle.vfs_gates.proofs.task.Task.rests.Goals as goal
 

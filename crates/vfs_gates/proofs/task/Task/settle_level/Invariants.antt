@@ -1,6 +1,6 @@
 -- Each callback so far ran, an idle task is as it was, and one that isn't idle is unchanged.
-use Rattle.std.proofs.Common.{◌≡◌, ℕ}
-use Rattle.vfs_gates.specs.{TaskStates.{IsFrom, IsIdle}, Held.{IsAsBefore}, Settled.{CallsBack}}
+use Rattle.vfs_gates.proofs.Prelude.{IsAsBefore, ℕ, ◌≡◌}
+use Rattle.vfs_gates.specs.{Settled.CallsBack, TaskStates.{IsFrom, IsIdle}}
 use Rattle.vfs_gates.proofs.task.Task.settle_level.Given as goal
 
 abbrev pub invariant-loop : goal.invariant-loop

@@ -1,10 +1,8 @@
-use Rattle.std.proofs.{Common.{◌≡◌, ◌≤◌, ℕ, refl, length, set, false, arith, sym, ap, ◌∙◌, subst, None}, lemmas.Result.{err_from_is_err_and}}
-use Rattle.gate_world.specs.declared.views.View.{View}
-use Rattle.gate_steps.specs.{Seating.{DealtNumbers, times}, call_events.{GhostAgrees.{GhostAgrees}, TaskState.{TaskState}}}
-use Rattle.vfs_gates.proofs.Parting.{split_self, split_new, lowest_there, none_begun, none_there}
-use Rattle.vfs_gates.proofs.{Rooming.{given_unseen, kept_view, room_new, room_same}, Resting.{given_empty}}
-use Rattle.vfs_gates.proofs.Waiting.{given_tells, kept_number, tell_same}
-use Rattle.vfs_gates.specs.{Buffers.{words_in}, TaskStates.{SeatedTask, task_state, own_number, own_view, spare_of, Empty}, Parts.{SplitOf}}
+use Rattle.vfs_gates.proofs.Prelude.{DealtNumbers, Empty, GhostAgrees, None, SeatedTask, SplitOf, TaskState, View, ap, arith, false, length}
+use Rattle.vfs_gates.proofs.Prelude.{own_number, own_view, refl, spare_of, subst, sym, task_state, times, words_in, ℕ, ◌∙◌, ◌≡◌, ◌≤◌}
+use Rattle.vfs_gates.proofs.{Parting.{lowest_there, none_begun, none_there, split_new, split_self}, Resting.given_empty, Rooming.given_unseen}
+use Rattle.vfs_gates.proofs.{Rooming.{kept_view, room_new, room_same}, Waiting.{given_tells, kept_number, tell_same}}
+use Rattle.std.proofs.{Common.set, lemmas.Result.err_from_is_err_and}
 use Rattle.vfs_gates.proofs.task.Task.split.Goals as goal
 
 pub invariant_of-result : goal.invariant_of-result

@@ -1,8 +1,7 @@
 -- the step of its kind is the step of the operation
-use Rattle.std.proofs.{Common.{sym, ap, ◌∙◌, refl, subst}, lemmas.Option.{none-some}}
-use Rattle.vfs_gates.specs.TaskStates.{SeatedTask}
+use Rattle.vfs_gates.proofs.Prelude.{IsWithin, SeatedTask, ap, refl, subst, sym, ◌∙◌}
+use Rattle.std.proofs.lemmas.Option.{none-some}
 use Rattle.gate_steps.proofs.call_events.Running.{told_then}
-use Rattle.gate_world.specs.Configs.{IsWithin}
 use Rattle.vfs_gates.proofs.task.Task.step.Goals as goal
 
 pub step_there-requires-clause-at : goal.step_there-requires-clause-at

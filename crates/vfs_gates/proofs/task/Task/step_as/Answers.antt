@@ -1,13 +1,9 @@
 -- the fields after a step are what the seat knows after it
-use Rattle.std.proofs.Common.{◌≡◌, ◌+◌, ◌∙◌, sym, ap, refl, subst}
-use Rattle.std.specs.Prelude.{Option, Some, None}
-use Rattle.access_model.specs.{declared.replies.Next.{Next}, Replies.{map_next}}
-use Rattle.gate_world.specs.declared.work.Phase.{Phase}
-use Rattle.vfs_gates.specs.{TaskStates.{SeatedTask, task_state}, Buffers.{BuffersMatch, words_in}, Waits.{counted, is_wait}}
-use Rattle.gate_steps.specs.call_events.Turns.{state_at}
-use Rattle.gate_steps.proofs.call_events.Turning.{agrees_at, stepped_there}
+use Rattle.vfs_gates.proofs.Prelude.{BuffersMatch, Next, None, Option, Phase, SeatedTask, Some, ap, map_next, refl, subst, sym, task_state, words_in}
+use Rattle.vfs_gates.proofs.Prelude.{◌+◌, ◌∙◌, ◌≡◌}
 use Rattle.vfs_gates.proofs.{Rooming.{FollowsBy, stepped_room}, Waiting.{noted_tells, since, since_begun, since_going}}
-use Rattle.vfs_gates.proofs.task.Task.step_as.Goals.{then-is_some, else-is_some}
+use Rattle.vfs_gates.{proofs.task.Task.step_as.Goals.{else-is_some, then-is_some}, specs.Waits.{counted, is_wait}}
+use Rattle.gate_steps.{proofs.call_events.Turning.{agrees_at, stepped_there}, specs.call_events.Turns.state_at}
 use Rattle.vfs_gates.proofs.task.Task.step_as.Goals as goal
 
 pub do_event-action-requires : goal.do_event-action-requires

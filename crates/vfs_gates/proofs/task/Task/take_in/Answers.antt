@@ -1,8 +1,6 @@
 -- the task has its numbers, and has seen what either had
-use Rattle.std.proofs.Common.{◌≡◌, [], ◌++◌, sym, ap, ◌∙◌, subst}
-use Rattle.std.proofs.lemmas.List.{append-nil}
-use Rattle.gate_steps.specs.{Seating.{DealtNumbers}, call_events.GhostAgrees.{GhostAgrees}}
-use Rattle.vfs_gates.specs.{Buffers.{BuffersMatch, words_in}, TaskStates.{own_number, own_view}, Waits.{WaitsTell}}
+use Rattle.vfs_gates.proofs.Prelude.{BuffersMatch, DealtNumbers, GhostAgrees, ap, append-nil, own_number, own_view, subst, sym, words_in, ◌++◌, ◌∙◌}
+use Rattle.vfs_gates.specs.Waits.{WaitsTell}
 use Rattle.vfs_gates.proofs.task.Task.take_in.Goals as goal
 
 pub invariant_of-self : goal.invariant_of-self

@@ -1,8 +1,7 @@
 -- the freeze asks the file system's hooks by those without patience
 use Rattle.std.proofs.Common.{rules}
 use Rattle.gate_world.specs.declared.operations.Op.TheVariants.{Freeze as FreezeOp}
-use Rattle.vfs_gates.specs.Patience.{without_patience}
-use Rattle.vfs_gates.proofs.OwnHooks.{own_end}
+use Rattle.vfs_gates.{proofs.OwnHooks.own_end, specs.Patience.without_patience}
 use Rattle.vfs_gates.proofs.task.Task.try_freeze.Goals as goal
 
 pub returns : goal.returns

@@ -1,5 +1,5 @@
 -- its line, and what is left of it
-use Rattle.std.proofs.Common.{false}
+use Rattle.vfs_gates.proofs.Prelude.{false}
 use Rattle.gate_world.specs.declared.operations.Op.TheVariants.{Snapshot as SnapshotOp}
 use Rattle.vfs_gates.proofs.task.Task.try_snapshot.Goals as goal
 

@@ -1,9 +1,8 @@
 -- A freeze and a thaw take nothing, and the closure leaves the task as it was.
-use Rattle.std.proofs.Common.{rules, ◌∙◌, refl}
-use Rattle.gate_world.specs.declared.operations.Op.TheVariants.{Freeze, Thaw}
-use Rattle.gate_steps.specs.call_events.Runs.{unit_of}
-use Rattle.vfs_gates.specs.Held.{IsAsBefore}
-use Rattle.vfs_gates.proofs.{Holding.{keeps, as_before_twice}, Returning.{done_idle}}
+use Rattle.vfs_gates.proofs.Prelude.{Freeze, IsAsBefore, refl, unit_of, ◌∙◌}
+use Rattle.std.proofs.Common.{rules}
+use Rattle.vfs_gates.proofs.{Holding.{as_before_twice, keeps}, Returning.done_idle}
+use Rattle.gate_world.specs.declared.operations.Op.TheVariants.{Thaw}
 use Rattle.vfs_gates.proofs.task.Task.with_freeze.Goals as goal
 
 pub returns-in_err-freeze-clause-as_before : goal.returns-in_err-freeze-clause-as_before

@@ -1,9 +1,7 @@
 -- The closure leaves the task as it was, so the return is not refused, and the task is then as it was before.
-use Rattle.std.proofs.Common.{rules, ◌∙◌}
-use Rattle.gate_world.specs.declared.operations.Op.TheVariants.{WantWrite}
-use Rattle.gate_steps.specs.call_events.Runs.{unit_of}
-use Rattle.vfs_gates.specs.Held.{IsAsBefore}
-use Rattle.vfs_gates.proofs.{Holding.{refused_call_keeps}, Returning.{done_idle, written_back}}
+use Rattle.vfs_gates.proofs.Prelude.{IsAsBefore, WantWrite, unit_of, ◌∙◌}
+use Rattle.std.proofs.Common.{rules}
+use Rattle.vfs_gates.proofs.{Holding.refused_call_keeps, Returning.{done_idle, written_back}}
 use Rattle.vfs_gates.proofs.task.Task.with_write.Goals as goal
 
 pub returns-in_err-want_write-clause-as_before : goal.returns-in_err-want_write-clause-as_before
