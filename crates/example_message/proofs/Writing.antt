@@ -1,11 +1,8 @@
 -- What calls leave of the writes in a task's list.
-use Rattle.std.proofs.Common.{◌≡◌, ℕ, ◌+◌, ◌≤◌, List, [], ◌∷◌, ◌++◌, ap, ◌∙◌, arith}
-use Rattle.std.specs.Prelude.{Result, Ok, Err, OnOk}
-use Rattle.access_model.specs.declared.{actions.Action.{Action, TheVariants.{Grow}}, errors.GateError.{GateError}}
-use Rattle.gate_world.specs.declared.operations.Op.{Op, TheVariants.{Grow as GrowOp}}
-use Rattle.vfs_gates.specs.{Held.{own_actions}, Runs.{Performs}, TaskStates.{SeatedTask}}
-use Rattle.gate_world.specs.traces.Traces.{actions_of}
-use Rattle.vfs_gates.proofs.{Holding.{adds}, Returning.{was_done}}
+use Rattle.std.{proofs.Common.{List, [], ap, arith, ℕ, ◌++◌, ◌+◌, ◌∙◌, ◌∷◌, ◌≡◌, ◌≤◌}, specs.Prelude.{Err, Ok, OnOk, Result}}
+use Rattle.access_model.specs.declared.{actions.Action.{Action, TheVariants.Grow}, errors.GateError.GateError}
+use Rattle.gate_world.specs.{declared.operations.Op.{Op, TheVariants.Grow as GrowOp}, traces.Traces.actions_of}
+use Rattle.vfs_gates.{proofs.{Holding.adds, Returning.was_done}, specs.{Held.own_actions, Runs.Performs, TaskStates.SeatedTask}}
 use Rattle.example_message.specs.Words.{writes_in}
 
 -- two lists have the writes of both

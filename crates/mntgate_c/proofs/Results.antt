@@ -1,6 +1,5 @@
 -- What is so of an Ok is so where it is a consequence.
-use Rattle.std.proofs.Common.{IfErr, IfOk}
-use Rattle.std.specs.Prelude.{Result, Ok, Err}
+use Rattle.std.{proofs.Common.{IfErr, IfOk}, specs.Prelude.{Err, Ok, Result}}
 
 pub if_ok_then : {A E : Type 0} {P Q : A → Type 0} (r : Result A E) → ((x : A) → P x → Q x) → IfOk r P → IfOk r Q
 if_ok_then (Ok x) then p = then x p

@@ -1,5 +1,5 @@
 -- What a line says, by how it begins.
-use Rattle.std.proofs.Common.{◌≡◌, ◌∙◌, sym, ap, ℕ, Bool, true, false, List, ◌++◌, drop, codes}
+use Rattle.std.proofs.Common.{Bool, List, ap, codes, drop, false, sym, true, ℕ, ◌++◌, ◌∙◌, ◌≡◌}
 use Rattle.program_checks.specs.Said.{begins_with, says_line, says_with, unended}
 
 -- more of a line

@@ -1,8 +1,9 @@
 -- What lines say that are put.
-use Rattle.std.proofs.{Common.{◌≡◌, ◌∙◌, refl, sym, ap, subst, ℕ, ◌+◌, ◌-◌, ◌≤◌, List, [], ◌∷◌, ◌++◌, length, take, codes, append_assoc, arith, length-append}, lemmas.List.{append-nil}, lemmas.List.Elements.{All-append, All-cons, All-nil}, lemmas.List.Sums.{fold-append}, Math.Seq.{take-append_seam}}
-use Rattle.std.specs.List.{All, fold}
+use Rattle.std.proofs.Common.{List, [], ap, append_assoc, arith, codes, length, length-append, refl, subst, sym, take, ℕ, ◌++◌, ◌+◌, ◌-◌, ◌∙◌, ◌∷◌}
+use Rattle.std.proofs.{Common.{◌≡◌, ◌≤◌}, Math.Seq.take-append_seam, lemmas.List.{Elements.{All-append, All-cons, All-nil}, Sums.fold-append}}
+use Rattle.std.{proofs.lemmas.List.append-nil, specs.List.{All, fold}}
 use Rattle.program_checks.specs.Said.{PutsSaid, Say, says_line, text_of, unended}
-use Rattle.schedule_lines.specs.{Printed.{Prints}, declared.output.Output.{Output}}
+use Rattle.schedule_lines.specs.{Printed.Prints, declared.output.Output.Output}
 
 -- a text before a newline
 pub unended_is : (xs : List ℕ) → unended (xs ++ codes "\n") ≡ xs

@@ -1,7 +1,7 @@
 -- What lines say, as they are read one by one.
-use Rattle.std.proofs.{Common.{◌≡◌, ◌∙◌, sym, ap, ℕ, ◌+◌, List, [], take, drop, true}, lemmas.List.{drop-drop}, lemmas.List.Sums.{fold-append}, Math.Seq.{take-add}}
+use Rattle.std.proofs.{Common.{List, [], ap, drop, sym, take, true, ℕ, ◌+◌, ◌∙◌, ◌≡◌}, Math.Seq.take-add, lemmas.List.{Sums.fold-append, drop-drop}}
 use Rattle.std.specs.List.{fold}
-use Rattle.program_checks.specs.Said.{SaysMore, says_line, said_by}
+use Rattle.program_checks.specs.Said.{SaysMore, said_by, says_line}
 use Rattle.race_files.specs.Left.{Left, behind}
 use Rattle.schedule_lines.specs.declared.output.Output.{Output}
 

@@ -1,6 +1,5 @@
 -- What is written in parts.
-use Rattle.std.proofs.Common.{◌∙◌, ap, append_assoc, ℕ, List, ◌++◌, Option, Some, None}
-use Rattle.std.specs.Io.KnownBytes.{Appends}
+use Rattle.std.{proofs.Common.{List, None, Option, Some, ap, append_assoc, ℕ, ◌++◌, ◌∙◌}, specs.Io.KnownBytes.Appends}
 use Rattle.program_checks.specs.Checks.{WritesMore}
 
 -- bytes behind others

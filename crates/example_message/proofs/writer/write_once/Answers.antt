@@ -1,6 +1,5 @@
 -- the growth is in the task's list, which the return leaves seen
-use Rattle.vfs_gates.proofs.Rounds.{own_seen}
-use Rattle.vfs_gates.specs.Op.TheVariants.{DropWrite, WantWrite}
+use Rattle.vfs_gates.{proofs.Rounds.own_seen, specs.Op.TheVariants.{DropWrite, WantWrite}}
 use Rattle.example_message.proofs.Writing.{in_any_case, wrote_once}
 use Rattle.example_message.proofs.writer.write_once.Goals as goal
 

@@ -1,4 +1,4 @@
-use Rattle.std.proofs.Common.{length-set, arith, ◌∙◌}
+use Rattle.std.proofs.Common.{arith, length-set, ◌∙◌}
 use Rattle.mntgate_c.proofs.Told.{told_more}
 use Rattle.mntgate_c.proofs.closings.write_values.Goals as goal
 

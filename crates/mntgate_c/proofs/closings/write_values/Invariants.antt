@@ -1,6 +1,5 @@
 -- Each value so far is the one of its word.
-use Rattle.std.proofs.Common.{◌≡◌, ℕ, ◌<◌, length}
-use Rattle.std.specs.Prelude.{slice_index, slice_index_or}
+use Rattle.std.{proofs.Common.{length, ℕ, ◌<◌, ◌≡◌}, specs.Prelude.{slice_index, slice_index_or}}
 use Rattle.mntgate_c.specs.Closings.{IsValue, no_word}
 use Rattle.mntgate_c.proofs.closings.write_values.Given as goal
 

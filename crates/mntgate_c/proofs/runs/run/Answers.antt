@@ -1,7 +1,6 @@
 -- each step goes on from the one before it, which went on and was followed by none that reads a hook
-use Rattle.std.proofs.Common.{◌≡◌, ◌+◌, arith, suc, ap, refl, sym, subst, ◌∙◌}
-use Rattle.std.specs.Prelude.{None}
-use Rattle.gate_transitions.specs.{Answers.{asked_by}, declared.steps.{Progress.TheVariants.{Going, Idle}, Step.{Step}}}
+use Rattle.std.{proofs.Common.{ap, arith, refl, subst, suc, sym, ◌+◌, ◌∙◌, ◌≡◌}, specs.Prelude.None}
+use Rattle.gate_transitions.specs.{Answers.asked_by, declared.steps.{Progress.TheVariants.{Going, Idle}, Step.Step}}
 use Rattle.gate_steps.specs.call_events.Runs.{ProgressMatches}
 use Rattle.mntgate_c.proofs.Running.{Ran, one_more}
 use Rattle.mntgate_c.proofs.runs.run.Goals as goal

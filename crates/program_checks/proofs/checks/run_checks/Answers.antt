@@ -1,4 +1,4 @@
-use Rattle.std.proofs.Common.{◌∙◌, ◌+◌, ℕ, ap}
+use Rattle.std.proofs.Common.{ap, ℕ, ◌+◌, ◌∙◌}
 use Rattle.program_checks.proofs.Written.{writes_both}
 use Rattle.program_checks.proofs.checks.run_checks.Goals as goal
 

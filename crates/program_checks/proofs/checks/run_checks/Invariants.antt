@@ -1,4 +1,4 @@
-use Rattle.std.proofs.Common.{◌≡◌, ◌+◌, IsTrue}
+use Rattle.std.proofs.Common.{IsTrue, ◌+◌, ◌≡◌}
 use Rattle.program_checks.specs.Checks.{WritesMore}
 use Rattle.program_checks.proofs.checks.run_checks.Given as goal
 

@@ -1,4 +1,4 @@
-use Rattle.std.proofs.{Common.{◌∙◌, sym, ap, List, ℕ, ◌++◌, append_assoc}, lemmas.Bool.{eqb-true}}
+use Rattle.std.proofs.{Common.{List, ap, append_assoc, sym, ℕ, ◌++◌, ◌∙◌}, lemmas.Bool.eqb-true}
 use Rattle.program_checks.proofs.Put.{all_put, begun, goes_on}
 use Rattle.program_checks.proofs.said.put_line.Goals as goal
 

@@ -1,4 +1,4 @@
-use Rattle.std.proofs.Common.{◌≡◌, ◌++◌, List, ℕ, codes, length}
+use Rattle.std.proofs.Common.{List, codes, length, ℕ, ◌++◌, ◌≡◌}
 use Rattle.program_checks.specs.Said.{PutsSaid}
 use Rattle.program_checks.proofs.said.put_line.Given as goal
 

@@ -1,4 +1,4 @@
-use Rattle.program_checks.proofs.SaidSoFar.{one_more, left_after}
+use Rattle.program_checks.proofs.SaidSoFar.{left_after, one_more}
 use Rattle.race_files.specs.Left.{left_in}
 use Rattle.program_checks.proofs.said.read_said.Goals as goal
 

@@ -1,4 +1,4 @@
-use Rattle.program_checks.proofs.Marks.{more, spaced, marked, unmarked}
+use Rattle.program_checks.proofs.Marks.{marked, more, spaced, unmarked}
 use Rattle.program_checks.proofs.said.said_in.Goals as goal
 
 pub returns-in-Some : goal.returns-in-Some

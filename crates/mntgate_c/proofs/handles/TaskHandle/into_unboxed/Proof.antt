@@ -1,24 +1,23 @@
 -- `into_unboxed` makes a unboxed box box of the pointer again.
-use Rattle.std.proofs.{Common.{◌≡◌, List, [], ◌∷◌, ◌++◌, refl, sym, subst}, raw_atomic.Walks.{proved_at, leaves}}
+use Rattle.std.proofs.{Common.{List, [], refl, subst, sym, ◌++◌, ◌∷◌, ◌≡◌}, raw_atomic.Walks.{leaves, proved_at}}
 use mathlib.Core.Bool.{Bool, true}
-use mir.{Raw.{raw as bare}, Val.{Val, vptr}}
-use base.Logic.{SProp, ent, emp, never, id⊢, fst∗}
+use mir.{Raw.raw as bare, Val.{Val, vptr}}
+use base.Logic.{SProp, emp, ent, fst∗, id⊢, never}
 use prog.Wp.{WpFn}
-use types.{Logic.{sem}, Kit.{‵, raw, ◌⊛◌, ◌$◌, ◌∵◌, !, qed, by, move, keep, split, fsplit, fjoin, use0, rewrite, suffices}}
-use types.{Run.{stop, fld, of_opd, no_more, and_then, returns, enter}, ByLocal.{alloc_all, pass_all, free_all, look_at, get, get_in, sets}}
-use types.Part.{agg, sub, whole}
-use contract.{Monad.{fact, fact_i}, Running.{tables}}
-use denote.{Exit.{yes}, Memory.{lone}, RattleType.{owns}, RawPtr.{Ptr, block_ptr, null_ptr, in_a_block}, Signature.{types_at, plain}}
-use denote.{Steps.{nothing, heard}, Triple.{Entry.{alive}, Walked.{Stays, stay_dropped, walk_of, Goes-dropped}}}
+use types.{ByLocal.{alloc_all, free_all, get, get_in, look_at, pass_all, sets}, Kit.{ !, by, fjoin, fsplit, keep, move, qed, raw, rewrite, split}}
+use types.{Kit.{suffices, use0, ‵, ◌$◌, ◌∵◌, ◌⊛◌}, Logic.sem, Part.{agg, sub, whole}, Run.{and_then, enter, fld, no_more, of_opd, returns, stop}}
+use contract.{Monad.{fact, fact_i}, Running.tables}
+use denote.{Exit.yes, Memory.lone, RattleType.owns, RawPtr.{Ptr, block_ptr, in_a_block, null_ptr}, Signature.{plain, types_at}, Steps.heard}
+use denote.{Steps.nothing, Triple.{Entry.alive, Walked.{Goes-dropped, Stays, stay_dropped, walk_of}}}
 use Rattle.core.proofs.alloc.Calls.{handle_tells}
 use Rattle.std_alloc.specs.Box.Ownership.{box_owns}
+use Rattle.std_heap.specs.contracts.GlobalAllocator.TheImpl.{ghosts}
+use Rattle.mntgate_c.proofs.{HandleSteps.{H', handle_out, word}, Unboxing.{heap_of, pair, pair_fits, put_together}}
+use Rattle.mntgate_c.{proofs.handles.TaskHandle.into_unboxed.Statement.statement, specs.Handles.{heap, holds}}
+use Rattle.mntgate_c.specs.contracts.handles.TaskHandle.into_unboxed.{Key.name as #self, clauses, ended}
 use Rattle.std_heap.specs.contracts.Global as global
 use Rattle.std_heap.proofs.Global.TheLaws as heap_laws
-use Rattle.std_heap.specs.contracts.GlobalAllocator.TheImpl.{ghosts}
-use Rattle.mntgate_c.specs.{Handles.{holds, heap}, contracts.handles.TaskHandle.into_unboxed.{ended, clauses, Key.{name as #self}}}
 use Rattle.mntgate_c.specs.contracts.members.Member as member
-use Rattle.mntgate_c.proofs.{Unboxing.{pair, pair_fits, put_together, heap_of}, HandleSteps.{H', word, handle_out}}
-use Rattle.mntgate_c.proofs.handles.TaskHandle.into_unboxed.Statement.{statement}
 use Rattle.mntgate_c.proofs.handles.TaskHandle.into_unboxed.Code as code
 
 pub into_unboxed_spec : {M : Type 1} → statement M

@@ -1,22 +1,20 @@
 -- `of` keeps the pointer, and what is owned behind it.
-use Rattle.std.proofs.{Common.{◌≡◌, List, [], ◌∷◌, ◌++◌, refl, sym, subst}, raw_atomic.Walks.{proved_at, leaves}}
+use Rattle.std.proofs.{Common.{List, [], refl, subst, sym, ◌++◌, ◌∷◌, ◌≡◌}, raw_atomic.Walks.{leaves, proved_at}}
 use mathlib.Core.Bool.{true}
 use mir.Val.{Val, vptr}
-use base.Logic.{SProp, ent, emp, id⊢}
+use base.Logic.{SProp, emp, ent, id⊢}
 use prog.Wp.{WpFn}
-use types.Kit.{‵, raw, ◌⊛◌, ◌$◌, ◌∵◌, !, qed, by, move, keep, split, fsplit, fjoin, use0, suffices}
-use types.{Run.{stop, fld, of_opd, no_more, and_then, returns, enter}, ByLocal.{alloc_all, pass_all, free_all, look_at, get, get_in, sets}}
-use types.Part.{agg, sub, whole}
-use contract.{Monad.{fact, fact_i}, Running.{tables}}
-use denote.{Exit.{yes}, RattleType.{RattleType, owns}, RawPtr.{block_ptr}, Signature.{types_at, plain}, Steps.{nothing}}
-use denote.Triple.{Entry.{alive}, Walked.{Stays, stay_dropped, walk_of, Goes-dropped}}
+use types.{ByLocal.{alloc_all, free_all, get, get_in, look_at, pass_all, sets}, Kit.{ !, by, fjoin, fsplit, keep, move, qed, raw, split, suffices}}
+use types.{Kit.{use0, ‵, ◌$◌, ◌∵◌, ◌⊛◌}, Part.{agg, sub, whole}, Run.{and_then, enter, fld, no_more, of_opd, returns, stop}}
+use contract.{Monad.{fact, fact_i}, Running.tables}
+use denote.{Exit.yes, RattleType.{RattleType, owns}, RawPtr.block_ptr, Signature.{plain, types_at}, Steps.nothing, Triple.Entry.alive}
+use denote.Triple.Walked.{Goes-dropped, Stays, stay_dropped, walk_of}
+use Rattle.std_heap.specs.contracts.GlobalAllocator.TheImpl.{ghosts}
+use Rattle.mntgate_c.proofs.{HandleSteps.{handle_in, word}, Unboxing.{BoxedRow, pair, pair_fits, taken_apart}}
+use Rattle.mntgate_c.{proofs.handles.TaskHandle.of.Statement.statement, specs.contracts.handles.TaskHandle.of.{Key.name as #self, clauses, ended}}
 use Rattle.std_heap.specs.contracts.Global as heap
 use Rattle.std_heap.proofs.Global.TheLaws as heap_laws
-use Rattle.std_heap.specs.contracts.GlobalAllocator.TheImpl.{ghosts}
 use Rattle.mntgate_c.specs.contracts.members.Member as member
-use Rattle.mntgate_c.proofs.{Unboxing.{pair, BoxedRow, pair_fits, taken_apart}, HandleSteps.{word, handle_in}}
-use Rattle.mntgate_c.proofs.handles.TaskHandle.of.Statement.{statement}
-use Rattle.mntgate_c.specs.contracts.handles.TaskHandle.of.{ended, clauses, Key.{name as #self}}
 use Rattle.mntgate_c.proofs.handles.TaskHandle.of.Code as code
 
 abbrev Lr : RattleType

@@ -1,6 +1,6 @@
-use Rattle.std.proofs.Common.{ap, sym, subst}
+use Rattle.std.proofs.Common.{ap, subst, sym}
 use Rattle.gate_world.specs.declared.config.Config.{Config}
-use Rattle.vfs_gates.specs.{Ended.{HasOpeningWords}, TaskStates.{SeatedTask}}
+use Rattle.vfs_gates.specs.{Ended.HasOpeningWords, TaskStates.SeatedTask}
 use Rattle.mntgate_c.proofs.Results.{if_ok_then}
 use Rattle.mntgate_c.proofs.members.Member.open.Goals as goal
 

@@ -1,21 +1,20 @@
 -- `into_box` makes the box again: the struct's two fields, and a call.
-use Rattle.std.proofs.{Common.{◌≡◌, List, [], ◌∷◌, ◌++◌, refl, sym, ap, subst}, raw_atomic.Walks.{proved_at, leaves}}
-use base.{Fml.{ftrue, flft}, Logic.{SProp, ent, id⊢}}
-use contract.{BorrowLft.{◌⊑◌}, Monad.{fact}, Running.{tables}}
-use denote.{Exit.{no}, Param.{param, layout, bounded, Laws.{param_laws}}, RattleType.{RattleType, owns}, RawPtr.{block_ptr}}
-use denote.{Signature.{types_at, plain}, Steps.{nothing, only}, Triple.{Call.{calls_at_last}, Clauses.{Lasts, lasts}, Spec.{triple_of}}}
-use denote.Triple.Walked.{Stays, stay_dropped, walk_of}
-use mir.{MapTy.{inst_fn}, Syntax.{a_type, dcons, dnil}, Val.{Val, vptr}}
+use Rattle.std.proofs.{Common.{List, [], ap, refl, subst, sym, ◌++◌, ◌∷◌, ◌≡◌}, raw_atomic.Walks.{leaves, proved_at}}
+use base.{Fml.{flft, ftrue}, Logic.{SProp, ent, id⊢}}
+use contract.{BorrowLft.◌⊑◌, Monad.fact, Running.tables}
+use denote.{Exit.no, Param.{Laws.param_laws, bounded, layout, param}, RattleType.{RattleType, owns}, RawPtr.block_ptr, Signature.{plain, types_at}}
+use denote.{Steps.{nothing, only}, Triple.{Call.calls_at_last, Clauses.{Lasts, lasts}, Spec.triple_of, Walked.{Stays, stay_dropped, walk_of}}}
+use mir.{MapTy.inst_fn, Syntax.{a_type, dcons, dnil}, Val.{Val, vptr}}
 use prog.Wp.{WpFn}
-use types.ByLocal.{alloc_all, pass_all, free_all, look_at, get, get_in, sets, lands_last, env}
-use types.Kit.{‵, raw, ◌⊛◌, some, later, at_ret, ◌$◌, ◌∵◌, !, qed, by, move, keep, drop, split, split3, join, fsplit, fjoin, pick, suffices, use1, await, rewrite, feq_i}
-use types.{Part.{sub, whole}, Run.{stop, fld, of_opd, no_more, and_then, first, blocks, exec, returns, enter}}
-use Rattle.core.proofs.{alloc.{Calls.{Goes-blank}, Shapes.{after}}, atomic.Steps.{fm}, cell.Inside.{Good}}
+use types.{ByLocal.{alloc_all, env, free_all, get, get_in, lands_last, look_at, pass_all, sets}, Kit.{ !, at_ret, await, by, drop, feq_i, fjoin}}
+use types.{Kit.{fsplit, join, keep, later, move, pick, qed, raw, rewrite, some, split, split3, suffices, use1, ‵, ◌$◌, ◌∵◌, ◌⊛◌}, Part.{sub, whole}}
+use types.Run.{and_then, blocks, enter, exec, first, fld, no_more, of_opd, returns, stop}
+use Rattle.core.proofs.{alloc.{Calls.Goes-blank, Shapes.after}, atomic.Steps.fm, cell.Inside.Good}
+use Rattle.std_alloc.proofs.{BoxSteps.Steps.{box_in, box_out}, boxed.Box.from_raw.Met.met}
+use Rattle.mntgate_c.proofs.{Unboxing.{BoxedRow, pair, pair_fits, taken_apart}, unboxed.Unboxed.into_box.Statement.statement}
+use Rattle.mntgate_c.specs.contracts.unboxed.Unboxed.into_box.{Key.name as #self, clauses, ended}
 use Rattle.std_alloc.proofs.BoxSteps.Form as box
-use Rattle.std_alloc.proofs.{BoxSteps.Steps.{box_out, box_in}, boxed.Box.from_raw.Met.{met}}
 use Rattle.std_alloc.specs.contracts.boxed.Box.from_raw as from_raw
-use Rattle.mntgate_c.proofs.{Unboxing.{pair, BoxedRow, pair_fits, taken_apart}, unboxed.Unboxed.into_box.Statement.{statement}}
-use Rattle.mntgate_c.specs.contracts.unboxed.Unboxed.into_box.{ended, clauses, Key.{name as #self}}
 use Rattle.mntgate_c.proofs.unboxed.Unboxed.into_box.Code as code
 
 pub into_box_spec : {M : Type 1} → statement M

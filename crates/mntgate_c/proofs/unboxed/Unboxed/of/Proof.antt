@@ -1,22 +1,21 @@
 -- `of` takes the box apart: a call, and the struct of what it gave.
-use Rattle.std.proofs.{Common.{◌≡◌, List, [], ◌∷◌, ◌++◌, refl, sym, ap, ◌∙◌, subst}, raw_atomic.Walks.{proved_at, leaves}}
-use base.{Fml.{ftrue, fsep, flft}, Logic.{SProp, ent, emp, never, id⊢, fst∗}}
-use contract.{Monad.{fact, fact_i}, Running.{tables}}
-use denote.{Builtin.{RawPtr}, Exit.{no}, Param.{param, layout, bounded, Laws.{param_laws}}, RattleType.{RattleType, owns}}
-use denote.{RawPtr.{Ptr, block_ptr, null_ptr, ptr_val, in_a_block}, Signature.{types_at, plain}, Steps.{nothing, only, heard}}
-use denote.{Struct.Tuple.{Tuple}, Triple.{Call.{calls_at}, Clauses.{Lasts}, Spec.{triple_of}, Walked.{Stays, stay_dropped, walk_of}}}
-use mir.{MapTy.{inst_fn}, Raw.{raw as bare}, Syntax.{a_type, dcons, dnil}, Val.{Val, vptr, vstruct, of_list}}
+use Rattle.std.proofs.{Common.{List, [], ap, refl, subst, sym, ◌++◌, ◌∙◌, ◌∷◌, ◌≡◌}, raw_atomic.Walks.{leaves, proved_at}}
+use base.{Fml.{flft, fsep, ftrue}, Logic.{SProp, emp, ent, fst∗, id⊢, never}}
+use contract.{Monad.{fact, fact_i}, Running.tables}
+use denote.{Builtin.RawPtr, Exit.no, Param.{Laws.param_laws, bounded, layout, param}, RattleType.{RattleType, owns}, RawPtr.{Ptr, block_ptr}}
+use denote.{RawPtr.{in_a_block, null_ptr, ptr_val}, Signature.{plain, types_at}, Steps.{heard, nothing, only}, Struct.Tuple.Tuple}
+use denote.Triple.{Call.calls_at, Clauses.Lasts, Spec.triple_of, Walked.{Stays, stay_dropped, walk_of}}
+use mir.{MapTy.inst_fn, Raw.raw as bare, Syntax.{a_type, dcons, dnil}, Val.{Val, of_list, vptr, vstruct}}
 use prog.Wp.{WpFn}
-use types.ByLocal.{alloc_all, pass_all, free_all, look_at, get, get_in, sets, lands_as}
-use types.Kit.{‵, raw, ◌⊛◌, some, later, ◌$◌, ◌∵◌, !, qed, by, move, keep, drop, split, split3, join, fsplit, fjoin, fpick, pick, suffices, use0, use1, await, rewrite, feq_l}
-use types.{Logic.{sem}, Part.{agg, sub}, Run.{stop, fld, of_opd, no_more, and_then, returns, enter}}
-use Rattle.core.proofs.{alloc.Calls.{Goes-blank, handle_tells}, atomic.Steps.{fm}}
-use Rattle.std_alloc.specs.Box.Ownership.{box_owns}
+use types.{ByLocal.{alloc_all, free_all, get, get_in, lands_as, look_at, pass_all, sets}, Kit.{ !, await, by, drop, feq_l, fjoin, fpick, fsplit, join}}
+use types.{Kit.{keep, later, move, pick, qed, raw, rewrite, some, split, split3, suffices, use0, use1, ‵, ◌$◌, ◌∵◌, ◌⊛◌}, Logic.sem, Part.{agg, sub}}
+use types.Run.{and_then, enter, fld, no_more, of_opd, returns, stop}
+use Rattle.core.proofs.{alloc.Calls.{Goes-blank, handle_tells}, atomic.Steps.fm}
+use Rattle.std_alloc.{proofs.{BoxSteps.Steps.{box_in, box_out}, boxed.Box.into_raw_with_allocator.Met.met}, specs.Box.Ownership.box_owns}
+use Rattle.mntgate_c.proofs.{Unboxing.{pair, pair_fits, put_together}, unboxed.Unboxed.of.Statement.statement}
+use Rattle.mntgate_c.specs.contracts.unboxed.Unboxed.of.{Key.name as #self, clauses, ended}
 use Rattle.std_alloc.proofs.BoxSteps.Form as box
-use Rattle.std_alloc.proofs.{BoxSteps.Steps.{box_out, box_in}, boxed.Box.into_raw_with_allocator.Met.{met}}
 use Rattle.std_alloc.specs.contracts.boxed.Box.into_raw_with_allocator as raw_parts
-use Rattle.mntgate_c.proofs.{Unboxing.{pair, pair_fits, put_together}, unboxed.Unboxed.of.Statement.{statement}}
-use Rattle.mntgate_c.specs.contracts.unboxed.Unboxed.of.{ended, clauses, Key.{name as #self}}
 use Rattle.mntgate_c.proofs.unboxed.Unboxed.of.Code as code
 
 pub of_spec : {M : Type 1} → statement M
