@@ -86,11 +86,15 @@ class Task:
             self.owes = None
 
 
-def draw(program, tasks, calls, dice):
-    """The lines of a history with so many calls."""
+def draw(program, tasks, calls, dice, most=None):
+    """The lines of a history with so many calls. After so many draws at most it ends as it is, if
+    that is said: calls may be under way then."""
     player, movers = Player(program, tasks), [Task(number) for number in range(tasks)]
-    lines, begun = [f"config {tasks} 1 1 2 8", "history"], 0
+    lines, begun, drawn = [f"config {tasks} 1 1 2 8", "history"], 0, 0
     while begun < calls or any(task.call or task.owes for task in movers):
+        if drawn == most:
+            break
+        drawn += 1
         task = dice.choice(movers)
         if task.call is None and (begun < calls or task.owes):
             if task.wait:
