@@ -1,15 +1,14 @@
 -- What is frozen is shut, and so its tree stays, action by action.
-use Rattle.std.proofs.{Common.{Bool, arith, false, inl, inr, refl, suc, sym, true, zero, ℕ, ◌<◌, ◌∙◌, ◌≡◌, ◌≤◌}, lemmas.Bool.Decides.eqb_tells}
-use Rattle.std.{proofs.lemmas.Bool.{both_ways, cases_Bool, false≢true}, specs.Prelude.{List, None, Option, Some, [], option_map, ◌&&◌, ◌++◌, ◌==◌}}
-use Rattle.std.specs.Prelude.{◌∷◌}
 use Rattle.finite_sums.proofs.Totals.{each_updated}
+use Rattle.std.proofs.Common.{Bool, List, None, Option, Some, [], arith, false, inl, inr, option_map, refl, suc, sym, true, zero, ℕ, ◌&&◌, ◌++◌, ◌<◌}
+use Rattle.std.proofs.{Common.{◌==◌, ◌∙◌, ◌∷◌, ◌≡◌, ◌≤◌}, lemmas.Bool.{Decides.eqb_tells, both_ways, cases_Bool, false≢true}}
 use Rattle.access_model.{proofs.{Closed.closed, Held.{some_held, stays_frozen}}, specs.Actions.{HoldsSomeMount, IsAllowed, MayDo, MayStage}}
 use Rattle.access_model.specs.{Actions.{after_action, after_close, marked}, Histories.{Done, IsLegal, end_of}, Holders.{held_by, nobody}}
-use Rattle.access_model.specs.{Laws.{FrozenIsShut, IsFrozenStill, NeverLeaves, NobodyHoldsClosed, TreeStays}, States.{IsClean, Limits, NoneRemoved}}
-use Rattle.access_model.specs.{States.{State, is_dirty, is_removed}, declared.actions.Action.{Action, TheVariants.{Clean, Close, Create, Dirty}}}
-use Rattle.access_model.specs.declared.actions.Action.TheVariants.{Grant, Grow, Hold, Leave, MountRo, MountRw, MoveTo, Open, Pass, Remove, Reopen}
-use Rattle.access_model.specs.declared.actions.{Action.TheVariants.{Return, SbRo, SbRw, Stage}, Holder.{Holder, TheVariants.{Kernel, User}}}
-use Rattle.access_model.specs.declared.actions.NodeInfo.{NodeInfo}
+use Rattle.access_model.specs.Laws.{FrozenIsShut, IsFrozenStill, NeverLeaves, NobodyHoldsClosed, TreeStays}
+use Rattle.access_model.specs.{States.{IsClean, Limits, NoneRemoved, State, is_dirty, is_removed}, declared.actions.Action.Action}
+use Rattle.access_model.specs.declared.actions.Action.TheVariants.{Clean, Close, Create, Dirty, Grant, Grow, Hold, Leave, MountRo, MountRw, MoveTo}
+use Rattle.access_model.specs.declared.actions.{Action.TheVariants.{Open, Pass, Remove, Reopen, Return, SbRo, SbRw, Stage}, Holder.Holder}
+use Rattle.access_model.specs.declared.actions.{Holder.TheVariants.{Kernel, User}, NodeInfo.NodeInfo}
 
 -- a node whose mark is cleared is clean, and removed as before; and where it was clean it is the same
 marked_clean : (node : Option NodeInfo) → is_dirty (option_map (marked false) node) ≡ false

@@ -1,6 +1,5 @@
 -- What a task holds is what its own list leaves.
-use Rattle.std.{proofs.{Common.{ap, arith, inl, inr, refl, subst, sym, ℕ, ◌∙◌, ◌≡◌}, lemmas.Bool.Decides.eqb_tells}, specs.Prelude.{List, [], cond}}
-use Rattle.std.specs.Prelude.{◌∷◌}
+use Rattle.std.proofs.{Common.{List, [], ap, arith, cond, inl, inr, refl, subst, sym, ℕ, ◌∙◌, ◌∷◌, ◌≡◌}, lemmas.Bool.Decides.eqb_tells}
 use Rattle.access_model.specs.{Actions.{after_action, levels_after, mounts_after, opens_after}, Histories.{Done, end_of, levels_of, mounts_of}}
 use Rattle.access_model.specs.{Histories.{opens_of, own_part}, Laws.FollowsOwnList, States.State, declared.actions.Action.Action}
 

@@ -1,8 +1,7 @@
 -- Laws of whole histories.
-use Rattle.std.specs.Prelude.{◌≡◌, ℕ, ◌<◌, ◌≤◌, ◌⊎◌, true, false, List, [], ◌∷◌}
-use Rattle.access_model.specs.{declared.actions.{Action.{Action, TheVariants.{Leave}}, Holder.{Holder}}, Holders.{held_by}}
-use Rattle.access_model.specs.{States.{Limits, State, IsClean, NoneRemoved}, Actions.{IsAllowed, after_action}}
-use Rattle.access_model.specs.Histories.{Done, end_of, own_part, mounts_of, levels_of, opens_of}
+use Rattle.std.specs.Prelude.{List, [], false, true, ℕ, ◌<◌, ◌∷◌, ◌≡◌, ◌≤◌, ◌⊎◌}
+use Rattle.access_model.specs.{Actions.{IsAllowed, after_action}, Histories.{Done, end_of, levels_of, mounts_of, opens_of, own_part}, Holders.held_by}
+use Rattle.access_model.specs.{States.{IsClean, Limits, NoneRemoved, State}, declared.actions.{Action.{Action, TheVariants.Leave}, Holder.Holder}}
 
 -- writes through the mount are refused, by its own flag or the superblock's
 abbrev pub IsReadOnly : State → ℕ → Type 0

@@ -1,8 +1,7 @@
 -- The state of the access model.
-use Rattle.std.specs.Prelude.{◌≡◌, ℕ, ◌<◌, ◌≤◌, Bool, true, false, Option, Some, None}
-use Rattle.finite_sums.specs.Sums.{update, total}
-use Rattle.access_model.specs.declared.actions.{Gate.{Gate, TheVariants.{Mount, Level}}, Holders.{Holders}, Kind.TheVariants.{File, Dir}}
-use Rattle.access_model.specs.{declared.actions.NodeInfo.{NodeInfo}, Holders.{nobody}}
+use Rattle.{finite_sums.specs.Sums.{total, update}, std.specs.Prelude.{Bool, None, Option, Some, false, true, ℕ, ◌<◌, ◌≡◌, ◌≤◌}}
+use Rattle.access_model.specs.{Holders.nobody, declared.actions.{Gate.{Gate, TheVariants.{Level, Mount}}, Holders.Holders}}
+use Rattle.access_model.specs.declared.actions.{Kind.TheVariants.{Dir, File}, NodeInfo.NodeInfo}
 
 -- how many tasks, mounts and nodes there are, and how many blocks all files may have together
 pub record Limits : Type 0 where

@@ -1,10 +1,8 @@
 -- Each word has a place of its own, at whatever limits: a list that has every word has every word after a write of one.
-use Rattle.std.proofs.Common.{◌≡◌, ℕ, ◌<◌, List, length, sym, ap, ◌∙◌, inl, inr, arith, get_or-set_same, get_or-set_other}
-use Rattle.std.proofs.{lemmas.{Grind.{common_steps}, Bool.Decides.{eqb_tells}}}
-use Rattle.std.specs.Prelude.{slice_set, replicate}
-use Rattle.cpu_words.specs.{declared.names.WordName.{WordName, TheVariants.{Node}}, Names.{Extents, IsWord, place, words_in_all}}
-use Rattle.cpu_words.specs.{Words.{Words, put, opening_words}, Lists.{AreFew, ListShows, AreOpening}}
-use Rattle.cpu_words.proofs.Writes.{read_put_same, read_put_other}
+use Rattle.std.proofs.Common.{List, ap, arith, get_or-set_other, get_or-set_same, inl, inr, length, replicate, slice_set, sym, ℕ, ◌<◌, ◌∙◌, ◌≡◌}
+use Rattle.std.proofs.lemmas.{Bool.Decides.eqb_tells, Grind.common_steps}
+use Rattle.cpu_words.{proofs.Writes.{read_put_other, read_put_same}, specs.{Lists.{AreFew, AreOpening, ListShows}, Names.{Extents, IsWord, place}}}
+use Rattle.cpu_words.specs.{Names.words_in_all, Words.{Words, opening_words, put}, declared.names.WordName.{TheVariants.Node, WordName}}
 
 module _ (e : Extents) (few : AreFew e) where
   -- each word has a place among all

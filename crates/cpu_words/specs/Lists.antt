@@ -1,7 +1,6 @@
 -- All words in one list, each at an index that its place gives.
-use Rattle.std.specs.Prelude.{◌≡◌, ℕ, ◌≤◌, List, length, slice_index}
-use Rattle.cpu_words.specs.{declared.names.WordName.{WordName, TheVariants.{Node}}, Names.{Extents, IsWord, largest, place}}
-use Rattle.cpu_words.specs.Words.{Words, read}
+use Rattle.std.specs.Prelude.{List, length, slice_index, ℕ, ◌≡◌, ◌≤◌}
+use Rattle.cpu_words.specs.{Names.{Extents, IsWord, largest, place}, Words.{Words, read}, declared.names.WordName.{TheVariants.Node, WordName}}
 
 -- there are no more of each than there may be
 pub record AreFew (e : Extents) : Type 0 where

@@ -1,7 +1,6 @@
 -- Sums over the words of a gate, read one after the other.
-use Rattle.std.specs.Prelude.{ℕ, ◌+◌, ◌%◌, nat_lt, nat_le, if◌then◌else◌, List, length, sum}
-use Rattle.finite_sums.specs.Sums.{total}
-use Rattle.cpu_words.specs.{declared.sums.{Sum.{Sum}, Taken.{Taken, TheVariants.{More, Total}}}, Touches.{wrap_add}}
+use Rattle.{finite_sums.specs.Sums.total, std.specs.Prelude.{List, if◌then◌else◌, length, nat_le, nat_lt, sum, ℕ, ◌%◌, ◌+◌}}
+use Rattle.cpu_words.specs.{Touches.wrap_add, declared.sums.{Sum.Sum, Taken.{Taken, TheVariants.{More, Total}}}}
 
 -- what a sum is after one word more, of so many processors
 abbrev pub sum_taking : Sum → ℕ → ℕ → Taken

@@ -1,8 +1,7 @@
 -- All words at one moment.
-use Rattle.std.specs.Prelude.{ℕ}
-use Rattle.finite_sums.specs.Sums.{update}
-use Rattle.cpu_words.specs.declared.names.WordName.{WordName}
-use Rattle.cpu_words.specs.declared.names.WordName.TheVariants.{Umount, Stage, Holders, SbFlags, Remount, MountFlags, MountCount, Block, Sync, LevelCount, Section, Used, Node, Kids, Removed}
+use Rattle.{finite_sums.specs.Sums.update, std.specs.Prelude.ℕ}
+use Rattle.cpu_words.specs.declared.names.WordName.TheVariants.{Block, Holders, Kids, LevelCount, MountCount, MountFlags, Node, Remount, Removed}
+use Rattle.cpu_words.specs.declared.names.WordName.{TheVariants.{SbFlags, Section, Stage, Sync, Umount, Used}, WordName}
 
 -- the values of all words, by what they belong to; of a number that there is not, any value
 pub record Words : Type 0 where

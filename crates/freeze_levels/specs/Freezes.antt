@@ -1,23 +1,21 @@
 -- The order of steps of a freeze of the superblock: which word a step touches and how, and what comes after it. Three steps are decided
 -- by the answer of the file system.
-use Rattle.std.specs.Prelude.{ℕ, ◌+◌, ◌-◌, ◌==◌, if◌then◌else◌, true, Option, Some, None, Ok, Err}
-use Rattle.access_model.specs.declared.actions.{Action.{Action, TheVariants.{Stage as StageAction, Hold}}, Holders.{Holders}}
-use Rattle.access_model.specs.declared.{errors.GateError.TheVariants.{Busy, Hook}, replies.Next.{Next, TheVariants.{Go, Wait, Done}}}
-use Rattle.access_model.specs.{declared.replies.Reply.TheVariants.{Unit as UnitReply}, Holders.{nobody, held_by, with_holder}}
-use Rattle.cpu_words.specs.declared.names.WordName.{WordName, TheVariants.{Umount, Stage, Holders as HoldersWord, SbFlags, Block}}
-use Rattle.cpu_words.specs.{declared.events.Touch.{Touch, TheVariants.{Load, Store, Cas}}, Hooks.{HookAnswer}}
-use Rattle.node_words.specs.{declared.marks.ClearMarks.{ClearMarks}, Phases.{clear_next, clear_after}}
-use Rattle.percpu_rwsem.specs.declared.writers.{DownWrite.{DownWrite}, DownWriteStep.{DownWriteStep, TheVariants.{Sums}}, UpWrite.{UpWrite}}
-use Rattle.percpu_rwsem.specs.declared.transitions.{Transition.TheVariants.{Loads}, TransitionNext.{TransitionNext, TheVariants.{More, Undefined, Made}}}
-use Rattle.percpu_rwsem.specs.{SyncWords.{on_exit}, Transitions.{transition_next, transition_after}}
-use Rattle.percpu_rwsem.specs.Writers.{down_write_next, down_write_after, up_write_next, up_write_after}
-use Rattle.freeze_levels.specs.declared.{hooks.HookKind.{HookKind, TheVariants.{Sync, FreezeFs, KeepWaiting}}, freezes.Freeze.{Freeze}}
-use Rattle.freeze_levels.specs.declared.freezes.FreezeStep.{FreezeStep}
-use Rattle.freeze_levels.specs.declared.freezes.FreezeStep.TheVariants.{Locks, LoadsStage, LoadsHolders, Holds, LoadsSuperblock}
-use Rattle.freeze_levels.specs.declared.freezes.FreezeStep.TheVariants.{CompletesReadOnly, SetsWrite, Unlocks, Closes, LocksAgain}
-use Rattle.freeze_levels.specs.declared.freezes.FreezeStep.TheVariants.{SetsPageFault, Cleans, SetsFs, SetsComplete, Reopens, Releases}
-use Rattle.freeze_levels.specs.declared.freezes.FreezeStep.TheVariants.{Waits, Undoes, LocksToUndo, GivesUp}
-use Rattle.freeze_levels.specs.{Holders.{word_of, holders_in}, Levels.{closing, reopening}}
+use Rattle.access_model.specs.{Holders.{held_by, nobody, with_holder}, declared.actions.Action.{Action, TheVariants.{Hold, Stage as StageAction}}}
+use Rattle.access_model.specs.declared.{actions.Holders.Holders, errors.GateError.TheVariants.{Busy, Hook}, replies.Next.Next}
+use Rattle.access_model.specs.declared.replies.{Next.TheVariants.{Done, Go, Wait}, Reply.TheVariants.Unit as UnitReply}
+use Rattle.cpu_words.specs.{Hooks.HookAnswer, declared.events.Touch.{TheVariants.{Cas, Load, Store}, Touch}}
+use Rattle.cpu_words.specs.declared.names.WordName.{TheVariants.{Block, Holders as HoldersWord, SbFlags, Stage, Umount}, WordName}
+use Rattle.node_words.specs.{Phases.{clear_after, clear_next}, declared.marks.ClearMarks.ClearMarks}
+use Rattle.percpu_rwsem.specs.{SyncWords.on_exit, Transitions.{transition_after, transition_next}, Writers.{down_write_after, down_write_next}}
+use Rattle.percpu_rwsem.specs.{Writers.{up_write_after, up_write_next}, declared.transitions.Transition.TheVariants.Loads}
+use Rattle.percpu_rwsem.specs.declared.{transitions.TransitionNext.{TheVariants.{Made, More, Undefined}, TransitionNext}, writers.DownWrite.DownWrite}
+use Rattle.percpu_rwsem.specs.declared.writers.{DownWriteStep.{DownWriteStep, TheVariants.Sums}, UpWrite.UpWrite}
+use Rattle.std.specs.Prelude.{Err, None, Ok, Option, Some, if◌then◌else◌, true, ℕ, ◌+◌, ◌-◌, ◌==◌}
+use Rattle.freeze_levels.specs.{Holders.{holders_in, word_of}, Levels.{closing, reopening}, declared.freezes.{Freeze.Freeze, FreezeStep.FreezeStep}}
+use Rattle.freeze_levels.specs.declared.freezes.FreezeStep.TheVariants.{Cleans, Closes, CompletesReadOnly, GivesUp, Holds, LoadsHolders, LoadsStage}
+use Rattle.freeze_levels.specs.declared.freezes.FreezeStep.TheVariants.{LoadsSuperblock, Locks, LocksAgain, LocksToUndo, Releases, Reopens}
+use Rattle.freeze_levels.specs.declared.freezes.FreezeStep.TheVariants.{SetsComplete, SetsFs, SetsPageFault, SetsWrite, Undoes, Unlocks, Waits}
+use Rattle.freeze_levels.specs.declared.hooks.HookKind.{HookKind, TheVariants.{FreezeFs, KeepWaiting, Sync}}
 
 -- the hook whose answer a step reads
 abbrev pub freeze_hook : FreezeStep → Option HookKind

@@ -1,6 +1,5 @@
 -- The word of those who hold a freeze: the kernel 1, user space 2.
-use Rattle.std.specs.Prelude.{ℕ, ◌+◌, ◌/◌, ◌%◌, ◌==◌, if◌then◌else◌}
-use Rattle.access_model.specs.declared.actions.Holders.{Holders}
+use Rattle.{access_model.specs.declared.actions.Holders.Holders, std.specs.Prelude.{if◌then◌else◌, ℕ, ◌%◌, ◌+◌, ◌/◌, ◌==◌}}
 
 -- the word of these holders
 abbrev pub word_of : Holders → ℕ

@@ -1,10 +1,8 @@
 -- The order of steps of a freeze or a thaw.
-use Rattle.std.specs.Prelude.{ℕ, Option}
-use Rattle.access_model.specs.{declared.{actions.Action.{Action}, replies.Next.{Next}}, Replies.{map_next}}
-use Rattle.cpu_words.specs.{declared.{names.WordName.{WordName}, events.Touch.{Touch}}, Hooks.{HookAnswer}}
-use Rattle.freeze_levels.specs.declared.{hooks.HookKind.{HookKind}, phases.FreezePhase.{FreezePhase}}
-use Rattle.freeze_levels.specs.declared.phases.FreezePhase.TheVariants.{Freeze as Freezes, Thaw as Thaws}
-use Rattle.freeze_levels.specs.{Freezes.{freeze_hook, freeze_next, freeze_after}, Thaws.{thaw_hook, thaw_next, thaw_after}}
+use Rattle.access_model.specs.{Replies.map_next, declared.{actions.Action.Action, replies.Next.Next}}
+use Rattle.{cpu_words.specs.{Hooks.HookAnswer, declared.{events.Touch.Touch, names.WordName.WordName}}, std.specs.Prelude.{Option, ℕ}}
+use Rattle.freeze_levels.specs.{Freezes.{freeze_after, freeze_hook, freeze_next}, Thaws.{thaw_after, thaw_hook, thaw_next}}
+use Rattle.freeze_levels.specs.declared.{hooks.HookKind.HookKind, phases.FreezePhase.{FreezePhase, TheVariants.{Freeze as Freezes, Thaw as Thaws}}}
 
 -- the hook whose answer the next step reads
 abbrev pub phase_hook : FreezePhase → Option HookKind

@@ -1,17 +1,16 @@
 -- The order of steps of a thaw of the superblock: which word a step touches and how, and what comes after it. One step is decided by
 -- the answer of the file system.
-use Rattle.std.specs.Prelude.{ℕ, ◌+◌, ◌-◌, ◌==◌, if◌then◌else◌, false, Option, Some, None, Ok, Err}
-use Rattle.access_model.specs.declared.actions.{Action.{Action, TheVariants.{Stage as StageAction, Leave}}, Holders.{Holders}}
-use Rattle.access_model.specs.declared.{errors.GateError.TheVariants.{Invalid, Hook}, replies.Next.{Next, TheVariants.{Go, Wait, Done}}}
-use Rattle.access_model.specs.{declared.replies.Reply.TheVariants.{Unit as UnitReply}, Holders.{held_by, with_holder, is_unheld}}
-use Rattle.cpu_words.specs.declared.names.WordName.{WordName, TheVariants.{Umount, Stage, Holders as HoldersWord, SbFlags}}
-use Rattle.cpu_words.specs.{declared.events.Touch.{Touch, TheVariants.{Load, Store, Cas}}, Hooks.{HookAnswer}}
-use Rattle.percpu_rwsem.specs.{declared.writers.UpWrite.{UpWrite}, Writers.{up_write_next, up_write_after}}
-use Rattle.freeze_levels.specs.declared.{hooks.HookKind.{HookKind, TheVariants.{UnfreezeFs}}, thaws.{Thaw.{Thaw}, ThawStep.{ThawStep}}}
-use Rattle.freeze_levels.specs.declared.thaws.ThawStep.TheVariants.{Locks, LoadsStage, LoadsHolders, Leaves, LoadsSuperblock}
-use Rattle.freeze_levels.specs.declared.thaws.ThawStep.TheVariants.{LeavesReadOnly, UnfreezesReadOnly, LeavesLast, SetsUnfrozen, Reopens}
-use Rattle.freeze_levels.specs.declared.thaws.ThawStep.TheVariants.{Releases}
-use Rattle.freeze_levels.specs.{Holders.{word_of, holders_in}, Levels.{reopening}}
+use Rattle.access_model.specs.{Holders.{held_by, is_unheld, with_holder}, declared.actions.Action.{Action, TheVariants.{Leave, Stage as StageAction}}}
+use Rattle.access_model.specs.declared.{actions.Holders.Holders, errors.GateError.TheVariants.{Hook, Invalid}, replies.Next.Next}
+use Rattle.access_model.specs.declared.replies.{Next.TheVariants.{Done, Go, Wait}, Reply.TheVariants.Unit as UnitReply}
+use Rattle.cpu_words.specs.{Hooks.HookAnswer, declared.events.Touch.{TheVariants.{Cas, Load, Store}, Touch}}
+use Rattle.cpu_words.specs.declared.names.WordName.{TheVariants.{Holders as HoldersWord, SbFlags, Stage, Umount}, WordName}
+use Rattle.percpu_rwsem.specs.{Writers.{up_write_after, up_write_next}, declared.writers.UpWrite.UpWrite}
+use Rattle.std.specs.Prelude.{Err, None, Ok, Option, Some, false, if◌then◌else◌, ℕ, ◌+◌, ◌-◌, ◌==◌}
+use Rattle.freeze_levels.specs.{Holders.{holders_in, word_of}, Levels.reopening, declared.hooks.HookKind.{HookKind, TheVariants.UnfreezeFs}}
+use Rattle.freeze_levels.specs.declared.thaws.{Thaw.Thaw, ThawStep.ThawStep}
+use Rattle.freeze_levels.specs.declared.thaws.ThawStep.TheVariants.{Leaves, LeavesLast, LeavesReadOnly, LoadsHolders, LoadsStage, LoadsSuperblock}
+use Rattle.freeze_levels.specs.declared.thaws.ThawStep.TheVariants.{Locks, Releases, Reopens, SetsUnfrozen, UnfreezesReadOnly}
 
 -- the hook whose answer a step reads
 abbrev pub thaw_hook : ThawStep → Option HookKind

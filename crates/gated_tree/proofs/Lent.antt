@@ -1,7 +1,6 @@
 -- A snapshot whose words were lent has them as they were left.
-use Rattle.std.proofs.{Common.{◌≡◌, ℕ, ap, sym, ◌∙◌}, lemmas.List.{with_items_is}}
-use Rattle.std.specs.Prelude.{List, length}
-use Rattle.gated_tree.specs.{Lending.{with_kids, with_nodes}, Trees.{words_of}, declared.trees.Tree.{Tree}}
+use Rattle.std.proofs.{Common.{List, ap, length, sym, ℕ, ◌∙◌, ◌≡◌}, lemmas.List.with_items_is}
+use Rattle.gated_tree.specs.{Lending.{with_kids, with_nodes}, Trees.words_of, declared.trees.Tree.Tree}
 
 pub words_with_nodes : (tree : Tree) (nodes : List ℕ) → length nodes ≡ length (words_of tree).nodes →
     words_of (with_nodes tree nodes) ≡ record (words_of tree) { nodes = nodes }

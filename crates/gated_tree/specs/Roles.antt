@@ -1,10 +1,9 @@
 -- The tree behind the gates: what holds of its words between any two steps, and what that reads of each task's phase.
-use Rattle.std.specs.Prelude.{◌≡◌, ℕ, zero, suc, ◌+◌, ◌-◌, ◌<◌, ◌≤◌, ◌==◌, ◌||◌, nat_lt, nat_le, if◌then◌else◌, true, false, Option, Some, None}
-use Rattle.finite_sums.specs.Sums.{total}
-use Rattle.access_model.specs.declared.actions.{Kind.TheVariants.{File}, NodeInfo.{NodeInfo}}
-use Rattle.access_model.specs.States.{size_of, is_dirty, is_removed, one_if, IsDirectory}
-use Rattle.node_words.specs.{declared.nodes.NodeWord.{NodeWord}, Nodes.{IsNode, word_of, node_shown}}
-use Rattle.gated_tree.specs.Trees.{is_same, is_child}
+use Rattle.access_model.specs.{States.{IsDirectory, is_dirty, is_removed, one_if, size_of}, declared.actions.Kind.TheVariants.File}
+use Rattle.{access_model.specs.declared.actions.NodeInfo.NodeInfo, finite_sums.specs.Sums.total}
+use Rattle.node_words.specs.{Nodes.{IsNode, node_shown, word_of}, declared.nodes.NodeWord.NodeWord}
+use Rattle.std.specs.Prelude.{None, Option, Some, false, if◌then◌else◌, nat_le, nat_lt, suc, true, zero, ℕ, ◌+◌, ◌-◌, ◌<◌, ◌==◌, ◌||◌, ◌≡◌, ◌≤◌}
+use Rattle.gated_tree.specs.Trees.{is_child, is_same}
 
 -- What a task is doing at the tree. `file` is its file's node as it was loaded, `dir` a directory's number, `blocks` a charge.
 pub data Role : Type 0 where

@@ -1,11 +1,9 @@
 -- A snapshot of the tree: what it shows, and when it is sound and clean.
-use Rattle.std.specs.Prelude.{◌≡◌, ℕ, zero, suc, ◌<◌, ◌==◌, Bool, false, not, is_some, if◌then◌else◌, Option, Some, None, length, replicate, slice_index, slice_set}
-use Rattle.finite_sums.specs.Sums.{total}
-use Rattle.access_model.specs.{declared.actions.NodeInfo.{NodeInfo}, States.{size_of, is_dirty, IsDirectory}}
-use Rattle.cpu_words.specs.declared.names.WordName.{WordName, TheVariants.{Used, Node, Kids}}
-use Rattle.gated_tree.specs.declared.{trees.{Tree.{Tree}, TreeWords.{TreeWords}}, snapshots.SnapshotStep.{SnapshotStep}}
-use Rattle.gated_tree.specs.declared.snapshots.SnapshotStep.TheVariants.{LoadsKids}
-use Rattle.node_words.specs.Nodes.{node_shown, node_after}
+use Rattle.access_model.specs.{States.{IsDirectory, is_dirty, size_of}, declared.actions.NodeInfo.NodeInfo}
+use Rattle.{cpu_words.specs.declared.names.WordName.{TheVariants.{Kids, Node, Used}, WordName}, finite_sums.specs.Sums.total}
+use Rattle.{node_words.specs.Nodes.{node_after, node_shown}, std.specs.Prelude.{Bool, None, Option, Some, false, if◌then◌else◌, is_some, length, not}}
+use Rattle.std.specs.Prelude.{replicate, slice_index, slice_set, suc, zero, ℕ, ◌<◌, ◌==◌, ◌≡◌}
+use Rattle.gated_tree.specs.declared.{snapshots.SnapshotStep.{SnapshotStep, TheVariants.LoadsKids}, trees.{Tree.Tree, TreeWords.TreeWords}}
 
 -- the words of a snapshot
 unfoldable pub words_of : Tree → TreeWords

@@ -1,10 +1,7 @@
 -- Lists of one value, as functions: what a new model holds is what the opening state says.
-use Rattle.std.proofs.{Common.{◌≡◌, ℕ, zero, suc, ◌<◌, refl, sym, ◌∙◌, arith, get_or, replicate, set}, Math.Path.{fun_ext}}
-use Rattle.std.specs.Prelude.{false, None, Some}
-use Rattle.finite_sums.specs.Sums.{update}
-use Rattle.finite_sums.proofs.Totals.{update_off}
-use Rattle.model_state.specs.{declared.model.Accesses.{Accesses}, Shown.{nothing, held_of, inside_of, opens_of, flags_of, tree_of}}
-use Rattle.access_model.specs.States.{root}
+use Rattle.{access_model.specs.States.root, finite_sums.{proofs.Totals.update_off, specs.Sums.update}}
+use Rattle.std.proofs.{Common.{None, Some, arith, false, get_or, refl, replicate, set, suc, sym, zero, ℕ, ◌<◌, ◌∙◌, ◌≡◌}, Math.Path.fun_ext}
+use Rattle.model_state.specs.{Shown.{flags_of, held_of, inside_of, nothing, opens_of, tree_of}, declared.model.Accesses.Accesses}
 
 -- a list of one value has it everywhere, and past the end it is the default
 all_one : {A : Type 0} (n i : ℕ) (d : A) → get_or (replicate n d) i d ≡ d

@@ -1,17 +1,16 @@
 -- The order of steps of want, drop and change: which word a step touches and how, and what comes after it.
-use Rattle.std.specs.Prelude.{ℕ, ◌+◌, Bool, true, false, not, ◌==◌, if◌then◌else◌, Option, Some, None, Ok, Err, bit_and}
-use Rattle.access_model.specs.declared.actions.{Action.{Action, TheVariants.{Grant, Return, MountRo, MountRw}}, Gate.TheVariants.{Mount}}
-use Rattle.access_model.specs.declared.{errors.GateError.TheVariants.{Again, Busy, ReadOnly}, replies.Next.{Next}}
-use Rattle.access_model.specs.declared.replies.{Next.TheVariants.{Go, Wait, Done}, Reply.TheVariants.{Unit as UnitReply}}
-use Rattle.access_model.specs.Replies.{map_next}
-use Rattle.cpu_words.specs.declared.names.WordName.{WordName, TheVariants.{Umount, SbFlags, Remount, MountFlags, MountCount}}
-use Rattle.cpu_words.specs.declared.{events.Touch.{Touch, TheVariants.{Load, Store, Add, Sub, Or, And, Cas}}, sums.Sum.{Sum}}
-use Rattle.cpu_words.specs.{declared.sums.Taken.{Taken, TheVariants.{More, Total}}, Hooks.{HookAnswer}, Sums.{sum_taking}}
-use Rattle.mount_counts.specs.declared.phases.MountPhase.{MountPhase, TheVariants.{Want as Wants, Drop as Drops, Change as Changes}}
-use Rattle.mount_counts.specs.declared.phases.{Want.{Want}, WantStep.{WantStep}}
-use Rattle.mount_counts.specs.declared.phases.WantStep.TheVariants.{CountsUp, LoadsHold, LoadsRemount, LoadsReadOnly, LoadsSuperblock, CountsDown}
-use Rattle.mount_counts.specs.declared.phases.{Change.{Change}, ChangeStep.{ChangeStep}}
-use Rattle.mount_counts.specs.declared.phases.ChangeStep.TheVariants.{Locks, LoadsFlags, LoadsSuperblock as LoadsSb, ClearsReadOnly, SetsHold, Sums, SetsReadOnly, ClearsHold, Releases}
+use Rattle.access_model.specs.{Replies.map_next, declared.actions.Action.{Action, TheVariants.{Grant, MountRo, MountRw, Return}}}
+use Rattle.access_model.specs.declared.{actions.Gate.TheVariants.Mount, errors.GateError.TheVariants.{Again, Busy, ReadOnly}, replies.Next.Next}
+use Rattle.access_model.specs.declared.replies.{Next.TheVariants.{Done, Go, Wait}, Reply.TheVariants.Unit as UnitReply}
+use Rattle.cpu_words.specs.{Hooks.HookAnswer, Sums.sum_taking, declared.events.Touch.{TheVariants.{Add, And, Cas, Load, Or, Store, Sub}, Touch}}
+use Rattle.cpu_words.specs.declared.{names.WordName.{TheVariants.{MountCount, MountFlags, Remount, SbFlags, Umount}, WordName}, sums.Sum.Sum}
+use Rattle.cpu_words.specs.declared.sums.Taken.{Taken, TheVariants.{More, Total}}
+use Rattle.std.specs.Prelude.{Bool, Err, None, Ok, Option, Some, bit_and, false, if◌then◌else◌, not, true, ℕ, ◌+◌, ◌==◌}
+use Rattle.mount_counts.specs.declared.phases.{Change.Change, ChangeStep.{ChangeStep, TheVariants.{ClearsHold, ClearsReadOnly, LoadsFlags}}}
+use Rattle.mount_counts.specs.declared.phases.ChangeStep.TheVariants.{LoadsSuperblock as LoadsSb, Locks, Releases, SetsHold, SetsReadOnly, Sums}
+use Rattle.mount_counts.specs.declared.phases.{MountPhase.{MountPhase, TheVariants.{Change as Changes, Drop as Drops, Want as Wants}}, Want.Want}
+use Rattle.mount_counts.specs.declared.phases.WantStep.TheVariants.{CountsDown, CountsUp, LoadsHold, LoadsReadOnly, LoadsRemount, LoadsSuperblock}
+use Rattle.mount_counts.specs.declared.phases.WantStep.{WantStep}
 
 -- a flag of a flags word is set: READONLY is 1, HOLD is 2
 abbrev pub has_flag : ℕ → ℕ → Bool

@@ -1,18 +1,16 @@
 -- The order of steps of a remount of the superblock: which word a step touches and how, and what comes after it. Two steps are
 -- decided by the answer of the file system.
-use Rattle.std.specs.Prelude.{ℕ, ◌+◌, Bool, true, false, not, ◌==◌, nat_lt, if◌then◌else◌, Option, Some, None, Ok, Err}
-use Rattle.access_model.specs.declared.{actions.Action.{Action, TheVariants.{SbRo, SbRw, Clean}}, errors.GateError.TheVariants.{Busy, Hook}}
-use Rattle.access_model.specs.declared.replies.{Next.{Next, TheVariants.{Go, Wait, Done}}, Reply.TheVariants.{Unit as UnitReply}}
-use Rattle.cpu_words.specs.declared.names.WordName.{WordName}
-use Rattle.cpu_words.specs.declared.names.WordName.TheVariants.{Umount, Stage, SbFlags, Remount as RemountWord, Removed, MountFlags, MountCount, Node}
-use Rattle.cpu_words.specs.declared.{events.Touch.{Touch, TheVariants.{Load, Store, Or, And, Cas}}, sums.{Sum.{Sum}, Taken.{Taken}}}
-use Rattle.cpu_words.specs.{declared.sums.Taken.TheVariants.{More, Total}, Hooks.{HookAnswer}, Sums.{sum_taking}}
-use Rattle.mount_counts.specs.{Phases.{has_flag}, Sets.{no_mounts, with_mount, lowest, without_lowest}, declared.sets.MountSet.{MountSet}}
-use Rattle.mount_counts.specs.declared.remounts.{Remount.{Remount}, RemountStep.{RemountStep}}
-use Rattle.mount_counts.specs.declared.remounts.RemountStep.TheVariants.{Locks, LoadsStage, LoadsSuperblock, SetsWritable, LoadsRemoved}
-use Rattle.mount_counts.specs.declared.remounts.RemountStep.TheVariants.{LoadsFlags, SetsHold, Sums, LoadsRemovedAgain, LeavesHolds}
-use Rattle.mount_counts.specs.declared.remounts.RemountStep.TheVariants.{SetsRemount, ClearsHold, GivesUp, ClearsMark, SetsReadOnly}
-use Rattle.mount_counts.specs.declared.remounts.RemountStep.TheVariants.{ClearsRemount, Releases}
+use Rattle.access_model.specs.declared.{actions.Action.{Action, TheVariants.{Clean, SbRo, SbRw}}, errors.GateError.TheVariants.{Busy, Hook}}
+use Rattle.access_model.specs.declared.replies.{Next.{Next, TheVariants.{Done, Go, Wait}}, Reply.TheVariants.Unit as UnitReply}
+use Rattle.cpu_words.specs.{Hooks.HookAnswer, Sums.sum_taking, declared.events.Touch.{TheVariants.{And, Cas, Load, Or, Store}, Touch}}
+use Rattle.cpu_words.specs.declared.names.WordName.TheVariants.{MountCount, MountFlags, Node, Remount as RemountWord, Removed, SbFlags, Stage, Umount}
+use Rattle.cpu_words.specs.declared.{names.WordName.WordName, sums.{Sum.Sum, Taken.{Taken, TheVariants.{More, Total}}}}
+use Rattle.std.specs.Prelude.{Bool, Err, None, Ok, Option, Some, false, if◌then◌else◌, nat_lt, not, true, ℕ, ◌+◌, ◌==◌}
+use Rattle.mount_counts.specs.{Phases.has_flag, Sets.{lowest, no_mounts, with_mount, without_lowest}, declared.remounts.Remount.Remount}
+use Rattle.mount_counts.specs.declared.remounts.RemountStep.{RemountStep, TheVariants.{ClearsHold, ClearsMark, ClearsRemount, GivesUp, LeavesHolds}}
+use Rattle.mount_counts.specs.declared.remounts.RemountStep.TheVariants.{LoadsFlags, LoadsRemoved, LoadsRemovedAgain, LoadsStage, LoadsSuperblock}
+use Rattle.mount_counts.specs.declared.remounts.RemountStep.TheVariants.{Locks, Releases, SetsHold, SetsReadOnly, SetsRemount, SetsWritable, Sums}
+use Rattle.mount_counts.specs.declared.sets.MountSet.{MountSet}
 
 -- remount: under `umount`, see that no file is removed, hold and sum each mount that isn't read-only, and see it again before `remount` is
 -- set; then let them go, clear the dirty marks, and set the superblock's flag before `remount` is cleared

@@ -1,10 +1,9 @@
 -- The dirty mark of a node's word, cleared. This file alone sees its bit.
-use Rattle.std.proofs.{Common.{◌≡◌, ℕ, ◌+◌, ◌*◌, ◌/◌, ◌%◌, ◌<◌, false, refl, sym, ap, ◌∙◌, arith}, lemmas.Bool.{eq-eqb, ne_eqb}}
-use Rattle.std.proofs.lemmas.Nat.{and_comm, and-not, Bits.{and_pow}}
-use Rattle.std.specs.Prelude.{◌==◌, bit_and, option_map, Some}
-use Rattle.access_model.specs.{declared.actions.Kind.TheVariants.{File}, Actions.{marked}, States.{is_dirty, IsFile, IsDirectory}}
-use Rattle.node_words.specs.Nodes.{kind_in, dirty_in, removed_in, opens_in, parent_in, size_in, IsPacked, IsNode, mark_bit, word_of, node_of, node_shown, marked_node}
-use Rattle.node_words.proofs.Packing.{bit_back, word_returns}
+use Rattle.access_model.specs.{Actions.marked, States.{IsDirectory, IsFile, is_dirty}, declared.actions.Kind.TheVariants.File}
+use Rattle.std.proofs.Common.{Some, ap, arith, bit_and, false, option_map, refl, sym, ℕ, ◌%◌, ◌*◌, ◌+◌, ◌/◌, ◌<◌, ◌==◌, ◌∙◌, ◌≡◌}
+use Rattle.std.proofs.lemmas.{Bool.{eq-eqb, ne_eqb}, Nat.{Bits.and_pow, and-not, and_comm}}
+use Rattle.node_words.{proofs.Packing.{bit_back, word_returns}, specs.Nodes.{IsNode, IsPacked, dirty_in, kind_in, mark_bit, marked_node, node_of}}
+use Rattle.node_words.specs.Nodes.{node_shown, opens_in, parent_in, removed_in, size_in, word_of}
 
 -- a word after an `and` with not 4
 abbrev pub without_mark : ℕ → ℕ

@@ -1,10 +1,9 @@
 -- Nodes to words and back.
-use Rattle.std.proofs.Common.{◌≡◌, ℕ, zero, suc, Bool, true, false, ◌/◌, ◌%◌, ◌<◌, ◌≤◌, refl, sym, ap, ◌∙◌, subst, inl, inr, arith}
-use Rattle.std.proofs.lemmas.Bool.{cases_Bool, Decides.{nat_tests}}
-use Rattle.std.specs.Prelude.{◌==◌, IfSome, Option, Some, None, if◌then◌else◌, option_map}
-use Rattle.access_model.specs.declared.actions.Kind.{Kind, TheVariants.{File, Dir}}
-use Rattle.node_words.specs.declared.nodes.NodeWord.{NodeWord}
-use Rattle.node_words.specs.Nodes.{kind_in, dirty_in, removed_in, parent_in, opens_in, size_in, is_stray, IsPacked, IsLawful, placed, kind_bits, mark_bit, word_of, kind_of, node_of, unpacked, info_of, node_shown}
+use Rattle.access_model.specs.declared.actions.Kind.{Kind, TheVariants.{Dir, File}}
+use Rattle.std.proofs.Common.{Bool, IfSome, None, Option, Some, ap, arith, false, if◌then◌else◌, inl, inr, option_map, refl, subst, suc, sym, true}
+use Rattle.std.proofs.{Common.{zero, ℕ, ◌%◌, ◌/◌, ◌<◌, ◌==◌, ◌∙◌, ◌≡◌, ◌≤◌}, lemmas.Bool.{Decides.nat_tests, cases_Bool}}
+use Rattle.node_words.specs.Nodes.{IsLawful, IsPacked, dirty_in, info_of, is_stray, kind_bits, kind_in, kind_of, mark_bit, node_of, node_shown}
+use Rattle.node_words.specs.{Nodes.{opens_in, parent_in, placed, removed_in, size_in, unpacked, word_of}, declared.nodes.NodeWord.NodeWord}
 
 -- the word of some node, of whatever size
 record IsPlain (word : ℕ) : Type 0 where

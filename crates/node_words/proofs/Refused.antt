@@ -1,12 +1,10 @@
 -- Why a look at a node is refused.
-use Rattle.std.proofs.{lemmas.Grind.{common_steps}, Common.{◌≡◌, ℕ, Bool, true, ◌<◌, refl, sym, ap, ◌∙◌, inl, inr, arith}}
-use Rattle.std.proofs.lemmas.Bool.{cases_Bool, eq-eqb, Decides.{eqb_tells}}
-use Rattle.std.specs.Prelude.{◌⊎◌, ◌==◌, ◌||◌, Option, Some, None, Ok, Err, Result, is_some, option_map}
-use Rattle.access_model.specs.declared.{actions.Kind.{Kind, TheVariants.{File, Dir}}, errors.GateError.{GateError}}
-use Rattle.access_model.specs.declared.errors.GateError.TheVariants.{NoEntry, NotDir, IsDir}
-use Rattle.node_words.specs.declared.nodes.NodeWord.{NodeWord}
-use Rattle.node_words.specs.Nodes.{kind_in, removed_in, kind_of, kind_bits, node_of, unpacked, as_file, as_directory, file_in, directory_in}
-use Rattle.node_words.proofs.Packing.{kind_back, no_kind}
+use Rattle.access_model.specs.declared.{actions.Kind.{Kind, TheVariants.{Dir, File}}, errors.GateError.GateError}
+use Rattle.access_model.specs.declared.errors.GateError.TheVariants.{IsDir, NoEntry, NotDir}
+use Rattle.std.proofs.Common.{Bool, Err, None, Ok, Option, Result, Some, ap, arith, inl, inr, is_some, option_map, refl, sym, true, ℕ, ◌<◌, ◌==◌}
+use Rattle.std.proofs.{Common.{◌||◌, ◌∙◌, ◌≡◌, ◌⊎◌}, lemmas.{Bool.{Decides.eqb_tells, cases_Bool, eq-eqb}, Grind.common_steps}}
+use Rattle.node_words.{proofs.Packing.{kind_back, no_kind}, specs.Nodes.{as_directory, as_file, directory_in, file_in, kind_bits, kind_in, kind_of}}
+use Rattle.node_words.specs.{Nodes.{node_of, removed_in, unpacked}, declared.nodes.NodeWord.NodeWord}
 
 -- what an unpacked word says of its kind: it is not 3, and a word of kind 0 is 0
 kinds : (word : ℕ) → unpacked word ≡ Some (node_of word) → (kind_in word < 3) × (kind_in word ≡ 0 → word ≡ 0)

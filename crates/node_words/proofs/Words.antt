@@ -1,10 +1,9 @@
 -- What the words of nodes say and show: of a node that a call makes, and of one that it loaded.
-use Rattle.std.proofs.Common.{◌≡◌, ℕ, Bool, true, false, ◌<◌, ◌≤◌, refl, sym, ap, ◌∙◌, arith}
-use Rattle.std.specs.Prelude.{◌==◌, Option, Some, None, Ok, option_map}
-use Rattle.access_model.specs.{declared.actions.Kind.{Kind, TheVariants.{File, Dir}}, States.{is_dirty, is_removed, IsDirectory}}
-use Rattle.node_words.specs.declared.nodes.NodeWord.{NodeWord}
-use Rattle.node_words.specs.Nodes.{kind_in, dirty_in, removed_in, opens_in, IsPacked, IsNode, IsLawful, word_of, kind_of, node_of, info_of, node_shown, new_node, as_file, as_any_file, file_in, any_file_in, directory_in}
-use Rattle.node_words.proofs.Packing.{packed_unpacks, fields_placed, fields_again, lawful_packed, fields_shown}
+use Rattle.access_model.specs.{States.{IsDirectory, is_dirty, is_removed}, declared.actions.Kind.{Kind, TheVariants.{Dir, File}}}
+use Rattle.std.proofs.Common.{Bool, None, Ok, Option, Some, ap, arith, false, option_map, refl, sym, true, ℕ, ◌<◌, ◌==◌, ◌∙◌, ◌≡◌, ◌≤◌}
+use Rattle.node_words.proofs.Packing.{fields_again, fields_placed, fields_shown, lawful_packed, packed_unpacks}
+use Rattle.node_words.specs.Nodes.{IsLawful, IsNode, IsPacked, any_file_in, as_any_file, as_file, directory_in, dirty_in, file_in, info_of, kind_in}
+use Rattle.node_words.specs.{Nodes.{kind_of, new_node, node_of, node_shown, opens_in, removed_in, word_of}, declared.nodes.NodeWord.NodeWord}
 
 -- a node whose parent and count fit their bits comes back from its word
 pub node_again : (node : NodeWord) → node.parent < 64 → node.opens ≤ 64 → node_of (word_of node) ≡ node

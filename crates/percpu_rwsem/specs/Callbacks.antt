@@ -1,13 +1,12 @@
 -- The order of steps of a callback of a level's rcu_sync: which word a step touches and how, and what comes after it.
-use Rattle.std.specs.Prelude.{ℕ, true, false, Option, None, Ok}
-use Rattle.access_model.specs.declared.{actions.Action.{Action}, replies.Next.{Next, TheVariants.{Go, Wait, Done}}}
-use Rattle.access_model.specs.declared.replies.Reply.TheVariants.{Ran}
-use Rattle.cpu_words.specs.declared.{names.WordName.{WordName, TheVariants.{Section}}, events.Touch.{Touch, TheVariants.{Load}}}
-use Rattle.percpu_rwsem.specs.declared.grace.GraceNext.{GraceNext, TheVariants.{More as MoreSections, Wait as WaitsFor, Ended}}
-use Rattle.percpu_rwsem.specs.declared.transitions.{Transition.TheVariants.{Loads}, TransitionNext.{TransitionNext}}
-use Rattle.percpu_rwsem.specs.declared.{transitions.TransitionNext.TheVariants.{More, Undefined, Made}, callbacks.Callback.{Callback}}
-use Rattle.percpu_rwsem.specs.declared.callbacks.CallbackStep.{CallbackStep, TheVariants.{Claims, AwaitsSections, CallsBack}}
-use Rattle.percpu_rwsem.specs.{SyncWords.{on_claim, on_callback}, Graces.{started, looked}, Transitions.{transition_next, transition_after}}
+use Rattle.access_model.specs.declared.{actions.Action.Action, replies.{Next.{Next, TheVariants.{Done, Go, Wait}}, Reply.TheVariants.Ran}}
+use Rattle.cpu_words.specs.declared.{events.Touch.{TheVariants.Load, Touch}, names.WordName.{TheVariants.Section, WordName}}
+use Rattle.std.specs.Prelude.{None, Ok, Option, false, true, ℕ}
+use Rattle.percpu_rwsem.specs.{Graces.{looked, started}, SyncWords.{on_callback, on_claim}, Transitions.{transition_after, transition_next}}
+use Rattle.percpu_rwsem.specs.declared.callbacks.{Callback.Callback, CallbackStep.{CallbackStep, TheVariants.{AwaitsSections, CallsBack, Claims}}}
+use Rattle.percpu_rwsem.specs.declared.grace.GraceNext.{GraceNext, TheVariants.{Ended, More as MoreSections, Wait as WaitsFor}}
+use Rattle.percpu_rwsem.specs.declared.transitions.{Transition.TheVariants.Loads, TransitionNext.TheVariants.{Made, More, Undefined}}
+use Rattle.percpu_rwsem.specs.declared.transitions.TransitionNext.{TransitionNext}
 
 -- callback: take the one that is queued, wait for a grace period, and make its transition
 abbrev pub callback_next : Callback → CallbackStep → WordName × Touch

@@ -1,13 +1,10 @@
 -- The order of steps of any operation at a level.
-use Rattle.std.specs.Prelude.{ℕ, Option}
-use Rattle.access_model.specs.{declared.{actions.Action.{Action}, replies.Next.{Next}}, Replies.{map_next}}
-use Rattle.cpu_words.specs.{declared.{names.WordName.{WordName}, events.Touch.{Touch}}, Hooks.{HookAnswer}}
-use Rattle.percpu_rwsem.specs.declared.phases.SemPhase.{SemPhase}
-use Rattle.percpu_rwsem.specs.declared.phases.SemPhase.TheVariants.{DownRead as DownReads, UpRead as UpReads, DownWrite as DownWrites}
-use Rattle.percpu_rwsem.specs.declared.phases.SemPhase.TheVariants.{UpWrite as UpWrites, Callback as Callbacks}
-use Rattle.percpu_rwsem.specs.Readers.{down_read_next, down_read_after, up_read_next, up_read_after}
-use Rattle.percpu_rwsem.specs.Writers.{down_write_next, down_write_after, up_write_next, up_write_after}
-use Rattle.percpu_rwsem.specs.Callbacks.{callback_next, callback_after}
+use Rattle.access_model.specs.{Replies.map_next, declared.{actions.Action.Action, replies.Next.Next}}
+use Rattle.{cpu_words.specs.{Hooks.HookAnswer, declared.{events.Touch.Touch, names.WordName.WordName}}, std.specs.Prelude.{Option, ℕ}}
+use Rattle.percpu_rwsem.specs.{Callbacks.{callback_after, callback_next}, Readers.{down_read_after, down_read_next, up_read_after, up_read_next}}
+use Rattle.percpu_rwsem.specs.{Writers.{down_write_after, down_write_next, up_write_after, up_write_next}, declared.phases.SemPhase.SemPhase}
+use Rattle.percpu_rwsem.specs.declared.phases.SemPhase.TheVariants.{Callback as Callbacks, DownRead as DownReads, DownWrite as DownWrites}
+use Rattle.percpu_rwsem.specs.declared.phases.SemPhase.TheVariants.{UpRead as UpReads, UpWrite as UpWrites}
 
 -- the word and the touch of the next step
 abbrev pub next : SemPhase → HookAnswer → WordName × Touch

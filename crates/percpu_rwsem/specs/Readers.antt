@@ -1,14 +1,13 @@
 -- The order of steps of a down-read and an up-read: which word a step touches and how, and what comes after it.
-use Rattle.std.specs.Prelude.{ℕ, Bool, true, false, ◌==◌, if◌then◌else◌, Option, Some, None, Ok, Err}
-use Rattle.access_model.specs.declared.actions.{Action.{Action, TheVariants.{Grant, Return}}, Gate.TheVariants.{Level}}
-use Rattle.access_model.specs.declared.{errors.GateError.TheVariants.{Again}, replies.Next.{Next, TheVariants.{Go, Wait, Done}}}
-use Rattle.access_model.specs.declared.replies.Reply.TheVariants.{Unit as UnitReply}
-use Rattle.cpu_words.specs.declared.{names.WordName.{WordName, TheVariants.{Block, Sync, LevelCount, Section}}, events.Touch.{Touch}}
-use Rattle.cpu_words.specs.declared.events.Touch.TheVariants.{Load, Add, Sub}
-use Rattle.percpu_rwsem.specs.declared.sync_word.{GpState.{GpState, TheVariants.{Idle, Enter, Passed, Exit, Replay}}, SyncWord.{SyncWord}}
-use Rattle.percpu_rwsem.specs.declared.readers.{DownRead.{DownRead}, DownReadStep.{DownReadStep}}
-use Rattle.percpu_rwsem.specs.declared.readers.DownReadStep.TheVariants.{EntersSection, LoadsSync, CountsUpFast, CountsUpSlow, LoadsBlock, CountsDown, LeavesAdmitted, LeavesBlocked}
-use Rattle.percpu_rwsem.specs.{declared.readers.UpRead.{UpRead}, SyncWords.{unpack}}
+use Rattle.access_model.specs.declared.actions.{Action.{Action, TheVariants.{Grant, Return}}, Gate.TheVariants.Level}
+use Rattle.access_model.specs.declared.{errors.GateError.TheVariants.Again, replies.Next.{Next, TheVariants.{Done, Go, Wait}}}
+use Rattle.{access_model.specs.declared.replies.Reply.TheVariants.Unit as UnitReply, cpu_words.specs.declared.events.Touch.TheVariants.{Add, Load}}
+use Rattle.cpu_words.specs.declared.{events.Touch.{TheVariants.Sub, Touch}, names.WordName.{TheVariants.{Block, LevelCount, Section, Sync}, WordName}}
+use Rattle.std.specs.Prelude.{Bool, Err, None, Ok, Option, Some, false, if◌then◌else◌, true, ℕ, ◌==◌}
+use Rattle.percpu_rwsem.specs.{SyncWords.unpack, declared.readers.{DownRead.DownRead, DownReadStep.DownReadStep}}
+use Rattle.percpu_rwsem.specs.declared.readers.DownReadStep.TheVariants.{CountsDown, CountsUpFast, CountsUpSlow, EntersSection, LeavesAdmitted}
+use Rattle.percpu_rwsem.specs.declared.readers.{DownReadStep.TheVariants.{LeavesBlocked, LoadsBlock, LoadsSync}, UpRead.UpRead}
+use Rattle.percpu_rwsem.specs.declared.sync_word.{GpState.{GpState, TheVariants.{Enter, Exit, Idle, Passed, Replay}}, SyncWord.SyncWord}
 
 -- down-read: enter a section; load the sync word, again where it is none; count up at once in GP_IDLE, else count up and ask; take the
 -- count back where the level is closed; leave the section

@@ -1,19 +1,17 @@
 -- The order of steps of a down-write and an up-write: which word a step touches and how, and what comes after it.
-use Rattle.std.specs.Prelude.{ℕ, ◌==◌, if◌then◌else◌, Option, Some, None, Ok}
-use Rattle.access_model.specs.declared.{actions.Action.{Action, TheVariants.{Pass, Reopen}}, replies.Next.{Next}}
-use Rattle.access_model.specs.declared.replies.{Next.TheVariants.{Go, Wait, Done}, Reply.TheVariants.{Unit as UnitReply}}
-use Rattle.cpu_words.specs.declared.{names.WordName.{WordName, TheVariants.{Block, Sync, LevelCount, Section}}, events.Touch.{Touch}}
-use Rattle.cpu_words.specs.declared.{events.Touch.TheVariants.{Load, Store, Swap}, sums.Taken.{Taken}}
-use Rattle.cpu_words.specs.{declared.sums.Taken.TheVariants.{More as MoreWords, Total}, Sums.{sum_taking}}
-use Rattle.percpu_rwsem.specs.declared.sync_word.{GpState.{GpState, TheVariants.{Idle, Enter, Passed, Exit, Replay}}, SyncWord.{SyncWord}}
-use Rattle.percpu_rwsem.specs.declared.grace.GraceNext.{GraceNext, TheVariants.{More as MoreSections, Wait as WaitsFor, Ended}}
-use Rattle.percpu_rwsem.specs.declared.transitions.{Transition.{Transition, TheVariants.{Loads}}, TransitionNext.{TransitionNext}}
-use Rattle.percpu_rwsem.specs.declared.{transitions.TransitionNext.TheVariants.{More, Undefined, Made}, writers.DownWrite.{DownWrite}}
-use Rattle.percpu_rwsem.specs.declared.writers.DownWriteStep.{DownWriteStep}
-use Rattle.percpu_rwsem.specs.declared.writers.DownWriteStep.TheVariants.{Enters, AwaitsSections, CallsBack, AwaitsPassed, SetsBlock, Sums}
-use Rattle.percpu_rwsem.specs.declared.writers.{UpWrite.{UpWrite}, UpWriteStep.{UpWriteStep, TheVariants.{ClearsBlock, Exits}}}
-use Rattle.percpu_rwsem.specs.{SyncWords.{unpack, is_passed, on_enter, on_exit, on_callback}, Graces.{started, looked}}
-use Rattle.percpu_rwsem.specs.Transitions.{transition_next, transition_after}
+use Rattle.access_model.specs.declared.{actions.Action.{Action, TheVariants.{Pass, Reopen}}, replies.Next.{Next, TheVariants.{Done, Go, Wait}}}
+use Rattle.{access_model.specs.declared.replies.Reply.TheVariants.Unit as UnitReply, cpu_words.specs.Sums.sum_taking}
+use Rattle.cpu_words.specs.declared.{events.Touch.{TheVariants.{Load, Store, Swap}, Touch}, names.WordName.TheVariants.{Block, LevelCount, Section}}
+use Rattle.cpu_words.specs.declared.{names.WordName.{TheVariants.Sync, WordName}, sums.Taken.{Taken, TheVariants.{More as MoreWords, Total}}}
+use Rattle.std.specs.Prelude.{None, Ok, Option, Some, if◌then◌else◌, ℕ, ◌==◌}
+use Rattle.percpu_rwsem.specs.{Graces.{looked, started}, SyncWords.{is_passed, on_callback, on_enter, on_exit, unpack}}
+use Rattle.percpu_rwsem.specs.{Transitions.{transition_after, transition_next}, declared.grace.GraceNext.GraceNext}
+use Rattle.percpu_rwsem.specs.declared.{grace.GraceNext.TheVariants.{Ended, More as MoreSections, Wait as WaitsFor}, sync_word.GpState.GpState}
+use Rattle.percpu_rwsem.specs.declared.sync_word.{GpState.TheVariants.{Enter, Exit, Idle, Passed, Replay}, SyncWord.SyncWord}
+use Rattle.percpu_rwsem.specs.declared.transitions.{Transition.{TheVariants.Loads, Transition}, TransitionNext.TheVariants.{Made, More, Undefined}}
+use Rattle.percpu_rwsem.specs.declared.{transitions.TransitionNext.TransitionNext, writers.{DownWrite.DownWrite, DownWriteStep.DownWriteStep}}
+use Rattle.percpu_rwsem.specs.declared.writers.DownWriteStep.TheVariants.{AwaitsPassed, AwaitsSections, CallsBack, Enters, SetsBlock, Sums}
+use Rattle.percpu_rwsem.specs.declared.writers.{UpWrite.UpWrite, UpWriteStep.{TheVariants.{ClearsBlock, Exits}, UpWriteStep}}
 
 -- down-write: enter the rcu_sync, and wait until readers are slow; set `block`; sum the read counts until nobody is counted
 abbrev pub down_write_next : DownWrite → DownWriteStep → WordName × Touch

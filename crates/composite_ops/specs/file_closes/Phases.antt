@@ -1,15 +1,14 @@
 -- The order of steps of a close: which word a step touches and how, and what comes after it.
-use Rattle.std.specs.Prelude.{ℕ, ◌==◌, ◌&&◌, if◌then◌else◌, Option, Some, None, Ok, Err}
-use Rattle.access_model.specs.declared.actions.{Action.{Action, TheVariants.{Return, Close as CloseAction}}, Gate.TheVariants.{Level}}
-use Rattle.access_model.specs.declared.{errors.GateError.TheVariants.{Again}, replies.Next.{Next, TheVariants.{Go, Wait, Done}}}
+use Rattle.access_model.specs.declared.actions.{Action.{Action, TheVariants.{Close as CloseAction, Return}}, Gate.TheVariants.Level}
+use Rattle.access_model.specs.declared.{errors.GateError.TheVariants.Again, replies.Next.{Next, TheVariants.{Done, Go, Wait}}}
 use Rattle.access_model.specs.declared.replies.Reply.TheVariants.{Unit as UnitReply}
-use Rattle.cpu_words.specs.declared.{names.WordName.{WordName, TheVariants.{Removed, Used, Node}}, events.Touch.{Touch}}
-use Rattle.cpu_words.specs.declared.events.Touch.TheVariants.{Load, Sub, Cas}
-use Rattle.node_words.specs.{declared.nodes.NodeWord.{NodeWord}, Nodes.{word_of, closed_node, any_file_in}, Phases.{after_look}}
-use Rattle.percpu_rwsem.specs.declared.readers.{DownRead.{DownRead}, DownReadStep.TheVariants.{EntersSection}, UpRead.{UpRead}}
-use Rattle.percpu_rwsem.specs.Readers.{down_read_next, down_read_after, up_read_next}
-use Rattle.composite_ops.specs.declared.file_closes.phases.{Closing.{Closing}, ClosePhase.{ClosePhase}}
-use Rattle.composite_ops.specs.declared.file_closes.phases.ClosePhase.TheVariants.{LoadsFile, LowersCount, Enters, FreesNode, RefundsBlocks, Uncounts, Leaves}
+use Rattle.cpu_words.specs.declared.{events.Touch.{TheVariants.{Cas, Load, Sub}, Touch}, names.WordName.{TheVariants.{Node, Removed, Used}, WordName}}
+use Rattle.node_words.specs.{Nodes.{any_file_in, closed_node, word_of}, Phases.after_look, declared.nodes.NodeWord.NodeWord}
+use Rattle.percpu_rwsem.specs.{Readers.{down_read_after, down_read_next, up_read_next}, declared.readers.DownRead.DownRead}
+use Rattle.percpu_rwsem.specs.declared.readers.{DownReadStep.TheVariants.EntersSection, UpRead.UpRead}
+use Rattle.std.specs.Prelude.{Err, None, Ok, Option, Some, if◌then◌else◌, ℕ, ◌&&◌, ◌==◌}
+use Rattle.composite_ops.specs.declared.file_closes.phases.ClosePhase.{ClosePhase, TheVariants.{Enters, FreesNode, Leaves, LoadsFile, LowersCount}}
+use Rattle.composite_ops.specs.declared.file_closes.phases.{ClosePhase.TheVariants.{RefundsBlocks, Uncounts}, Closing.Closing}
 
 -- the up-read of level 3 on a processor
 abbrev pub leaves_on : ℕ → UpRead

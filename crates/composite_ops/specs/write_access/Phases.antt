@@ -1,12 +1,11 @@
 -- The order of steps of a taking and of a return of write access: level 1 and a mount, each by the phases of its own gate.
-use Rattle.std.specs.Prelude.{ℕ, true, Option, Some, Ok, Err}
-use Rattle.access_model.specs.declared.actions.{Action.{Action, TheVariants.{Return}}, Gate.TheVariants.{Mount, Level}}
-use Rattle.access_model.specs.declared.replies.{Next.{Next, TheVariants.{Go, Wait, Done}}, Reply.TheVariants.{Unit as UnitReply}}
-use Rattle.cpu_words.specs.declared.{names.WordName.{WordName, TheVariants.{MountCount}}, events.Touch.{Touch, TheVariants.{Sub}}}
-use Rattle.mount_counts.specs.{declared.phases.{Want.{Want}, WantStep.TheVariants.{CountsUp}}, Phases.{want_next, want_after}}
-use Rattle.percpu_rwsem.specs.declared.readers.{DownRead.{DownRead}, UpRead.{UpRead}}
-use Rattle.percpu_rwsem.specs.Readers.{down_read_next, down_read_after, up_read_next}
-use Rattle.composite_ops.specs.declared.write_access.phases.WritePhase.{WritePhase, TheVariants.{Takes, Wants, GivesBack, Drops, Ends}}
+use Rattle.access_model.specs.declared.{actions.{Action.{Action, TheVariants.Return}, Gate.TheVariants.{Level, Mount}}, replies.Next.Next}
+use Rattle.access_model.specs.declared.replies.{Next.TheVariants.{Done, Go, Wait}, Reply.TheVariants.Unit as UnitReply}
+use Rattle.cpu_words.specs.declared.{events.Touch.{TheVariants.Sub, Touch}, names.WordName.{TheVariants.MountCount, WordName}}
+use Rattle.mount_counts.specs.{Phases.{want_after, want_next}, declared.phases.{Want.Want, WantStep.TheVariants.CountsUp}}
+use Rattle.percpu_rwsem.specs.{Readers.{down_read_after, down_read_next, up_read_next}, declared.readers.{DownRead.DownRead, UpRead.UpRead}}
+use Rattle.std.specs.Prelude.{Err, Ok, Option, Some, true, ℕ}
+use Rattle.composite_ops.specs.declared.write_access.phases.WritePhase.{TheVariants.{Drops, Ends, GivesBack, Takes, Wants}, WritePhase}
 
 -- the up-read of level 1 on a processor
 abbrev pub leaves_on : ℕ → UpRead

@@ -1,9 +1,8 @@
 -- What a step of one task at a gate keeps, whatever the step is: of a reader, or of a task that has the flag set.
-use Rattle.std.{proofs.Common.{◌≡◌, ℕ, ◌+◌, ◌*◌, ◌%◌, ◌<◌, ◌≤◌, sym, ap, subst, inl, inr, arith}, specs.Prelude.◌⊎◌}
-use Rattle.finite_sums.{proofs.Totals.{each_updated, total_same, total_updated, total_add, total_swap, total_at, residues}, specs.Sums.{update, total}}
+use Rattle.finite_sums.proofs.Totals.{each_updated, residues, total_add, total_at, total_same, total_swap, total_updated}
+use Rattle.{finite_sums.specs.Sums.{total, update}, std.proofs.Common.{ap, arith, inl, inr, subst, sym, ℕ, ◌%◌, ◌*◌, ◌+◌, ◌<◌, ◌≡◌, ◌≤◌, ◌⊎◌}}
 use Rattle.cpu_words.specs.Sums.{lead}
-use Rattle.cpu_words.specs.gate_counts.Gates.{Barring, Reading, bars, GateView, past, admitted, unread, counted, BarringHolds, CountsHold}
-use Rattle.cpu_words.specs.gate_counts.Gates.{GateHolds}
+use Rattle.cpu_words.specs.gate_counts.Gates.{Barring, BarringHolds, CountsHold, GateHolds, GateView, Reading, admitted, bars, counted, past, unread}
 
 pub words_sum : {tasks processors : ℕ} {count : ℕ → ℕ} {at : ℕ → GateView} → CountsHold tasks processors count at →
     total processors count % 18446744073709551616 ≡ total tasks (λ t. counted (at t)) % 18446744073709551616

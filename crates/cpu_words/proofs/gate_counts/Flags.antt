@@ -1,10 +1,9 @@
 -- Each step of a task that bars a gate keeps what holds there: it sets the flag, reads the words, shuts what may be shut, clears the flag.
-use Rattle.std.proofs.lemmas.Grind.{common_steps}
-use Rattle.std.proofs.Common.{◌≡◌, ℕ, suc, ◌+◌, ◌*◌, ◌%◌, ◌<◌, ◌≤◌, ap, subst, arith}
-use Rattle.finite_sums.{proofs.Totals.{total_le, total_bound, total_add, total_at, total_none, total_zero}, specs.Sums.{update, total}}
-use Rattle.cpu_words.specs.{Sums.ahead, Touches.wrap_add}
-use Rattle.cpu_words.specs.gate_counts.Gates.{Barring, Apart, Reading, ReadZero, bars, GateView, past, admitted, unread, counted, BarringHolds, GateHolds}
-use Rattle.cpu_words.proofs.gate_counts.{Events.{words_sum, flag_event}, Numbers.{below_le, below_step, below_first, ahead_none, ahead_past, ahead_step}}
+use Rattle.finite_sums.{proofs.Totals.{total_add, total_at, total_bound, total_le, total_none, total_zero}, specs.Sums.{total, update}}
+use Rattle.std.proofs.{Common.{ap, arith, subst, suc, ℕ, ◌%◌, ◌*◌, ◌+◌, ◌<◌, ◌≡◌, ◌≤◌}, lemmas.Grind.common_steps}
+use Rattle.cpu_words.proofs.gate_counts.{Events.{flag_event, words_sum}, Numbers.{ahead_none, ahead_past, ahead_step, below_first, below_le}}
+use Rattle.cpu_words.{proofs.gate_counts.Numbers.below_step, specs.{Sums.ahead, Touches.wrap_add, gate_counts.Gates.{Apart, Barring, BarringHolds}}}
+use Rattle.cpu_words.specs.gate_counts.Gates.{GateHolds, GateView, ReadZero, Reading, admitted, bars, counted, past, unread}
 
 module _ {tasks processors bit unowned : ℕ} {shut : ℕ → Type 0} {count : ℕ → ℕ} {at : ℕ → GateView}
     (good : GateHolds tasks processors bit unowned shut count at) where

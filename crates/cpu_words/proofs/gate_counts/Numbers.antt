@@ -1,9 +1,8 @@
 -- The 0/1 numbers of a gate's view, and the words ahead of a sum.
-use Rattle.std.proofs.lemmas.Grind.{common_steps}
-use Rattle.std.proofs.{Common.{◌≡◌, ℕ, zero, suc, ◌+◌, ◌<◌, ◌≤◌, refl, ap, inl, inr, arith}, lemmas.Bool.{le-leb, lt-leb, Decides.eqb_tells}}
-use Rattle.std.specs.Prelude.{nat_le, if◌then◌else◌, ◌⊎◌}
-use Rattle.finite_sums.{proofs.Totals.{total_same, total_changed_by, total_none}, specs.Sums.{update, total}}
-use Rattle.cpu_words.specs.{Sums.{ahead, lead}, Touches.{wrap_add, wrap_sub}, gate_counts.Gates.{below}}
+use Rattle.finite_sums.{proofs.Totals.{total_changed_by, total_none, total_same}, specs.Sums.{total, update}}
+use Rattle.std.proofs.Common.{ap, arith, if◌then◌else◌, inl, inr, nat_le, refl, suc, zero, ℕ, ◌+◌, ◌<◌, ◌≡◌, ◌≤◌, ◌⊎◌}
+use Rattle.std.proofs.lemmas.{Bool.{Decides.eqb_tells, le-leb, lt-leb}, Grind.common_steps}
+use Rattle.cpu_words.specs.{Sums.{ahead, lead}, Touches.{wrap_add, wrap_sub}, gate_counts.Gates.below}
 
 -- what the number of `below` tells
 pub below_tells : (i n : ℕ) → ((below i n ≡ 1) × (i < n)) ⊎ ((below i n ≡ 0) × (n ≤ i))

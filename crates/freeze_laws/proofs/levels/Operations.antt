@@ -1,22 +1,20 @@
 -- each step of an operation at a level is one of the level
-use Rattle.std.{proofs.{Common.{ap, arith, refl, sym, true, ℕ, ◌+◌, ◌<◌, ◌∙◌, ◌≡◌}, lemmas.{Bool.eq-eqb, Grind.common_steps}}, specs.Prelude.Option}
-use Rattle.std.specs.Prelude.{Some, ◌==◌}
-use Rattle.finite_sums.{proofs.Totals.update_same, specs.Sums.{total, update}}
-use Rattle.cpu_words.specs.{Sums.sum_taking, Touches.left, declared.sums.Taken.Taken}
-use Rattle.percpu_rwsem.specs.{Callbacks.{callback_looked, called_back, claimed as claim_made}, Graces.looked, SyncWords.{on_callback, on_claim}}
-use Rattle.percpu_rwsem.specs.{SyncWords.{on_enter, on_exit, unpack}, Transitions.{transition_after, transition_next}, Writers.callback_step}
-use Rattle.percpu_rwsem.specs.Writers.{down_write_summed, enter_step, entered_from, exit_made, passed_awaited, sections_awaited}
+use Rattle.{cpu_words.specs.{Sums.sum_taking, Touches.left, declared.sums.Taken.Taken}, finite_sums.{proofs.Totals.update_same, specs.Sums.total}}
+use Rattle.{finite_sums.specs.Sums.update, percpu_rwsem.specs.{Callbacks.{callback_looked, called_back, claimed as claim_made}, Graces.looked}}
+use Rattle.percpu_rwsem.specs.{SyncWords.{on_callback, on_claim, on_enter, on_exit, unpack}, Transitions.{transition_after, transition_next}}
+use Rattle.percpu_rwsem.specs.Writers.{callback_step, down_write_summed, enter_step, entered_from, exit_made, passed_awaited, sections_awaited}
 use Rattle.percpu_rwsem.specs.declared.{callbacks.{Callback.Callback, CallbackStep.CallbackStep}, grace.GraceNext.GraceNext}
 use Rattle.percpu_rwsem.specs.declared.{sync_word.{GpState.GpState, SyncWord.SyncWord}, transitions.Transition.Transition}
 use Rattle.percpu_rwsem.specs.declared.{transitions.TransitionNext.TransitionNext, writers.{DownWrite.DownWrite, DownWriteStep.DownWriteStep}}
 use Rattle.percpu_rwsem.specs.declared.writers.{UpWrite.UpWrite, UpWriteStep.UpWriteStep}
-use Rattle.freeze_laws.{proofs.levels.{EventLaws.swap_keeps, Exchanges.exchanges_make_transitions}, specs.levels.Changes.{claims, role_entered}}
-use Rattle.freeze_laws.specs.levels.{Changes.{role_found, state_found, transition, waits}, Events.{Calls, Claims, Enters, Exits, Happens, Looks}}
-use Rattle.freeze_laws.specs.levels.Events.{LooksClaimed, Opens, Passes, Stays, Swaps, SyncEvent, SyncLevel, SyncLevelHolds, SyncStep}
-use Rattle.freeze_laws.specs.levels.{Exchanges.{KnowsWords, MakesTransition}, Operations.{CallbackIsThere, CallbacksAreThere, DownWriteIsThere}}
-use Rattle.freeze_laws.specs.levels.Operations.{DownWritesAreThere, HoldsOfNext, KnowsCallback, KnowsDownWrite, KnowsUpWrite, UpWriteIsThere}
-use Rattle.freeze_laws.specs.levels.{Operations.{UpWritesAreThere, by_next, callback_role, down_write_role, up_write_role}, Roles.{Closed, Entered}}
-use Rattle.freeze_laws.specs.levels.Roles.{Out, Past, Ready, SyncRole, entered}
+use Rattle.std.proofs.{Common.{Option, Some, ap, arith, refl, sym, true, ℕ, ◌+◌, ◌<◌, ◌==◌, ◌∙◌, ◌≡◌}, lemmas.{Bool.eq-eqb, Grind.common_steps}}
+use Rattle.freeze_laws.proofs.levels.{EventLaws.swap_keeps, Exchanges.exchanges_make_transitions}
+use Rattle.freeze_laws.specs.levels.Changes.{claims, role_entered, role_found, state_found, transition, waits}
+use Rattle.freeze_laws.specs.levels.Events.{Calls, Claims, Enters, Exits, Happens, Looks, LooksClaimed, Opens, Passes, Stays, Swaps, SyncEvent}
+use Rattle.freeze_laws.specs.levels.{Events.{SyncLevel, SyncLevelHolds, SyncStep}, Exchanges.{KnowsWords, MakesTransition}}
+use Rattle.freeze_laws.specs.levels.Operations.{CallbackIsThere, CallbacksAreThere, DownWriteIsThere, DownWritesAreThere, HoldsOfNext, KnowsCallback}
+use Rattle.freeze_laws.specs.levels.Operations.{KnowsDownWrite, KnowsUpWrite, UpWriteIsThere, UpWritesAreThere, by_next, callback_role}
+use Rattle.freeze_laws.specs.levels.{Operations.{down_write_role, up_write_role}, Roles.{Closed, Entered, Out, Past, Ready, SyncRole, entered}}
 
 role_from : (tasks : ℕ) (s : GpState) → down_write_role (entered_from tasks s) ≡ role_entered tasks s
 role_from tasks s = grind arith

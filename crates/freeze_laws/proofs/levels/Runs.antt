@@ -1,12 +1,10 @@
 -- each step of a level keeps what is right of it
-use Rattle.std.{proofs.Common.{arith, subst, suc, sym, zero, ℕ, ◌-◌, ◌<◌, ◌≡◌, ◌≤◌}, specs.Prelude.Option}
-use Rattle.finite_sums.specs.Sums.{update}
-use Rattle.cpu_words.specs.Touches.{wrap_add}
-use Rattle.percpu_rwsem.specs.{Graces.{looked, started}, declared.sync_word.GpState.GpState}
-use Rattle.freeze_laws.specs.levels.{Changes.{claims, role_found, state_found, waits}, Events.{AddsFast, Calls, Claims, Enters, Exits, FindsIdle}}
-use Rattle.freeze_laws.specs.levels.Events.{Freezes, Happens, Looks, LooksClaimed, Opens, Passes, Stays, Swaps, SyncEvent, SyncLevel, SyncLevelHolds}
-use Rattle.freeze_laws.specs.levels.{Events.{SyncRun, SyncStep, Thaws, TurnsSection}, Roles.{Claimed, Closed, Entered, Fast, Out, SyncHolds}}
-use Rattle.freeze_laws.specs.levels.Roles.{SyncNumberHolds, SyncRole, fast}
+use Rattle.{cpu_words.specs.Touches.wrap_add, finite_sums.specs.Sums.update, percpu_rwsem.specs.Graces.{looked, started}}
+use Rattle.{percpu_rwsem.specs.declared.sync_word.GpState.GpState, std.proofs.Common.{Option, arith, subst, suc, sym, zero, ℕ, ◌-◌, ◌<◌, ◌≡◌, ◌≤◌}}
+use Rattle.freeze_laws.specs.levels.Changes.{claims, role_found, state_found, waits}
+use Rattle.freeze_laws.specs.levels.Events.{AddsFast, Calls, Claims, Enters, Exits, FindsIdle, Freezes, Happens, Looks, LooksClaimed, Opens, Passes}
+use Rattle.freeze_laws.specs.levels.Events.{Stays, Swaps, SyncEvent, SyncLevel, SyncLevelHolds, SyncRun, SyncStep, Thaws, TurnsSection}
+use Rattle.freeze_laws.specs.levels.Roles.{Claimed, Closed, Entered, Fast, Out, SyncHolds, SyncNumberHolds, SyncRole, fast}
 use Rattle.freeze_laws.proofs.levels.EventLaws
 use Rattle.freeze_laws.proofs.levels.NumberLaws
 

@@ -1,11 +1,10 @@
 -- Each step keeps what holds of the stage and of the marks.
-use Rattle.std.{proofs.Common.{arith, false, refl, subst, suc, sym, true, ℕ, ◌+◌, ◌<◌, ◌≡◌, ◌≤◌}, specs.Prelude.{None, Some}}
-use Rattle.finite_sums.specs.Sums.{total, update}
+use Rattle.{finite_sums.specs.Sums.{total, update}, std.proofs.Common.{None, Some, arith, false, refl, subst, suc, sym, true, ℕ, ◌+◌, ◌<◌, ◌≡◌, ◌≤◌}}
 use Rattle.freeze_laws.proofs.stages.{MarkLaws.{cleared_anew, marked, washed}, StageLaws.{advances, begins, clears_block, clears_remount, completes}}
 use Rattle.freeze_laws.proofs.stages.StageLaws.{fails, freezes_at_once, gives_up, releases_open, relied_on, sets_block, sets_read_only, sets_remount}
-use Rattle.freeze_laws.{proofs.stages.StageLaws.{sets_writable, thaws, thaws_at_once, turns, turns_block, unblocks}, specs.stages.Events.Advances}
-use Rattle.freeze_laws.specs.stages.Events.{Begins, CancelsRemount, ClearsBlock, ClearsMark, ClearsMarkReadOnly, ClearsRemount, Completes, Fails}
-use Rattle.freeze_laws.specs.stages.Events.{FreezesAtOnce, GivesUp, Happens, Holds, HoldsOne, LeavesOne, LetsGo, LoadsSb, LoadsStage, Locks}
+use Rattle.freeze_laws.proofs.stages.StageLaws.{sets_writable, thaws, thaws_at_once, turns, turns_block, unblocks}
+use Rattle.freeze_laws.specs.stages.Events.{Advances, Begins, CancelsRemount, ClearsBlock, ClearsMark, ClearsMarkReadOnly, ClearsRemount, Completes}
+use Rattle.freeze_laws.specs.stages.Events.{Fails, FreezesAtOnce, GivesUp, Happens, Holds, HoldsOne, LeavesOne, LetsGo, LoadsSb, LoadsStage, Locks}
 use Rattle.freeze_laws.specs.stages.Events.{LocksAgain, MarksNode, Passes, Recalls, Releases, ReleasesOpen, SetsBlock, SetsReadOnly, SetsRemount}
 use Rattle.freeze_laws.specs.stages.Events.{SetsWritable, StageEvent, Stages, Stays, Syncs, Thaws, ThawsAtOnce, Unblocks, WashesNode, playing}
 use Rattle.freeze_laws.specs.stages.Roles.{Aside, Before, CleanBelow, Closing, Freezing, HasPassed, KnowsStage, MarksHold, Owning, Remounting}

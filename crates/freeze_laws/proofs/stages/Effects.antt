@@ -1,18 +1,16 @@
 -- The effect of each step's action shows the stage after it, and a step without one leaves the stage that was shown.
-use Rattle.std.{proofs.Common.{ap, arith, false, refl, subst, suc, sym, true, zero, ℕ, ◌*◌, ◌+◌, ◌<◌, ◌∙◌, ◌≡◌}, specs.Prelude.{None, Some, ◌==◌}}
-use Rattle.std.specs.Prelude.{◌||◌}
-use Rattle.finite_sums.specs.Sums.{update}
-use Rattle.access_model.specs.{States.State, declared.actions.Action.Action}
-use Rattle.freeze_laws.proofs.stages.{Changes.passed_moves, EachEvent.after_kind, Facts.full_is, Positions.passed_own, StageLaws.{advances, begins}}
-use Rattle.freeze_laws.proofs.stages.StageLaws.{clears_block, clears_remount, completes, fails, freeze_bound, freezes_at_once, gives_up, own_remount}
-use Rattle.freeze_laws.proofs.stages.StageLaws.{relied_on, sets_block, sets_read_only, sets_remount, sets_writable, thaws, thaws_at_once, turns_block}
-use Rattle.freeze_laws.{proofs.stages.StageLaws.{unblocks, ways}, specs.stages.Events.{Advances, Begins, CancelsRemount, ClearsBlock, ClearsMark}}
-use Rattle.freeze_laws.specs.stages.Events.{ClearsMarkReadOnly, ClearsRemount, Completes, Fails, FreezesAtOnce, GivesUp, Happens, Holds, HoldsOne}
-use Rattle.freeze_laws.specs.stages.Events.{LeavesOne, LetsGo, LoadsSb, LoadsStage, Locks, LocksAgain, MarksNode, Passes, Recalls, Releases}
-use Rattle.freeze_laws.specs.stages.Events.{ReleasesOpen, SetsBlock, SetsReadOnly, SetsRemount, SetsWritable, StageEvent, Stages, Stays, Syncs, Thaws}
-use Rattle.freeze_laws.specs.stages.{Events.{ThawsAtOnce, Unblocks, WashesNode, action_of, cleaned, playing}, Roles.{Aside, Before, Closing}}
-use Rattle.freeze_laws.specs.stages.Roles.{Freezing, HasPassed, KnowsStage, Owning, Remounting, Reopening, StageRole, StagesHold, has_position}
-use Rattle.freeze_laws.specs.stages.{Roles.{is_full, passed_by}, Shown.{ShowsStages, state_after}}
+use Rattle.{access_model.specs.{States.State, declared.actions.Action.Action}, finite_sums.specs.Sums.update}
+use Rattle.std.proofs.Common.{None, Some, ap, arith, false, refl, subst, suc, sym, true, zero, ℕ, ◌*◌, ◌+◌, ◌<◌, ◌==◌, ◌||◌, ◌∙◌, ◌≡◌}
+use Rattle.freeze_laws.proofs.stages.{Changes.passed_moves, EachEvent.after_kind, Facts.full_is, Positions.passed_own}
+use Rattle.freeze_laws.proofs.stages.StageLaws.{advances, begins, clears_block, clears_remount, completes, fails, freeze_bound, freezes_at_once}
+use Rattle.freeze_laws.proofs.stages.StageLaws.{gives_up, own_remount, relied_on, sets_block, sets_read_only, sets_remount, sets_writable, thaws}
+use Rattle.freeze_laws.{proofs.stages.StageLaws.{thaws_at_once, turns_block, unblocks, ways}, specs.stages.Events.{Advances, Begins, CancelsRemount}}
+use Rattle.freeze_laws.specs.stages.Events.{ClearsBlock, ClearsMark, ClearsMarkReadOnly, ClearsRemount, Completes, Fails, FreezesAtOnce, GivesUp}
+use Rattle.freeze_laws.specs.stages.Events.{Happens, Holds, HoldsOne, LeavesOne, LetsGo, LoadsSb, LoadsStage, Locks, LocksAgain, MarksNode, Passes}
+use Rattle.freeze_laws.specs.stages.Events.{Recalls, Releases, ReleasesOpen, SetsBlock, SetsReadOnly, SetsRemount, SetsWritable, StageEvent, Stages}
+use Rattle.freeze_laws.specs.stages.Events.{Stays, Syncs, Thaws, ThawsAtOnce, Unblocks, WashesNode, action_of, cleaned, playing}
+use Rattle.freeze_laws.specs.stages.Roles.{Aside, Before, Closing, Freezing, HasPassed, KnowsStage, Owning, Remounting, Reopening, StageRole}
+use Rattle.freeze_laws.specs.stages.{Roles.{StagesHold, has_position, is_full, passed_by}, Shown.{ShowsStages, state_after}}
 
 -- a state shows a moment
 abbrev pub ShowsAt : ℕ → Stages → State → Type 0

@@ -1,11 +1,10 @@
 -- Each step that changes a role keeps what holds of the stage.
-use Rattle.std.{proofs.Common.{Bool, ap, arith, inl, inr, refl, subst, suc, sym, true, ℕ, ◌%◌, ◌+◌, ◌-◌, ◌/◌, ◌<◌, ◌∙◌, ◌≡◌, ◌≤◌}, specs.Prelude.None}
-use Rattle.std.specs.Prelude.{Option, Some}
 use Rattle.finite_sums.{proofs.Totals.{each_updated, total_at}, specs.Sums.{total, update}}
+use Rattle.std.proofs.Common.{Bool, None, Option, Some, ap, arith, inl, inr, refl, subst, suc, sym, true, ℕ, ◌%◌, ◌+◌, ◌-◌, ◌/◌, ◌<◌, ◌∙◌, ◌≡◌, ◌≤◌}
 use Rattle.freeze_laws.proofs.stages.{Changes.{any_event, others_know}, Facts.{full_is, up_to_below, up_to_le, up_to_next, up_to_off, way_is}}
-use Rattle.freeze_laws.{proofs.stages.Positions.{block_at, remount_own, way}, specs.stages.{Events.{SameDuties, Stages, playing}, Roles.Aside}}
-use Rattle.freeze_laws.specs.stages.Roles.{Before, Closing, Freezing, HasPassed, KnowsStage, Owning, Remounting, Reopening, StageRole, StagesHold}
-use Rattle.freeze_laws.specs.stages.Roles.{closed_by, closes, freezes, has_position, is_full, owns, remounts, under_way, up_to}
+use Rattle.freeze_laws.{proofs.stages.Positions.{block_at, remount_own, way}, specs.stages.Events.{SameDuties, Stages, playing}}
+use Rattle.freeze_laws.specs.stages.Roles.{Aside, Before, Closing, Freezing, HasPassed, KnowsStage, Owning, Remounting, Reopening, StageRole}
+use Rattle.freeze_laws.specs.stages.Roles.{StagesHold, closed_by, closes, freezes, has_position, is_full, owns, remounts, under_way, up_to}
 
 module _ (tasks : ℕ) (x : Stages) (good : StagesHold tasks x.stage x.sb x.remount x.block x.at) (t : ℕ) (lt : t < tasks) where
   -- the stage holds at a moment

@@ -1,9 +1,7 @@
 -- What a step at a level leaves: the number that a transition puts, and the role that its task has.
-use Rattle.std.specs.Prelude.{ℕ, Option, Some, None}
-use Rattle.percpu_rwsem.specs.{Graces.started, SyncWords.{pack, unpack}}
-use Rattle.percpu_rwsem.specs.declared.grace.GraceNext.{GraceNext, TheVariants.{More, Wait, Ended}}
-use Rattle.percpu_rwsem.specs.declared.sync_word.{GpState.{GpState, TheVariants.Idle}, SyncWord.SyncWord}
-use Rattle.freeze_laws.specs.levels.Roles.{SyncRole, Out, Waiting, Past, Entered, Claimed, Ready}
+use Rattle.percpu_rwsem.specs.{Graces.started, SyncWords.{pack, unpack}, declared.grace.GraceNext.{GraceNext, TheVariants.{Ended, More, Wait}}}
+use Rattle.{percpu_rwsem.specs.declared.sync_word.{GpState.{GpState, TheVariants.Idle}, SyncWord.SyncWord}, std.specs.Prelude.{None, Option, Some, ℕ}}
+use Rattle.freeze_laws.specs.levels.Roles.{Claimed, Entered, Out, Past, Ready, SyncRole, Waiting}
 
 -- the transition is defined, and P holds of what it leaves
 abbrev pub Leaves : Option SyncWord → (SyncWord → Type 0) → Type 0

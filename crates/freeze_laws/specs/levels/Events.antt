@@ -1,11 +1,9 @@
 -- One level from step to step, and runs of it.
-use Rattle.std.specs.Prelude.{◌≡◌, ℕ, suc, ◌+◌, ◌-◌, ◌<◌, Some}
-use Rattle.finite_sums.specs.Sums.{update, total}
-use Rattle.cpu_words.specs.Touches.{wrap_add}
-use Rattle.percpu_rwsem.specs.{Graces.{started, looked}, SyncWords.{on_enter, on_exit, on_claim, on_callback}}
-use Rattle.percpu_rwsem.specs.declared.{grace.Grace.Grace, sync_word.GpState.TheVariants.Idle}
-use Rattle.freeze_laws.specs.levels.Changes.{role_found, state_found, transition, waits, claims}
-use Rattle.freeze_laws.specs.levels.Roles.{SyncRole, Out, Fast, Waiting, Past, Entered, Closed, Claimed, Ready, fast, entered, SyncNumberHolds, SectionsHold}
+use Rattle.{cpu_words.specs.Touches.wrap_add, finite_sums.specs.Sums.{total, update}, percpu_rwsem.specs.Graces.{looked, started}}
+use Rattle.percpu_rwsem.specs.{SyncWords.{on_callback, on_claim, on_enter, on_exit}, declared.{grace.Grace.Grace, sync_word.GpState.TheVariants.Idle}}
+use Rattle.std.specs.Prelude.{Some, suc, ℕ, ◌+◌, ◌-◌, ◌<◌, ◌≡◌}
+use Rattle.freeze_laws.specs.levels.{Changes.{claims, role_found, state_found, transition, waits}, Roles.{Claimed, Closed, Entered, Fast, Out, Past}}
+use Rattle.freeze_laws.specs.levels.Roles.{Ready, SectionsHold, SyncNumberHolds, SyncRole, Waiting, entered, fast}
 
 -- One level at one moment: its sync word and block, 1 while it is frozen, the section word of each task, 1 for each task inside a section,
 -- and the roles.

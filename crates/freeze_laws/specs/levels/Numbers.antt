@@ -1,8 +1,7 @@
 -- The transitions of a sync word as the number that it is in memory.
-use Rattle.std.specs.Prelude.{◌≡◌, ℕ, ◌+◌, ◌<◌, Option, Some}
-use Rattle.finite_sums.specs.Sums.{total}
-use Rattle.percpu_rwsem.specs.{SyncWords.{on_enter, on_exit, on_callback}, declared.sync_word.SyncWord.SyncWord}
-use Rattle.freeze_laws.specs.levels.{Changes.transition, Roles.{SyncRole, Past, Entered, Ready, entered, SyncNumberHolds}}
+use Rattle.{finite_sums.specs.Sums.total, percpu_rwsem.specs.{SyncWords.{on_callback, on_enter, on_exit}, declared.sync_word.SyncWord.SyncWord}}
+use Rattle.std.specs.Prelude.{Option, Some, ℕ, ◌+◌, ◌<◌, ◌≡◌}
+use Rattle.freeze_laws.specs.levels.{Changes.transition, Roles.{Entered, Past, Ready, SyncNumberHolds, SyncRole, entered}}
 
 -- the transition that a loaded word asks for is defined
 abbrev pub CanGoOn : (SyncWord → Option SyncWord) → ℕ → Type 0

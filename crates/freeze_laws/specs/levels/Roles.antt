@@ -1,8 +1,7 @@
 -- One level without its counts: its sync word, its block and the sections, and what each task is doing there.
-use Rattle.std.specs.Prelude.{◌≡◌, ℕ, ◌+◌, ◌%◌, ◌<◌, ◌≤◌, true, Option, Some, None}
-use Rattle.finite_sums.specs.Sums.{total}
-use Rattle.percpu_rwsem.specs.SyncWords.{bit, is_lawful, unpack}
-use Rattle.percpu_rwsem.specs.declared.{grace.Grace.Grace, sync_word.{GpState.{GpState, TheVariants.{Idle, Enter}}, SyncWord.SyncWord}}
+use Rattle.{finite_sums.specs.Sums.total, percpu_rwsem.specs.{SyncWords.{bit, is_lawful, unpack}, declared.grace.Grace.Grace}}
+use Rattle.percpu_rwsem.specs.declared.sync_word.{GpState.{GpState, TheVariants.{Enter, Idle}}, SyncWord.SyncWord}
+use Rattle.std.specs.Prelude.{None, Option, Some, true, ℕ, ◌%◌, ◌+◌, ◌<◌, ◌≡◌, ◌≤◌}
 
 -- What a task is doing at one level, as far as its rcu_sync goes. A writer is a freeze or a thaw; one that has not entered is out.
 pub data SyncRole : Type 0 where

@@ -1,11 +1,10 @@
 -- The stage from step to step.
-use Rattle.std.specs.Prelude.{◌≡◌, ℕ, zero, suc, ◌-◌, ◌<◌, ◌≤◌, Bool, true, false, Option, Some, None}
-use Rattle.finite_sums.specs.Sums.{update, total}
-use Rattle.access_model.specs.States.{Limits, State}
-use Rattle.access_model.specs.declared.actions.{Action.{Action, TheVariants.{SbRo, SbRw, Stage, Hold, Leave, Pass, Reopen, Clean}}, Holder.Holder}
-use Rattle.freeze_laws.specs.stages.Roles.{Place, Before, Closing, HasPassed, StageRole, Aside, Owning, Remounting, Freezing, Reopening, owns, freezes, remounts}
-use Rattle.freeze_laws.specs.stages.Roles.{closed_by, passed_by, clean_by, KnowsStage, StagesHold, CleanBelow, MarksHold}
-use Rattle.freeze_laws.specs.stages.Shown.{passed_shown, ShowsStages, ShowsMarks}
+use Rattle.access_model.specs.{States.{Limits, State}, declared.actions.Action.Action}
+use Rattle.access_model.specs.declared.actions.{Action.TheVariants.{Clean, Hold, Leave, Pass, Reopen, SbRo, SbRw, Stage}, Holder.Holder}
+use Rattle.{finite_sums.specs.Sums.{total, update}, std.specs.Prelude.{Bool, None, Option, Some, false, suc, true, zero, ℕ, ◌-◌, ◌<◌, ◌≡◌, ◌≤◌}}
+use Rattle.freeze_laws.specs.stages.Roles.{Aside, Before, CleanBelow, Closing, Freezing, HasPassed, KnowsStage, MarksHold, Owning, Place, Remounting}
+use Rattle.freeze_laws.specs.stages.Roles.{Reopening, StageRole, StagesHold, clean_by, closed_by, freezes, owns, passed_by, remounts}
+use Rattle.freeze_laws.specs.stages.Shown.{ShowsMarks, ShowsStages, passed_shown}
 
 -- One moment: the stage, the superblock's flag and `remount`, the block of each level, the mark of each node, and the roles.
 pub record Stages : Type 0 where

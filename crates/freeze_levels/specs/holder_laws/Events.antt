@@ -1,9 +1,7 @@
 -- The holders from step to step.
-use Rattle.std.specs.Prelude.{◌≡◌, ℕ, true, false}
-use Rattle.finite_sums.specs.Sums.{update, total}
-use Rattle.access_model.specs.{declared.actions.{Holder.{Holder}, Holders.{Holders}}, Holders.{nobody, with_holder, is_unheld}}
-use Rattle.freeze_levels.specs.Holders.{word_of, holders_in}
-use Rattle.freeze_levels.specs.holder_laws.Roles.{HolderRole, Apart, Found, Fills, Empties, HoldersHold, minds}
+use Rattle.access_model.specs.{Holders.{is_unheld, nobody, with_holder}, declared.actions.{Holder.Holder, Holders.Holders}}
+use Rattle.{finite_sums.specs.Sums.{total, update}, std.specs.Prelude.{false, true, ℕ, ◌≡◌}}
+use Rattle.freeze_levels.specs.{Holders.{holders_in, word_of}, holder_laws.Roles.{Apart, Empties, Fills, Found, HolderRole, HoldersHold, minds}}
 
 -- One moment: the stage, the word of the holders, and the roles.
 pub record HolderMoment : Type 0 where

@@ -1,16 +1,15 @@
 -- Each step of the mounts keeps what holds at its mount.
-use Rattle.std.proofs.{Common.{◌≡◌, ℕ, zero, suc, ◌+◌, ◌<◌, ◌≤◌, refl, sym, ap, ◌∙◌, subst, inl, inr, arith}, lemmas.Bool.Decides.eqb_tells}
-use Rattle.std.specs.Prelude.{◌⊎◌, bit_or}
-use Rattle.finite_sums.{proofs.Totals.{each_updated, total_at, total_none, update_map}, specs.Sums.{update, total}}
-use Rattle.cpu_words.specs.{Touches.{wrap_add, wrap_sub}, gate_counts.Gates.{Barring, Apart, bars, below, past, GateHolds}}
-use Rattle.cpu_words.proofs.gate_counts.{Events.flag_event, Flags.{nobody, none_held, none_admitted, MaySay, shuts, sum_begins, sum_goes, sum_ends}}
-use Rattle.cpu_words.proofs.gate_counts.Readers.{adds as gate_adds, is_admitted, goes_on, is_granted as gate_grants, is_refused as gate_refuses}
-use Rattle.cpu_words.proofs.gate_counts.Readers.{backs_off as gate_backs_off, returns as gate_returns}
-use Rattle.mount_counts.specs.Roles.{Role, Out, Asking, Cleared, PastRemount, PastFlags, BackingOff, Summing, Empty, Leaving, Skipped, MountView, questions_of}
-use Rattle.mount_counts.specs.Roles.{processor_of, barring_of, skips, mount_as_gate, passed_hold, past_remount, past_flags, sought, has_hold, admitted, ro_bit}
-use Rattle.mount_counts.specs.Roles.{hold_bit, mount_shut, MountHolds}
-use Rattle.mount_counts.proofs.laws.Bits.{or_hold, or_read_only, without_hold, and_not_hold, without_read_only, and_not_read_only, IsWithHold, IsWithReadOnly}
-use Rattle.mount_counts.proofs.laws.Bits.{IsWithoutHold, IsWithoutReadOnly}
+use Rattle.cpu_words.proofs.gate_counts.{Events.flag_event, Flags.{MaySay, nobody, none_admitted, none_held, shuts, sum_begins, sum_ends, sum_goes}}
+use Rattle.cpu_words.proofs.gate_counts.Readers.{adds as gate_adds, backs_off as gate_backs_off, goes_on, is_admitted, is_granted as gate_grants}
+use Rattle.cpu_words.{proofs.gate_counts.Readers.{is_refused as gate_refuses, returns as gate_returns}, specs.Touches.{wrap_add, wrap_sub}}
+use Rattle.cpu_words.specs.gate_counts.Gates.{Apart, Barring, GateHolds, bars, below, past}
+use Rattle.{finite_sums.{proofs.Totals.{each_updated, total_at, total_none, update_map}, specs.Sums.{total, update}}, std.proofs.Common.{ap, arith}}
+use Rattle.std.proofs.{Common.{bit_or, inl, inr, refl, subst, suc, sym, zero, ℕ, ◌+◌, ◌<◌, ◌∙◌, ◌≡◌, ◌≤◌, ◌⊎◌}, lemmas.Bool.Decides.eqb_tells}
+use Rattle.mount_counts.proofs.laws.Bits.{IsWithHold, IsWithReadOnly, IsWithoutHold, IsWithoutReadOnly, and_not_hold, and_not_read_only, or_hold}
+use Rattle.mount_counts.proofs.laws.Bits.{or_read_only, without_hold, without_read_only}
+use Rattle.mount_counts.specs.Roles.{Asking, BackingOff, Cleared, Empty, Leaving, MountHolds, MountView, Out, PastFlags, PastRemount, Role, Skipped}
+use Rattle.mount_counts.specs.Roles.{Summing, admitted, barring_of, has_hold, hold_bit, mount_as_gate, mount_shut, passed_hold, past_flags}
+use Rattle.mount_counts.specs.Roles.{past_remount, processor_of, questions_of, ro_bit, skips, sought}
 
 apart : (b : Barring) → bars b ≡ 0 → b ≡ Apart
 apart Apart h = refl

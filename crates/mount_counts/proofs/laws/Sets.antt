@@ -1,10 +1,9 @@
 -- Sets of mounts: what a set has after a mount joins it, and after its lowest leaves it.
-use Rattle.std.proofs.Common.{◌≡◌, ◌≢◌, ℕ, ◌%◌, ◌*◌, ◌^◌, ◌<◌, ◌≤◌, true, false, refl, sym, ap, ◌∙◌, arith, inl, inr}
-use Rattle.std.proofs.lemmas.{Bool.{eq-eqb, cases_Bool, ltb-true, ltb-false}, Nat.{or_lt, and_le_l}}
-use Rattle.std.proofs.lemmas.Nat.Bits.{bit_at-zero, bit_at_above, bit_at_set_same, bit_at_set_other, bit_at_clear_same, bit_at_clear_other}
-use Rattle.std.proofs.lemmas.Nat.Bits.{bit_at-trailing_zeros}
-use Rattle.std.specs.{Int.{bit_at, bit_not, w8}, Prelude.{◌==◌, nat_lt, bit_or, bit_and}}
-use Rattle.mount_counts.specs.{Sets.{has_mount, one_mount, with_mount, lowest, without_lowest}, declared.sets.MountSet.MountSet}
+use Rattle.std.proofs.Common.{ap, arith, bit_and, bit_or, false, inl, inr, nat_lt, refl, sym, true, ℕ, ◌%◌, ◌*◌, ◌<◌, ◌==◌, ◌^◌, ◌∙◌, ◌≡◌, ◌≢◌, ◌≤◌}
+use Rattle.std.proofs.lemmas.{Bool.{cases_Bool, eq-eqb, ltb-false, ltb-true}, Nat.Bits.{bit_at-trailing_zeros, bit_at-zero, bit_at_above}}
+use Rattle.std.proofs.lemmas.Nat.{Bits.{bit_at_clear_other, bit_at_clear_same, bit_at_set_other, bit_at_set_same}, and_le_l, or_lt}
+use Rattle.std.specs.Int.{bit_at, bit_not, w8}
+use Rattle.mount_counts.specs.{Sets.{has_mount, lowest, one_mount, with_mount, without_lowest}, declared.sets.MountSet.MountSet}
 
 pub none_held : (held : MountSet) → held.bits ≡ 0 → (n : ℕ) → has_mount held n ≡ false
 none_held held e n = ap (λ b. bit_at b n == 1) e ∙ (let z : bit_at 0 n ≡ 0 = bit_at-zero n in ap (λ b. b == 1) z)

@@ -1,9 +1,6 @@
 -- the blocks of the nodes below this one, each less than 2 ^ 32
-use Rattle.std.proofs.Common.{◌≡◌, ◌≤◌, ◌*◌}
-use Rattle.std.specs.Prelude.{slice_index}
-use Rattle.finite_sums.specs.Sums.{total}
-use Rattle.access_model.specs.States.{size_of}
-use Rattle.node_words.specs.Nodes.{node_shown}
+use Rattle.{access_model.specs.States.size_of, finite_sums.specs.Sums.total, node_words.specs.Nodes.node_shown}
+use Rattle.std.proofs.Common.{slice_index, ◌*◌, ◌≡◌, ◌≤◌}
 use Rattle.gated_tree.proofs.trees.Tree.blocks.Given as goal
 
 abbrev pub invariant-loop-node : goal.invariant-loop-node

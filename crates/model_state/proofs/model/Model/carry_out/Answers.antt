@@ -1,12 +1,10 @@
 -- An action leaves what it says.
-use Rattle.std.proofs.{Common.{◌≡◌, ◌<◌, ◌≤◌, ap, ◌∙◌, sym, subst, arith, length}, lemmas.List.{get_or_default}}
-use Rattle.std.specs.Prelude.{None}
-use Rattle.access_model.specs.declared.actions.Action.TheVariants.{Grant, Return, Remove, Grow, Open, Close}
-use Rattle.access_model.specs.States.{size_of, openers, used_blocks}
-use Rattle.access_model.specs.Actions.{MayDo, mounts_after, levels_after, opens_after, after_remove, after_close}
-use Rattle.model_state.specs.Shown.{state_of, limits_of, bounded_state_of, opens_of, tree_of}
+use Rattle.access_model.specs.Actions.{MayDo, after_close, after_remove, levels_after, mounts_after, opens_after}
+use Rattle.access_model.specs.{States.{openers, size_of, used_blocks}, declared.actions.Action.TheVariants.{Close, Grant, Grow, Open, Remove, Return}}
 use Rattle.finite_sums.proofs.Totals.{total_at}
-use Rattle.model_state.proofs.Changes.{held_after, inside_after, open_after, held_kept, inside_kept, open_kept, node_after}
+use Rattle.std.proofs.{Common.{None, ap, arith, length, subst, sym, ◌<◌, ◌∙◌, ◌≡◌, ◌≤◌}, lemmas.List.get_or_default}
+use Rattle.model_state.proofs.Changes.{held_after, held_kept, inside_after, inside_kept, node_after, open_after, open_kept}
+use Rattle.model_state.specs.Shown.{bounded_state_of, limits_of, opens_of, state_of, tree_of}
 use Rattle.model_state.proofs.model.Model.carry_out.Goals as goal
 
 -- a file's blocks are a part of all blocks, which stay within the capacity, so the sum fits

@@ -1,6 +1,5 @@
 -- no mount below this one is held
-use Rattle.std.proofs.Common.{◌≡◌, ℕ, ◌<◌}
-use Rattle.std.specs.Prelude.{slice_index}
+use Rattle.std.proofs.Common.{slice_index, ℕ, ◌<◌, ◌≡◌}
 use Rattle.model_state.proofs.model.Model.holds_some_mount.Given as goal
 
 abbrev pub invariant-loop-mount : goal.invariant-loop-mount

@@ -1,5 +1,4 @@
-use Rattle.std.proofs.Common.{◌≡◌, ℕ, ◌<◌, ◌≤◌, false}
-use Rattle.std.specs.Prelude.{slice_index_or}
+use Rattle.std.proofs.Common.{false, slice_index_or, ℕ, ◌<◌, ◌≡◌, ◌≤◌}
 use Rattle.model_state.proofs.model.Model.is_below.Given as goal
 
 -- the task is in no level from the first on that is below this one

@@ -1,5 +1,4 @@
-use Rattle.std.proofs.Common.{◌≡◌, ℕ, ◌<◌, false}
-use Rattle.access_model.specs.States.{is_dirty}
+use Rattle.{access_model.specs.States.is_dirty, std.proofs.Common.{false, ℕ, ◌<◌, ◌≡◌}}
 use Rattle.model_state.specs.Shown.{tree_of}
 use Rattle.model_state.proofs.model.Model.is_clean.Given as goal
 

@@ -1,5 +1,4 @@
-use Rattle.std.proofs.Common.{◌≡◌, ℕ, ◌<◌, false}
-use Rattle.access_model.specs.States.{is_removed}
+use Rattle.{access_model.specs.States.is_removed, std.proofs.Common.{false, ℕ, ◌<◌, ◌≡◌}}
 use Rattle.model_state.specs.Shown.{tree_of}
 use Rattle.model_state.proofs.model.Model.is_none_removed.Given as goal
 

@@ -1,9 +1,8 @@
 -- a new model is the opening state
-use Rattle.std.proofs.{Common.{◌≡◌, ◌<◌, ap, ◌∙◌, arith, replicate}, lemmas.Grind.{common_steps}, Math.ListN.{set}}
-use Rattle.std.specs.Prelude.{false, None, Some}
 use Rattle.access_model.specs.States.{root}
-use Rattle.model_state.specs.Shown.{held_of, inside_of, opens_of, tree_of, bounded_state_of}
-use Rattle.model_state.proofs.Opening.{no_access, nothing_held, nobody_inside, nothing_open, no_flag, root_alone}
+use Rattle.std.proofs.{Common.{None, Some, ap, arith, false, replicate, ◌<◌, ◌∙◌, ◌≡◌}, Math.ListN.set, lemmas.Grind.common_steps}
+use Rattle.model_state.proofs.Opening.{no_access, no_flag, nobody_inside, nothing_held, nothing_open, root_alone}
+use Rattle.model_state.specs.Shown.{bounded_state_of, held_of, inside_of, opens_of, tree_of}
 use Rattle.model_state.proofs.model.Model.new.Goals as goal
 
 pub returns-clause-opens : goal.returns-clause-opens

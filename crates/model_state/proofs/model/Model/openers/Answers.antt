@@ -1,9 +1,6 @@
 -- the loop has counted all tasks of the list
-use Rattle.std.proofs.Common.{◌≡◌, ◌≤◌, ap, ◌∙◌, arith, length}
-use Rattle.finite_sums.specs.Sums.{total}
-use Rattle.access_model.specs.States.{one_if}
-use Rattle.model_state.specs.Shown.{opens_of, bounded_state_of}
-use Rattle.model_state.proofs.Openers.{openers_in}
+use Rattle.{access_model.specs.States.one_if, finite_sums.specs.Sums.total, std.proofs.Common.{ap, arith, length, ◌∙◌, ◌≡◌, ◌≤◌}}
+use Rattle.model_state.{proofs.Openers.openers_in, specs.Shown.{bounded_state_of, opens_of}}
 use Rattle.model_state.proofs.model.Model.openers.Goals as goal
 
 pub returns : goal.returns
