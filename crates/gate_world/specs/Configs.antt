@@ -1,7 +1,5 @@
 -- The limits of a configuration.
-use Rattle.std.specs.Prelude.{ℕ, ◌≤◌, ◌<◌}
-use Rattle.access_model.specs.States.{Limits}
-use Rattle.cpu_words.specs.Names.{Extents}
+use Rattle.{access_model.specs.States.Limits, cpu_words.specs.Names.Extents, std.specs.Prelude.{ℕ, ◌<◌, ◌≤◌}}
 use Rattle.gate_world.specs.declared.config.Config.{Config}
 
 -- the numbers are within the limits

@@ -2,27 +2,26 @@
 -- actions have changed them since.
 use Rattle.access_model.specs.{Holders.{held_by, is_unheld, with_holder}, declared.actions.Action.{Action, TheVariants.{Close, Grant, Open, Return}}}
 use Rattle.access_model.specs.declared.actions.{Gate.TheVariants.{Level, Mount}, Holder.Holder, Kind.TheVariants.File}
-use Rattle.composite_ops.specs.declared.file_closes.phases.ClosePhase.{ClosePhase, TheVariants.{Enters, FreesNode, Leaves as CloseLeaves, LoadsFile as CloseLoadsFile}}
-use Rattle.composite_ops.specs.declared.file_closes.phases.ClosePhase.TheVariants.{LowersCount, RefundsBlocks as CloseRefundsBlocks, Uncounts as CloseUncounts}
-use Rattle.composite_ops.specs.declared.file_closes.phases.Closing.{Closing}
-use Rattle.composite_ops.specs.declared.write_access.phases.WritePhase.{WritePhase, TheVariants.{Drops as WriteDrops, Ends, GivesBack, Takes, Wants as WriteWants}}
-use Rattle.freeze_levels.specs.declared.freezes.FreezeStep.{FreezeStep, TheVariants.{Cleans, Closes, Holds, Reopens as FreezeReopens, Waits as FreezeWaits}}
-use Rattle.freeze_levels.specs.declared.freezes.FreezeStep.TheVariants.{Undoes, GivesUp}
-use Rattle.freeze_levels.specs.declared.thaws.ThawStep.{ThawStep, TheVariants.{Leaves, Reopens as ThawReopens}}
-use Rattle.gate_world.specs.{Holdings.Holdings, Operations.{holds_none, holds_none_from, is_writer, may_mark}, Remounts.RemountFits, Roles.{close_file, tree_file}}
-use Rattle.gate_world.specs.{Trees.tree_bounds, declared.{config.Config.Config, work.Phase.{Phase, TheVariants.{Callbacks, Closes, DownReads, Freezes}}}}
-use Rattle.gate_world.specs.declared.work.Phase.TheVariants.{Mounts, Remounts, Thaws, Trees, UpReads, Writes}
-use Rattle.node_words.specs.{Nodes.{IsLawful}, declared.nodes.NodeWord.{NodeWord}}
-use Rattle.gated_tree.specs.{Calls.{TreePhaseFits}, declared.phases.TreePhase.{TreePhase}}
-use Rattle.gated_tree.specs.declared.phases.TreePhase.TheVariants.{ClearMarks as TreeClears, Mark as TreeMarks, OpenFile as OpensOne, Snapshot as Snapshots}
+use Rattle.composite_ops.specs.declared.file_closes.phases.ClosePhase.{ClosePhase, TheVariants.{Enters, FreesNode, Leaves as CloseLeaves}}
+use Rattle.composite_ops.specs.declared.file_closes.phases.ClosePhase.TheVariants.{LoadsFile as CloseLoadsFile, LowersCount}
+use Rattle.composite_ops.specs.declared.file_closes.phases.ClosePhase.TheVariants.{RefundsBlocks as CloseRefundsBlocks, Uncounts as CloseUncounts}
+use Rattle.composite_ops.specs.declared.{file_closes.phases.Closing.Closing, write_access.phases.WritePhase.TheVariants.{Drops as WriteDrops, Ends}}
+use Rattle.composite_ops.specs.declared.write_access.phases.WritePhase.{TheVariants.{GivesBack, Takes, Wants as WriteWants}, WritePhase}
 use Rattle.freeze_laws.specs.levels.{Exchanges.KnowsWords, Operations.{KnowsCallback, KnowsDownWrite, KnowsUpWrite}}
-use Rattle.percpu_rwsem.specs.{SyncWords.on_exit, Writers.sum_begun}
+use Rattle.freeze_levels.specs.declared.freezes.FreezeStep.{FreezeStep, TheVariants.{Cleans, Closes, GivesUp, Holds, Reopens as FreezeReopens}}
+use Rattle.freeze_levels.specs.declared.{freezes.FreezeStep.TheVariants.{Undoes, Waits as FreezeWaits}, thaws.ThawStep.ThawStep}
+use Rattle.freeze_levels.specs.declared.thaws.ThawStep.TheVariants.{Leaves, Reopens as ThawReopens}
+use Rattle.gated_tree.specs.{Calls.TreePhaseFits, declared.phases.TreePhase.TheVariants.{ClearMarks as TreeClears, Mark as TreeMarks}}
+use Rattle.gated_tree.specs.declared.phases.TreePhase.{TheVariants.{OpenFile as OpensOne, Snapshot as Snapshots}, TreePhase}
 use Rattle.mount_counts.specs.declared.phases.{ChangeStep.{ChangeStep, TheVariants.Sums}, MountPhase.{MountPhase, TheVariants.{Change, Drop, Want}}}
+use Rattle.{node_words.specs.{Nodes.IsLawful, declared.nodes.NodeWord.NodeWord}, percpu_rwsem.specs.{SyncWords.on_exit, Writers.sum_begun}}
 use Rattle.percpu_rwsem.specs.declared.{callbacks.CallbackStep.{CallbackStep, TheVariants.AwaitsSections}, readers.DownRead.DownRead}
 use Rattle.percpu_rwsem.specs.declared.{readers.DownReadStep.{DownReadStep, TheVariants.LeavesAdmitted}, writers.DownWrite.DownWrite}
 use Rattle.percpu_rwsem.specs.declared.writers.DownWriteStep.{DownWriteStep, TheVariants.{AwaitsSections as AwaitsReaders, Sums as SumsLevel}}
-use Rattle.percpu_rwsem.specs.declared.writers.UpWrite.{UpWrite}
-use Rattle.std.specs.Prelude.{Bool, None, Option, Some, false, true, ℕ, ◌<◌, ◌≡◌, ◌≤◌, ◌⊎◌}
+use Rattle.{percpu_rwsem.specs.declared.writers.UpWrite.UpWrite, std.specs.Prelude.{Bool, None, Option, Some, false, true, ℕ, ◌<◌, ◌≡◌, ◌≤◌, ◌⊎◌}}
+use Rattle.gate_world.specs.{Holdings.Holdings, Operations.{holds_none, holds_none_from, is_writer, may_mark}, Remounts.RemountFits}
+use Rattle.gate_world.specs.{Roles.{close_file, tree_file}, Trees.tree_bounds, declared.{config.Config.Config, work.Phase.Phase}}
+use Rattle.gate_world.specs.declared.work.Phase.TheVariants.{Callbacks, Closes, DownReads, Freezes, Mounts, Remounts, Thaws, Trees, UpReads, Writes}
 
 -- a sum in progress has a word more to read
 abbrev pub SumFits : Config → ChangeStep → Type 0

@@ -1,23 +1,20 @@
 -- The theorem: what holds of every execution.
-use Rattle.std.specs.Prelude.{◌≡◌, ℕ, ◌%◌, ◌<◌, ◌≤◌, ◌==◌, ◌⊎◌, Bool, true, false, if◌then◌else◌, Option, Some, None, Err, List, [], ◌+◌}
-use Rattle.finite_sums.specs.Sums.{total}
-use Rattle.access_model.specs.{Histories.{Done, end_of, IsLegal, IsMerge}, Laws.{NobodyHoldsClosed, NeverLeaves, IsFrozenStill}, Holders.held_by, States.{is_removed, one_if}}
-use Rattle.access_model.specs.declared.{actions.Holder.{Holder}, errors.GateError.{GateError}, replies.Next.TheVariants.{Done as Ended}}
-use Rattle.cpu_words.specs.{Sums.lead, declared.{events.Touch.{Touch, TheVariants.Store}, names.WordName.{WordName, TheVariants.Holders}}}
-use Rattle.cpu_words.specs.gate_counts.{Gates.{counted as counted_of, unread}, Levels.{Summing, level_as_gate}}
-use Rattle.gated_tree.specs.{Calls.words_loaded, Roles.{seen_as, tree_word}, Trees.{IsSound, IsClean}}
+use Rattle.access_model.specs.{Histories.{Done, IsLegal, IsMerge, end_of}, Holders.held_by, Laws.{IsFrozenStill, NeverLeaves, NobodyHoldsClosed}}
+use Rattle.access_model.specs.{States.{is_removed, one_if}, declared.{actions.Holder.Holder, errors.GateError.GateError}}
+use Rattle.access_model.specs.declared.replies.Next.TheVariants.{Done as Ended}
+use Rattle.cpu_words.specs.{Sums.lead, declared.{events.Touch.{TheVariants.Store, Touch}, names.WordName.{TheVariants.Holders, WordName}}}
+use Rattle.{cpu_words.specs.gate_counts.{Gates.{counted as counted_of, unread}, Levels.{Summing, level_as_gate}}, finite_sums.specs.Sums.total}
+use Rattle.{freeze_laws.specs.levels.Roles.fast, freeze_levels.specs.{Holders.word_of, declared.freezes.FreezeStep.FreezeStep}}
+use Rattle.gated_tree.specs.{Calls.words_loaded, Roles.{seen_as, tree_word}, Trees.{IsClean, IsSound}}
 use Rattle.gated_tree.specs.declared.{phases.TreePhase.TheVariants.Snapshot as Snapshots, snapshots.Snapshot.Snapshot}
-use Rattle.mount_counts.specs.{Phases.has_flag, Roles.counted}
-use Rattle.percpu_rwsem.specs.{SyncWords.unpack, declared.sync_word.SyncWord.SyncWord}
-use Rattle.freeze_levels.specs.{Holders.{word_of}, declared.freezes.FreezeStep.{FreezeStep}}
-use Rattle.freeze_laws.specs.levels.Roles.{fast}
-use Rattle.gate_world.specs.{Configs.model_limits, traces.TraceStates.{state_of_trace, IsTraced}, traces.Found.{stores_stage, newest}}
-use Rattle.gate_world.specs.{Levels.{at_level, level_role_of, sync_role_of, is_frozen_whole}, Moments.AllHaveMoments, Owners.last_left}
-use Rattle.gate_world.specs.{Rules.{at_mount, owns, Moves}, Shown.shown, traces.Snapshots.values_noted, traces.Traces.{Tells, IsShort, most_events}}
-use Rattle.gate_world.specs.{Views.{held_at, holds_level, HoldsAsBefore}, Worlds.{World, happens, action_of, task_of, run, opening, history}}
-use Rattle.gate_world.specs.declared.entries.Entry.{Entry}
-use Rattle.gate_world.specs.declared.{config.Config.Config, operations.Op.Op, views.{Traced.Traced, View.View}}
-use Rattle.gate_world.specs.declared.work.Phase.{Phase, TheVariants.{Freezes, Thaws, Trees}}
+use Rattle.{mount_counts.specs.{Phases.has_flag, Roles.counted}, percpu_rwsem.specs.{SyncWords.unpack, declared.sync_word.SyncWord.SyncWord}}
+use Rattle.std.specs.Prelude.{Bool, Err, List, None, Option, Some, [], false, if◌then◌else◌, true, ℕ, ◌%◌, ◌+◌, ◌<◌, ◌==◌, ◌≡◌, ◌≤◌, ◌⊎◌}
+use Rattle.gate_world.specs.{Configs.model_limits, Levels.{at_level, is_frozen_whole, level_role_of, sync_role_of}, Moments.AllHaveMoments}
+use Rattle.gate_world.specs.{Owners.last_left, Rules.{Moves, at_mount, owns}, Shown.shown, Views.{HoldsAsBefore, held_at, holds_level}}
+use Rattle.gate_world.specs.{Worlds.{World, action_of, happens, history, opening, run, task_of}, declared.{config.Config.Config, entries.Entry.Entry}}
+use Rattle.gate_world.specs.declared.{operations.Op.Op, views.{Traced.Traced, View.View}, work.Phase.{Phase, TheVariants.{Freezes, Thaws, Trees}}}
+use Rattle.gate_world.specs.traces.{Found.{newest, stores_stage}, Snapshots.values_noted, TraceStates.{IsTraced, state_of_trace}}
+use Rattle.gate_world.specs.traces.Traces.{IsShort, Tells, most_events}
 
 -- the state after an execution, and the actions that its steps added, the newest first
 abbrev pub world_after : Config → List Entry → World

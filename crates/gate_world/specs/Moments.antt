@@ -1,11 +1,9 @@
 -- The moments of snapshots in a history.
-use Rattle.std.specs.Prelude.{◌≡◌, ℕ, ◌<◌, Option, Some, None, List, ◌∷◌, length, slice_index}
-use Rattle.access_model.specs.Histories.{Done}
-use Rattle.freeze_laws.specs.moments.Moments.{WasFrozenWith}
-use Rattle.cpu_words.specs.{Hooks.HookAnswer, Words.Words}
-use Rattle.node_words.specs.Nodes.{node_shown}
-use Rattle.gated_tree.specs.{Trees.{LoadedSound, LoadedClean, node_at}, declared.trees.TreeWords.{TreeWords}}
-use Rattle.gate_world.specs.{traces.Snapshots.completes, Worlds.{World, found_at}, declared.{config.Config.Config, views.Snapshot.Snapshot, work.Phase.Phase}}
+use Rattle.{access_model.specs.Histories.Done, cpu_words.specs.{Hooks.HookAnswer, Words.Words}, freeze_laws.specs.moments.Moments.WasFrozenWith}
+use Rattle.{gated_tree.specs.{Trees.{LoadedClean, LoadedSound, node_at}, declared.trees.TreeWords.TreeWords}, node_words.specs.Nodes.node_shown}
+use Rattle.std.specs.Prelude.{List, None, Option, Some, length, slice_index, ℕ, ◌<◌, ◌∷◌, ◌≡◌}
+use Rattle.gate_world.specs.{Worlds.{World, found_at}, declared.{config.Config.Config, views.Snapshot.Snapshot, work.Phase.Phase}}
+use Rattle.gate_world.specs.traces.Snapshots.{completes}
 
 -- A snapshot of a task number has a moment in a history. It is of all nodes, and of a tree that is sound and clean; and after some of
 -- the history's first actions everything was frozen, the tree was the one loaded, and this number and each other one of its task had done

@@ -1,40 +1,39 @@
 -- Two rows for each operation: where it begins, and what is claimed of it. What it does are its steps.
-use Rattle.std.specs.Prelude.{◌≡◌, ◌≢◌, ◌⊎◌, ℕ, zero, suc, ◌+◌, ◌*◌, ◌<◌, Bool, true, false, not, ◌&&◌, ◌||◌, nat_lt, if◌then◌else◌}
-use Rattle.std.specs.Prelude.{Option, Some, None, Result, Ok, Err, List, [], ◌∷◌, ◌++◌}
-use Rattle.access_model.specs.declared.actions.{Kind.{Kind}, Action.{Action}}
-use Rattle.access_model.specs.declared.actions.Action.TheVariants.{Grant, Return, MountRo, MountRw, SbRo, SbRw, Stage as StageAction, Hold, Leave, Pass, Reopen}
-use Rattle.access_model.specs.declared.actions.Action.TheVariants.{Create as CreateAction, Remove as RemoveAction, Grow as GrowAction, MoveTo as MoveToAction}
-use Rattle.access_model.specs.declared.actions.Action.TheVariants.{Open as OpenAction, Close as CloseAction}
-use Rattle.access_model.specs.declared.actions.{Gate.TheVariants.{Mount, Level}, Holder.Holder}
-use Rattle.access_model.specs.declared.errors.GateError.{GateError, TheVariants.{Again, Busy, ReadOnly, Invalid, Hook}}
-use Rattle.access_model.specs.declared.replies.Reply.{Reply, TheVariants.{Unit as UnitReply, Node as NodeReply, Ran, Tree as TreeReply}}
+use Rattle.access_model.specs.declared.actions.Action.{Action, TheVariants.{Close as CloseAction, Create as CreateAction, Grant, Grow as GrowAction}}
+use Rattle.access_model.specs.declared.actions.Action.TheVariants.{Hold, Leave, MountRo, MountRw, MoveTo as MoveToAction, Open as OpenAction, Pass}
+use Rattle.access_model.specs.declared.actions.Action.TheVariants.{Remove as RemoveAction, Reopen, Return, SbRo, SbRw, Stage as StageAction}
+use Rattle.access_model.specs.declared.{actions.{Gate.TheVariants.{Level, Mount}, Holder.Holder, Kind.Kind}, errors.GateError.GateError}
+use Rattle.access_model.specs.declared.{errors.GateError.TheVariants.{Again, Busy, Hook, Invalid, ReadOnly}, replies.Reply.Reply}
+use Rattle.access_model.specs.declared.replies.Reply.TheVariants.{Node as NodeReply, Ran, Tree as TreeReply, Unit as UnitReply}
+use Rattle.composite_ops.specs.declared.file_closes.phases.{ClosePhase.TheVariants.LoadsFile as CloseLoadsFile, Closing.Closing}
+use Rattle.composite_ops.specs.declared.write_access.phases.WritePhase.TheVariants.{Drops as WriteDrops, Takes}
+use Rattle.cpu_words.specs.declared.names.WordName.{TheVariants.{Block, Remount, Stage, Umount}, WordName}
+use Rattle.freeze_levels.specs.declared.{freezes.FreezeStep.TheVariants.Locks as FreezeLocks, thaws.ThawStep.TheVariants.Locks as ThawLocks}
+use Rattle.gated_tree.specs.{Phases.mark_done, Refusals.{CreateHonest, FileHonest, GrowHonest, MoveHonest, SnapshotHonest, finds_other}}
 use Rattle.gated_tree.specs.declared.changes.{Create.Create, CreateStep.TheVariants.LoadsDirectory, MoveStep.TheVariants.LoadsFile as LoadsFileToMove}
 use Rattle.gated_tree.specs.declared.{changes.{MoveTo.MoveTo, Remove.Remove, RemoveStep.TheVariants.LoadsFile as LoadsFileToRemove}, growth.Grow.Grow}
 use Rattle.gated_tree.specs.declared.{growth.GrowStep.TheVariants.LoadsFile as LoadsFileToGrow, marks.Mark.Mark}
 use Rattle.gated_tree.specs.declared.{marks.MarkStep.TheVariants.LoadsFile as LoadsFileToMark, opens.OpenFile.OpenFile}
-use Rattle.gated_tree.specs.declared.{opens.OpenStep.TheVariants.LoadsFile as LoadsFileToOpen, phases.TreePhase.{TreePhase, TheVariants.Create as Creates}}
-use Rattle.gated_tree.specs.declared.phases.TreePhase.TheVariants.{Remove as Removes, Grow as Grows, MoveTo as Moves, Mark as TreeMarks, OpenFile as OpensOne}
-use Rattle.gated_tree.specs.declared.{phases.TreePhase.TheVariants.Snapshot as Snapshots, snapshots.Snapshot.Snapshot}
-use Rattle.gated_tree.specs.{declared.snapshots.SnapshotStep.TheVariants.{Locks as SnapshotLocks}, Phases.{mark_done}}
-use Rattle.gated_tree.specs.Refusals.{CreateHonest, FileHonest, GrowHonest, MoveHonest, SnapshotHonest, finds_other}
-use Rattle.mount_counts.specs.declared.phases.{ChangeStep.TheVariants.Locks, MountPhase.TheVariants.{Want as Wants, Drop as Drops, Change as Changes}}
+use Rattle.gated_tree.specs.declared.opens.OpenStep.TheVariants.{LoadsFile as LoadsFileToOpen}
+use Rattle.gated_tree.specs.declared.phases.TreePhase.TheVariants.{Create as Creates, Grow as Grows, Mark as TreeMarks, MoveTo as Moves}
+use Rattle.gated_tree.specs.declared.phases.TreePhase.{TheVariants.{OpenFile as OpensOne, Remove as Removes, Snapshot as Snapshots}, TreePhase}
+use Rattle.gated_tree.specs.declared.snapshots.{Snapshot.Snapshot, SnapshotStep.TheVariants.Locks as SnapshotLocks}
+use Rattle.mount_counts.specs.declared.phases.{ChangeStep.TheVariants.Locks, MountPhase.TheVariants.{Change as Changes, Drop as Drops, Want as Wants}}
 use Rattle.mount_counts.specs.declared.{phases.WantStep.TheVariants.CountsUp, remounts.RemountStep.TheVariants.Locks as RemountLocks}
 use Rattle.percpu_rwsem.specs.declared.{callbacks.CallbackStep.TheVariants.Claims, readers.DownReadStep.TheVariants.EntersSection}
-use Rattle.percpu_rwsem.specs.declared.transitions.Transition.TheVariants.{Loads}
-use Rattle.freeze_levels.specs.declared.{freezes.FreezeStep.TheVariants.Locks as FreezeLocks, thaws.ThawStep.TheVariants.Locks as ThawLocks}
-use Rattle.composite_ops.specs.declared.write_access.phases.WritePhase.TheVariants.{Takes, Drops as WriteDrops}
-use Rattle.composite_ops.specs.declared.file_closes.phases.{ClosePhase.TheVariants.LoadsFile as CloseLoadsFile, Closing.Closing}
-use Rattle.gate_world.specs.{Holdings.Holdings, declared.{config.Config.Config, operations.Op.{Op, TheVariants.{Want, DropMount, ChangeMount, RemountSb}}}}
-use Rattle.gate_world.specs.declared.operations.Op.TheVariants.{Start, End, WantWrite, DropWrite, Callback, Freeze as FreezeOp, Thaw as ThawOp}
-use Rattle.gate_world.specs.declared.operations.Op.TheVariants.{Create as CreateOp, Remove as RemoveOp, Grow as GrowOp, MoveTo as MoveToOp, Fault as FaultOp}
-use Rattle.gate_world.specs.declared.operations.Op.TheVariants.{Flush as FlushOp, Open as OpenOp, Close as CloseOp, Snapshot as SnapshotOp}
-use Rattle.gate_world.specs.declared.work.Phase.{Phase, TheVariants.{Mounts, Remounts, DownReads, UpReads, Callbacks, Writes, Freezes, Thaws, Trees, Closes}}
-use Rattle.gate_world.specs.traces.Found.{found_read_only, found_hold, found_taken, found_sealed, SeenIn, found_frozen, found_removed, found_dropped, finds_hold}
-use Rattle.gate_world.specs.traces.Found.{finds_taken, each_event, looks_again, counts_loaded, IsEachCount, sum_loaded, ReadAnswer, cleans, newest, found_closed}
-use Rattle.gate_world.specs.traces.Found.{left_closed, holds_since, finds_inside, finds_none_queued, transitions_made, found_incomplete, found_complete, found_moving}
-use Rattle.gate_world.specs.traces.Found.{found_held, found_unheld, found_shared, stored_stage, gave_up, finds_readers, FoundInside}
-use Rattle.gate_world.specs.declared.views.Traced.{Traced}
-use Rattle.cpu_words.specs.declared.names.WordName.{WordName, TheVariants.{Umount, Remount, Stage, Block}}
+use Rattle.{percpu_rwsem.specs.declared.transitions.Transition.TheVariants.Loads, std.specs.Prelude.{Bool, Err, List, None, Ok, Option, Result, Some}}
+use Rattle.std.specs.Prelude.{[], false, if◌then◌else◌, nat_lt, not, suc, true, zero, ℕ, ◌&&◌, ◌*◌, ◌++◌, ◌+◌, ◌<◌, ◌||◌, ◌∷◌, ◌≡◌, ◌≢◌, ◌⊎◌}
+use Rattle.gate_world.specs.{Holdings.Holdings, declared.{config.Config.Config, operations.Op.{Op, TheVariants.{Callback, ChangeMount}}}}
+use Rattle.gate_world.specs.declared.operations.Op.TheVariants.{Close as CloseOp, Create as CreateOp, DropMount, DropWrite, End, Fault as FaultOp}
+use Rattle.gate_world.specs.declared.operations.Op.TheVariants.{Flush as FlushOp, Freeze as FreezeOp, Grow as GrowOp, MoveTo as MoveToOp}
+use Rattle.gate_world.specs.declared.operations.Op.TheVariants.{Open as OpenOp, RemountSb, Remove as RemoveOp, Snapshot as SnapshotOp, Start}
+use Rattle.gate_world.specs.declared.{operations.Op.TheVariants.{Thaw as ThawOp, Want, WantWrite}, views.Traced.Traced, work.Phase.Phase}
+use Rattle.gate_world.specs.declared.work.Phase.TheVariants.{Callbacks, Closes, DownReads, Freezes, Mounts, Remounts, Thaws, Trees, UpReads, Writes}
+use Rattle.gate_world.specs.traces.Found.{FoundInside, IsEachCount, ReadAnswer, SeenIn, cleans, counts_loaded, each_event, finds_hold, finds_inside}
+use Rattle.gate_world.specs.traces.Found.{finds_none_queued, finds_readers, finds_taken, found_closed, found_complete, found_dropped, found_frozen}
+use Rattle.gate_world.specs.traces.Found.{found_held, found_hold, found_incomplete, found_moving, found_read_only, found_removed, found_sealed}
+use Rattle.gate_world.specs.traces.Found.{found_shared, found_taken, found_unheld, gave_up, holds_since, left_closed, looks_again, newest}
+use Rattle.gate_world.specs.traces.Found.{stored_stage, sum_loaded, transitions_made}
 
 -- where an operation begins, and who may begin it
 pub record OpRow : Type 1 where

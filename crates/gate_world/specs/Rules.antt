@@ -1,19 +1,16 @@
 -- The invariant: what holds of words and views between any two steps. One predicate for each mount, one for the owner's words.
 use Rattle.access_model.specs.{Actions.{IsAllowed, after_action}, States.{State, openers}, declared.actions.Action.Action}
-use Rattle.cpu_words.specs.{Hooks.{HookAnswer}, Words.{Words}, gate_counts.Levels.{LevelHolds}}
-use Rattle.finite_sums.specs.Sums.{total}
-use Rattle.gate_world.specs.{Configs.model_limits, Fits.{Fits, HasFile, file_of}, Levels.{SectionsAreOdd, at_level, inside, is_frozen_whole, sync_role_of}}
-use Rattle.gate_world.specs.{Owners.KnowsWords, Remounts.{remount_owns, remount_role, remount_sets}, Shown.{closing, shown}}
-use Rattle.gate_world.specs.Roles.{freeze_holder_role, freeze_owns, freeze_stage_role, mount_owns, mount_role, remount_stage_role, thaw_holder_role, thaw_owns}
-use Rattle.gate_world.specs.Roles.{thaw_stage_role, tree_owns, tree_stage_role, write_role}
-use Rattle.gate_world.specs.{Trees.{is_bare_at, is_sealed, tree_bounds, tree_of, tree_role_of}, Views.{added_by, has_open, held_at, held_of, taken_by}}
-use Rattle.gate_world.specs.{Worlds.{World, after_step, phase_action}, declared.{config.Config.Config, views.View.View, work.Phase.Phase}}
-use Rattle.node_words.specs.Nodes.{dirty_in, opens_in}
-use Rattle.gated_tree.specs.Roles.{TreeHolds}
-use Rattle.freeze_levels.specs.holder_laws.Roles.{Apart, HolderRole, HoldersHold}
-use Rattle.freeze_laws.specs.{levels.Roles.{SyncNumberHolds}, stages.Roles.{Aside, StageRole, StagesHold}}
-use Rattle.mount_counts.specs.Roles.{MountHolds, MountView, Out, Role}
+use Rattle.{cpu_words.specs.{Hooks.HookAnswer, Words.Words, gate_counts.Levels.LevelHolds}, finite_sums.specs.Sums.total}
+use Rattle.freeze_laws.specs.{levels.Roles.SyncNumberHolds, stages.Roles.{Aside, StageRole, StagesHold}}
+use Rattle.{freeze_levels.specs.holder_laws.Roles.{Apart, HolderRole, HoldersHold}, gated_tree.specs.Roles.TreeHolds}
+use Rattle.{mount_counts.specs.Roles.{MountHolds, MountView, Out, Role}, node_words.specs.Nodes.{dirty_in, opens_in}}
 use Rattle.std.specs.Prelude.{Bool, None, Option, Some, false, suc, true, ℕ, ◌<◌, ◌≡◌, ◌≤◌}
+use Rattle.gate_world.specs.{Configs.model_limits, Fits.{Fits, HasFile, file_of}, Levels.{SectionsAreOdd, at_level, inside, is_frozen_whole}}
+use Rattle.gate_world.specs.{Levels.sync_role_of, Owners.KnowsWords, Remounts.{remount_owns, remount_role, remount_sets}}
+use Rattle.gate_world.specs.Roles.{freeze_holder_role, freeze_owns, freeze_stage_role, mount_owns, mount_role, remount_stage_role, thaw_holder_role}
+use Rattle.gate_world.specs.{Roles.{thaw_owns, thaw_stage_role, tree_owns, tree_stage_role, write_role}, Shown.{closing, shown}, Trees.is_bare_at}
+use Rattle.gate_world.specs.{Trees.{is_sealed, tree_bounds, tree_of, tree_role_of}, Views.{added_by, has_open, held_at, held_of, taken_by}}
+use Rattle.gate_world.specs.{Worlds.{World, after_step, phase_action}, declared.{config.Config.Config, views.View.View, work.Phase.Phase}}
 
 -- what a task is doing at a mount
 abbrev pub role_of : ℕ → Option Phase → Role

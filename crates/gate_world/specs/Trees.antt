@@ -1,9 +1,8 @@
 -- The tree of a state: its words, and what each task is doing at them.
-use Rattle.std.specs.Prelude.{ℕ, Option, Some, List}
-use Rattle.cpu_words.specs.Words.{Words}
-use Rattle.gated_tree.specs.{Calls.phase_role, Roles.{Role, Out, Bounds, TreeState, sealed_by, bare_by}}
-use Rattle.gate_world.specs.Roles.{close_tree_role, freeze_tree_role, nodes_noted, remount_tree_role}
-use Rattle.gate_world.specs.{traces.Snapshots.values_noted, Worlds.World, declared.{config.Config.Config, views.Traced.Traced, work.Phase.Phase}}
+use Rattle.{cpu_words.specs.Words.Words, gated_tree.specs.{Calls.phase_role, Roles.{Bounds, Out, Role, TreeState, bare_by, sealed_by}}}
+use Rattle.std.specs.Prelude.{List, Option, Some, ℕ}
+use Rattle.gate_world.specs.{Roles.{close_tree_role, freeze_tree_role, nodes_noted, remount_tree_role}, Worlds.World, declared.config.Config.Config}
+use Rattle.gate_world.specs.{declared.{views.Traced.Traced, work.Phase.Phase}, traces.Snapshots.values_noted}
 
 -- what the laws of the tree read of a configuration
 abbrev pub tree_bounds : Config → Bounds

@@ -1,11 +1,10 @@
 -- What is known of one task number, and what its next step makes of it.
-use Rattle.std.specs.Prelude.{◌≡◌, ℕ, ◌+◌, Bool, Option, Some, None, List, [], ◌∷◌}
-use Rattle.finite_sums.specs.Sums.{update}
-use Rattle.access_model.specs.{Histories.{mounts_of, levels_of, opens_of}, declared.{actions.Action.Action, replies.Next.{Next, TheVariants.{Go, Wait, Done}}}}
-use Rattle.cpu_words.specs.{Hooks.HookAnswer, Touches.{event_of, found_by}}
-use Rattle.cpu_words.specs.declared.{events.{Event.Event, Touch.{Touch, TheVariants.{Add, Sub}}}, names.WordName.{WordName, TheVariants.MountCount}}
-use Rattle.gate_world.specs.{Holdings.{Holdings, holdings_of}, traces.Snapshots.{completes, last_snapshot}, Work.{next_of, after_of}}
-use Rattle.gate_world.specs.declared.{operations.Op.Op, views.{Traced.Traced, View.View}, work.Phase.Phase}
+use Rattle.access_model.specs.{Histories.{levels_of, mounts_of, opens_of}, declared.{actions.Action.Action, replies.Next.Next}}
+use Rattle.{access_model.specs.declared.replies.Next.TheVariants.{Done, Go, Wait}, cpu_words.specs.{Hooks.HookAnswer, Touches.{event_of, found_by}}}
+use Rattle.cpu_words.specs.declared.{events.{Event.Event, Touch.{TheVariants.{Add, Sub}, Touch}}, names.WordName.{TheVariants.MountCount, WordName}}
+use Rattle.{finite_sums.specs.Sums.update, std.specs.Prelude.{Bool, List, None, Option, Some, [], ℕ, ◌+◌, ◌∷◌, ◌≡◌}}
+use Rattle.gate_world.specs.{Holdings.{Holdings, holdings_of}, Work.{after_of, next_of}, declared.{operations.Op.Op, views.Traced.Traced}}
+use Rattle.gate_world.specs.{declared.{views.View.View, work.Phase.Phase}, traces.Snapshots.{completes, last_snapshot}}
 
 -- nothing is held and nothing was done
 abbrev pub opening_view : View

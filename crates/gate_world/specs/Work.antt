@@ -1,18 +1,16 @@
 -- The phases of all layers as one.
-use Rattle.std.specs.Prelude.{◌≡◌, ℕ, Option, None}
 use Rattle.access_model.specs.{Replies.map_next, declared.{actions.Action.Action, replies.Next.Next}}
-use Rattle.cpu_words.specs.{Hooks.HookAnswer, declared.{events.Touch.Touch, names.WordName.WordName}}
-use Rattle.gated_tree.specs.Phases.{next as tree_next, after as tree_after}
-use Rattle.mount_counts.specs.{Phases.{next, after}, Remounts.{remount_next, remount_after}}
-use Rattle.mount_counts.specs.declared.phases.MountPhase.TheVariants.{Want as PlainWant, Drop as PlainDrop}
-use Rattle.percpu_rwsem.specs.{Callbacks.{callback_next, callback_after}, Readers.{down_read_next, down_read_after, up_read_next, up_read_after}}
-use Rattle.freeze_levels.specs.{Freezes.{freeze_next, freeze_after, freeze_hook}, Thaws.{thaw_next, thaw_after, thaw_hook}}
-use Rattle.freeze_levels.specs.declared.hooks.HookKind.{HookKind}
-use Rattle.composite_ops.specs.write_access.Phases.{next as write_next, after as write_after, leaves_on}
-use Rattle.composite_ops.specs.declared.write_access.phases.WritePhase.{WritePhase, TheVariants.{Takes, Wants, GivesBack, Drops, Ends}}
-use Rattle.composite_ops.specs.file_closes.Phases.{next as close_next, after as close_after}
-use Rattle.gate_world.specs.Roles.{remount_hook}
-use Rattle.gate_world.specs.declared.work.Phase.{Phase, TheVariants.{Mounts, Remounts, DownReads, UpReads, Callbacks, Writes, Freezes, Thaws, Trees, Closes}}
+use Rattle.composite_ops.specs.declared.write_access.phases.WritePhase.{TheVariants.{Drops, Ends, GivesBack, Takes, Wants}, WritePhase}
+use Rattle.composite_ops.specs.file_closes.Phases.{after as close_after, next as close_next}
+use Rattle.composite_ops.specs.write_access.Phases.{after as write_after, leaves_on, next as write_next}
+use Rattle.{cpu_words.specs.{Hooks.HookAnswer, declared.{events.Touch.Touch, names.WordName.WordName}}, freeze_levels.specs.Freezes.freeze_after}
+use Rattle.freeze_levels.specs.{Freezes.{freeze_hook, freeze_next}, Thaws.{thaw_after, thaw_hook, thaw_next}, declared.hooks.HookKind.HookKind}
+use Rattle.{gated_tree.specs.Phases.{after as tree_after, next as tree_next}, mount_counts.specs.Phases.{after, next}}
+use Rattle.mount_counts.specs.{Remounts.{remount_after, remount_next}, declared.phases.MountPhase.TheVariants.{Drop as PlainDrop, Want as PlainWant}}
+use Rattle.percpu_rwsem.specs.{Callbacks.{callback_after, callback_next}, Readers.{down_read_after, down_read_next, up_read_after, up_read_next}}
+use Rattle.std.specs.Prelude.{None, Option, ℕ, ◌≡◌}
+use Rattle.gate_world.specs.{Roles.remount_hook, declared.work.Phase.Phase}
+use Rattle.gate_world.specs.declared.work.Phase.TheVariants.{Callbacks, Closes, DownReads, Freezes, Mounts, Remounts, Thaws, Trees, UpReads, Writes}
 
 -- the word and the touch of the next step
 abbrev pub next_of : Phase → HookAnswer → WordName × Touch

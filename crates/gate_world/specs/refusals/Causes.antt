@@ -1,37 +1,34 @@
 -- Moments of an execution: what stood in the state when a refusal's cause was read.
-use Rattle.std.specs.Prelude.{◌≡◌, ℕ, ◌<◌, ◌==◌, ◌&&◌, ◌||◌, ◌⊎◌, not, nat_lt, Bool, true, false, if◌then◌else◌, Option, Some, None, is_some, Err, List, []}
-use Rattle.std.specs.Prelude.{◌∷◌}
-use Rattle.finite_sums.specs.Sums.{total}
-use Rattle.access_model.specs.{Holders.held_by, States.{is_removed, IsFile, IsDirectory}}
-use Rattle.access_model.specs.declared.actions.{Holder.Holder, NodeInfo.NodeInfo}
-use Rattle.access_model.specs.declared.errors.GateError.{GateError, TheVariants.{Again, Busy, ReadOnly, Invalid, NoEntry, NotDir, IsDir}}
+use Rattle.access_model.specs.{Holders.held_by, States.{IsDirectory, IsFile, is_removed}, declared.actions.{Holder.Holder, NodeInfo.NodeInfo}}
+use Rattle.access_model.specs.declared.errors.GateError.{GateError, TheVariants.{Again, Busy, Invalid, IsDir, NoEntry, NotDir, ReadOnly}}
 use Rattle.access_model.specs.declared.replies.Next.TheVariants.{Done}
-use Rattle.cpu_words.specs.{Hooks.{HookAnswer}, gate_counts.{Gates.{counted as counted_of}, Levels.{level_as_gate}}}
-use Rattle.gated_tree.specs.declared.changes.{Create.Create, CreateStep.{CreateStep, TheVariants.LoadsDirectory}}
-use Rattle.gated_tree.specs.declared.changes.{MoveStep.{MoveStep, TheVariants.{LoadsFile as LoadsFileToMove, LoadsDirectory as LoadsTarget}}, MoveTo.MoveTo}
-use Rattle.gated_tree.specs.declared.changes.{Remove.Remove, RemoveStep.{RemoveStep, TheVariants.LoadsFile as LoadsFileToRemove}}
-use Rattle.gated_tree.specs.declared.growth.{Grow.Grow, GrowStep.{GrowStep, TheVariants.LoadsFile as LoadsFileToGrow}}
-use Rattle.gated_tree.specs.declared.marks.{Mark.Mark, MarkStep.{MarkStep, TheVariants.LoadsFile as LoadsFileToMark}}
-use Rattle.gated_tree.specs.declared.opens.{OpenFile.OpenFile, OpenStep.{OpenStep, TheVariants.LoadsFile as LoadsFileToOpen}}
-use Rattle.gated_tree.specs.declared.phases.TreePhase.{TreePhase}
-use Rattle.gated_tree.specs.declared.phases.TreePhase.TheVariants.{Create as Creates, Remove as Removes, Grow as Grows, MoveTo as Moves, Mark as TreeMarks}
-use Rattle.gated_tree.specs.declared.phases.TreePhase.TheVariants.{OpenFile as OpensOne, Snapshot as Snapshots}
-use Rattle.gated_tree.specs.declared.snapshots.SnapshotStep.{SnapshotStep, TheVariants.LoadsStage as SnapshotLoadsStage}
-use Rattle.mount_counts.specs.{Roles.{counted, has_hold}, declared.phases.ChangeStep.{ChangeStep, TheVariants.{Sums}}}
-use Rattle.mount_counts.specs.declared.phases.MountPhase.TheVariants.{Want as Wants, Change as Changes}
-use Rattle.mount_counts.specs.declared.phases.WantStep.{WantStep, TheVariants.{LoadsHold, LoadsRemount, LoadsReadOnly, LoadsSuperblock}}
-use Rattle.mount_counts.specs.declared.remounts.RemountStep.{RemountStep, TheVariants.{LoadsStage, LoadsRemoved, LoadsRemovedAgain, Sums as RemountSums}}
-use Rattle.percpu_rwsem.specs.declared.readers.DownReadStep.{DownReadStep, TheVariants.LoadsBlock}
-use Rattle.percpu_rwsem.specs.declared.writers.DownWriteStep.{DownWriteStep, TheVariants.Sums as SumsLevel}
-use Rattle.freeze_levels.specs.declared.freezes.FreezeStep.{FreezeStep}
-use Rattle.freeze_levels.specs.declared.freezes.FreezeStep.TheVariants.{LoadsStage as FreezeLoadsStage, LoadsHolders as FreezeLoadsHolders, Closes, Waits as FreezeWaits}
-use Rattle.freeze_levels.specs.declared.thaws.ThawStep.{ThawStep, TheVariants.{LoadsStage as ThawLoadsStage, LoadsHolders as ThawLoadsHolders}}
-use Rattle.freeze_laws.specs.levels.Roles.{closed}
-use Rattle.composite_ops.specs.declared.write_access.phases.WritePhase.{WritePhase, TheVariants.{Takes, Wants as WriteWants, GivesBack}}
 use Rattle.composite_ops.specs.declared.file_closes.phases.ClosePhase.{ClosePhase, TheVariants.{Enters, LowersCount}}
-use Rattle.gate_world.specs.{Levels.{sync_role_of, is_frozen_whole, at_level}, Rules.{at_mount, role_of, owns}, Shown.shown, Work.after_of}
-use Rattle.gate_world.specs.{Worlds.{World, happens, run, opening, found_at}, declared.{entries.Entry.{Entry}, config.Config.{Config}}}
-use Rattle.gate_world.specs.declared.work.Phase.{Phase, TheVariants.{Mounts, Remounts, DownReads, Writes, Freezes, Thaws, Trees, Closes}}
+use Rattle.composite_ops.specs.declared.write_access.phases.WritePhase.{TheVariants.{GivesBack, Takes, Wants as WriteWants}, WritePhase}
+use Rattle.{cpu_words.specs.{Hooks.HookAnswer, gate_counts.{Gates.counted as counted_of, Levels.level_as_gate}}, finite_sums.specs.Sums.total}
+use Rattle.freeze_laws.specs.levels.Roles.{closed}
+use Rattle.freeze_levels.specs.declared.freezes.FreezeStep.{FreezeStep, TheVariants.{Closes, LoadsHolders as FreezeLoadsHolders}}
+use Rattle.freeze_levels.specs.declared.freezes.FreezeStep.TheVariants.{LoadsStage as FreezeLoadsStage, Waits as FreezeWaits}
+use Rattle.freeze_levels.specs.declared.thaws.ThawStep.{ThawStep, TheVariants.{LoadsHolders as ThawLoadsHolders, LoadsStage as ThawLoadsStage}}
+use Rattle.gated_tree.specs.declared.changes.{Create.Create, CreateStep.{CreateStep, TheVariants.LoadsDirectory}, MoveStep.MoveStep}
+use Rattle.gated_tree.specs.declared.changes.{MoveStep.TheVariants.{LoadsDirectory as LoadsTarget, LoadsFile as LoadsFileToMove}, MoveTo.MoveTo}
+use Rattle.gated_tree.specs.declared.{changes.{Remove.Remove, RemoveStep.{RemoveStep, TheVariants.LoadsFile as LoadsFileToRemove}}, growth.Grow.Grow}
+use Rattle.gated_tree.specs.declared.{growth.GrowStep.{GrowStep, TheVariants.LoadsFile as LoadsFileToGrow}, marks.{Mark.Mark, MarkStep.MarkStep}}
+use Rattle.gated_tree.specs.declared.{marks.MarkStep.TheVariants.LoadsFile as LoadsFileToMark, opens.{OpenFile.OpenFile, OpenStep.OpenStep}}
+use Rattle.gated_tree.specs.declared.opens.OpenStep.TheVariants.{LoadsFile as LoadsFileToOpen}
+use Rattle.gated_tree.specs.declared.phases.TreePhase.TheVariants.{Create as Creates, Grow as Grows, Mark as TreeMarks, MoveTo as Moves}
+use Rattle.gated_tree.specs.declared.phases.TreePhase.{TheVariants.{OpenFile as OpensOne, Remove as Removes, Snapshot as Snapshots}, TreePhase}
+use Rattle.gated_tree.specs.declared.snapshots.SnapshotStep.{SnapshotStep, TheVariants.LoadsStage as SnapshotLoadsStage}
+use Rattle.mount_counts.specs.{Roles.{counted, has_hold}, declared.phases.ChangeStep.{ChangeStep, TheVariants.Sums}}
+use Rattle.mount_counts.specs.declared.phases.MountPhase.TheVariants.{Change as Changes, Want as Wants}
+use Rattle.mount_counts.specs.declared.phases.WantStep.{TheVariants.{LoadsHold, LoadsReadOnly, LoadsRemount, LoadsSuperblock}, WantStep}
+use Rattle.mount_counts.specs.declared.remounts.RemountStep.{RemountStep}
+use Rattle.mount_counts.specs.declared.remounts.RemountStep.TheVariants.{LoadsRemoved, LoadsRemovedAgain, LoadsStage, Sums as RemountSums}
+use Rattle.percpu_rwsem.specs.declared.{readers.DownReadStep.{DownReadStep, TheVariants.LoadsBlock}, writers.DownWriteStep.DownWriteStep}
+use Rattle.{percpu_rwsem.specs.declared.writers.DownWriteStep.TheVariants.Sums as SumsLevel, std.specs.Prelude.{Bool, Err, List, None, Option, Some}}
+use Rattle.std.specs.Prelude.{[], false, if◌then◌else◌, is_some, nat_lt, not, true, ℕ, ◌&&◌, ◌<◌, ◌==◌, ◌||◌, ◌∷◌, ◌≡◌, ◌⊎◌}
+use Rattle.gate_world.specs.{Levels.{at_level, is_frozen_whole, sync_role_of}, Rules.{at_mount, owns, role_of}, Shown.shown, Work.after_of}
+use Rattle.gate_world.specs.{Worlds.{World, found_at, happens, opening, run}, declared.{config.Config.Config, entries.Entry.Entry, work.Phase.Phase}}
+use Rattle.gate_world.specs.declared.work.Phase.TheVariants.{Closes, DownReads, Freezes, Mounts, Remounts, Thaws, Trees, Writes}
 
 -- the states of an execution, the newest first: the one that it leaves, and each that a transition found
 abbrev pub trail : Config → List World → World → List Entry → List World

@@ -1,12 +1,9 @@
 -- Snapshots: which step completes one, and what is noted of it.
-use Rattle.std.specs.Prelude.{ℕ, if◌then◌else◌, Option, Some, None, List, [], ◌∷◌, length, slice_index}
-use Rattle.access_model.specs.declared.actions.Action.{Action}
-use Rattle.cpu_words.specs.declared.names.WordName.TheVariants.{Kids}
-use Rattle.node_words.specs.Nodes.{node_after}
-use Rattle.gated_tree.specs.{Roles.{tree_word}, Trees.{unloaded, loaded}}
-use Rattle.gated_tree.specs.declared.phases.TreePhase.{TreePhase, TheVariants.Snapshot as Snapshots}
+use Rattle.{access_model.specs.declared.actions.Action.Action, cpu_words.specs.declared.names.WordName.TheVariants.Kids}
+use Rattle.gated_tree.specs.{Roles.tree_word, Trees.{loaded, unloaded}, declared.phases.TreePhase.{TheVariants.Snapshot as Snapshots, TreePhase}}
 use Rattle.gated_tree.specs.declared.{snapshots.SnapshotStep.{SnapshotStep, TheVariants.LoadsKids}, trees.TreeWords.TreeWords}
-use Rattle.gate_world.specs.{traces.Found.is_load, declared.{views.{Snapshot.Snapshot, Traced.Traced}, work.Phase.{Phase, TheVariants.Trees}}}
+use Rattle.{node_words.specs.Nodes.node_after, std.specs.Prelude.{List, None, Option, Some, [], if◌then◌else◌, length, slice_index, ℕ, ◌∷◌}}
+use Rattle.gate_world.specs.{declared.{views.{Snapshot.Snapshot, Traced.Traced}, work.Phase.{Phase, TheVariants.Trees}}, traces.Found.is_load}
 
 -- what the loads of a trace have noted, in room for so many nodes: of each word of the tree what its newest load found
 abbrev pub loads_noted : ℕ → List Traced → TreeWords

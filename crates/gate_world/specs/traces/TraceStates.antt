@@ -1,16 +1,15 @@
 -- How far an operation has come by its steps, in the order of its phases. They speak of no other task.
-use Rattle.std.specs.Prelude.{◌≡◌, ℕ, false, Option, Some, None, List, [], ◌∷◌, ◌++◌, ◌<◌, is_some, ◌≤◌}
-use Rattle.access_model.specs.declared.{actions.Action.Action, replies.Next.{Next, TheVariants.{Go, Wait, Done}}}
-use Rattle.cpu_words.specs.{Hooks.HookAnswer, Touches.event_of, declared.names.WordName.{WordName, TheVariants.{Node, Sync}}}
-use Rattle.gate_world.specs.{Beginnings.{first_phase, refusal}, Holdings.holdings_of, Views.{phase_after, actions_after}, Work.{next_of, after_of}}
-use Rattle.gate_world.specs.{Worlds.{World, value_at}, declared.{config.Config.Config, operations.Op.Op, views.{View.View, Traced.Traced}}}
-use Rattle.gate_world.specs.declared.work.Phase.{TheVariants.{Trees, Closes}, Phase}
-use Rattle.composite_ops.specs.declared.file_closes.phases.ClosePhase.{ClosePhase, TheVariants.{LoadsFile as CloseLoadsFile, LowersCount, Enters as EntersLevel, FreesNode}}
-use Rattle.node_words.specs.Nodes.{unpacked, opens_in, word_of}
+use Rattle.access_model.specs.declared.{actions.Action.Action, replies.Next.{Next, TheVariants.{Done, Go, Wait}}}
+use Rattle.composite_ops.specs.declared.file_closes.phases.ClosePhase.{ClosePhase, TheVariants.{Enters as EntersLevel, FreesNode}}
+use Rattle.composite_ops.specs.declared.file_closes.phases.ClosePhase.TheVariants.{LoadsFile as CloseLoadsFile, LowersCount}
+use Rattle.cpu_words.specs.{Hooks.HookAnswer, Touches.event_of, declared.names.WordName.{TheVariants.{Node, Sync}, WordName}}
 use Rattle.gated_tree.specs.declared.opens.OpenStep.{OpenStep, TheVariants.{LoadsFile as LoadsFileToOpen, OpensFile}}
-use Rattle.gated_tree.specs.declared.phases.TreePhase.TheVariants.{OpenFile as OpensOne}
+use Rattle.{gated_tree.specs.declared.phases.TreePhase.TheVariants.OpenFile as OpensOne, node_words.specs.Nodes.{opens_in, unpacked, word_of}}
 use Rattle.percpu_rwsem.specs.{Readers.down_read_next, SyncWords.unpack}
-use Rattle.std.proofs.Common.{true}
+use Rattle.std.{proofs.Common.true, specs.Prelude.{List, None, Option, Some, [], false, is_some, ℕ, ◌++◌, ◌<◌, ◌∷◌, ◌≡◌, ◌≤◌}}
+use Rattle.gate_world.specs.{Beginnings.{first_phase, refusal}, Holdings.holdings_of, Views.{actions_after, phase_after}, Work.{after_of, next_of}}
+use Rattle.gate_world.specs.{Worlds.{World, value_at}, declared.{config.Config.Config, operations.Op.Op, views.{Traced.Traced, View.View}}}
+use Rattle.gate_world.specs.declared.work.Phase.{Phase, TheVariants.{Closes, Trees}}
 
 -- where an operation stands, and the actions that it has added, the newest first
 pub record TraceState : Type 0 where
