@@ -1,8 +1,7 @@
 -- What an action makes of what a task holds, and of its lists at run time.
-use Rattle.gate_schedules.proofs.Prelude.{Action, ActionFits, Config, Holdings, List, Option, actions_after, arith, common_steps, held_after}
-use Rattle.gate_schedules.proofs.Prelude.{holdings_of, ◌≡◌}
-use Rattle.std.proofs.Common.{length}
-use Rattle.gate_world.specs.{Accesses.{accesses_after, held_in}, Holdings.Agree, declared.accesses.Accesses.Accesses}
+use Rattle.gate_schedules.proofs.Prelude.{Action, ActionFits, Agree, Config, Holdings, List, Option, actions_after, arith, common_steps, held_after}
+use Rattle.gate_schedules.proofs.Prelude.{holdings_of, length, ◌≡◌}
+use Rattle.gate_world.specs.{Accesses.{accesses_after, held_in}, declared.accesses.Accesses.Accesses}
 
 pub holdings_of_after : (a : Option Action) (actions : List Action) → holdings_of (actions_after a actions) ≡ held_after a (holdings_of actions)
 holdings_of_after a actions = grind arith

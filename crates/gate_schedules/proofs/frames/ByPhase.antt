@@ -2,8 +2,7 @@
 -- a freeze, and whether it owns `umount`.
 use Rattle.gate_schedules.proofs.Prelude.{Config, FreezeStep, Freezing, None, Option, Phase, SnapshotStep, Some, StageRole, ThawStep, World, ap}
 use Rattle.gate_schedules.proofs.Prelude.{arith, closing, freeze_stage_role, if◌then◌else◌, shown, stage_role_of, stage_roles, sym, total, ℕ, ◌&&◌}
-use Rattle.gate_schedules.proofs.Prelude.{◌==◌, ◌∙◌, ◌≡◌}
-use Rattle.std.specs.Prelude.{◌+◌}
+use Rattle.gate_schedules.proofs.Prelude.{◌+◌, ◌==◌, ◌∙◌, ◌≡◌}
 use Rattle.freeze_laws.specs.stages.{Roles.{freezes, owns as stage_owns, sums}, Shown.{is_passed as passed_at_level, passed_shown}}
 use Rattle.gate_world.specs.{Headline.freezing_at, Roles.{freeze_owns, snapshot_owns, snapshot_stage_role, thaw_owns, thaw_stage_role}}
 use Rattle.gate_world.specs.Shown.{is_passed}

@@ -1,21 +1,19 @@
 -- What a step leaves alone.
-use Rattle.gate_schedules.proofs.Prelude.{AtLevel, AtMount, Bool, Config, Files, Fits, Fitting, HasFile, Holding, Holdings, Holds, IsGood, Known}
-use Rattle.gate_schedules.proofs.Prelude.{Option, Owner, OwnerHolds, Part, Phase, Sections, StageRole, Stages, SyncAt, Touch, Tree, TreeHolds}
-use Rattle.gate_schedules.proofs.Prelude.{TreeState, View, ViewFits, WordName, Words, World, ap, arith, at_level, at_mount, closing, common_steps}
-use Rattle.gate_schedules.proofs.Prelude.{each_updated, eq-eqb, eqb_tells, file_of, has_open, held_at, held_of, holder_role_of, holders_in}
-use Rattle.gate_schedules.proofs.Prelude.{holds_level, if◌then◌else◌, inl, inr, inside, is_frozen_whole, level_added_by, level_taken_by, ne_eqb}
-use Rattle.gate_schedules.proofs.Prelude.{no_roles, node_shown, openers, opens_in, owns, refl, remounts, ro_bit, roles_of, shown, stage_role_of}
-use Rattle.gate_schedules.proofs.Prelude.{stage_roles, subst, suc, sym, sync_role_of, total_updated, tree_bounds, tree_role_of, tree_roles}
-use Rattle.gate_schedules.proofs.Prelude.{true≢false, update, update_map, update_same, ℕ, ◌+◌, ◌<◌, ◌==◌, ◌||◌, ◌∙◌, ◌≡◌}
-use Rattle.cpu_words.specs.gate_counts.Levels.{LevelHolds, LevelRole, LevelView, Out as CountsNot}
-use Rattle.freeze_levels.specs.holder_laws.Roles.{HolderRole, HoldersHold}
+use Rattle.gate_schedules.proofs.Prelude.{AtLevel, AtMount, Bool, Config, Files, Fits, Fitting, GatesHold, HasFile, Holding, Holdings, Holds, IsGood}
+use Rattle.gate_schedules.proofs.Prelude.{IsSteady, Known, LevelRole, Option, Owner, OwnerHolds, Part, Phase, Roles, SameWords, Sections, StageRole}
+use Rattle.gate_schedules.proofs.Prelude.{Stages, SyncAt, SyncRole, Touch, Tree, TreeHolds, TreeState, View, ViewFits, WordName, Words, World, ap}
+use Rattle.gate_schedules.proofs.Prelude.{arith, at_level, at_mount, closing, common_steps, each_updated, eq-eqb, eqb_tells, false, file_of, has_open}
+use Rattle.gate_schedules.proofs.Prelude.{held_at, held_of, holder_role_of, holders_in, holds_level, if◌then◌else◌, inl, inr, inside, is_frozen_whole}
+use Rattle.gate_schedules.proofs.Prelude.{level_added_by, level_taken_by, ne_eqb, no_roles, node_shown, openers, opens_in, owns, refl, remounts}
+use Rattle.gate_schedules.proofs.Prelude.{ro_bit, roles_of, shown, stage_role_of, stage_roles, subst, suc, sym, sync_role_if, sync_role_of}
+use Rattle.gate_schedules.proofs.Prelude.{total_updated, tree_bounds, tree_role_of, tree_roles, true, true≢false, update, update_map, update_same, ℕ}
+use Rattle.gate_schedules.proofs.Prelude.{◌%◌, ◌+◌, ◌<◌, ◌==◌, ◌||◌, ◌∙◌, ◌≡◌}
+use Rattle.cpu_words.specs.gate_counts.Levels.{LevelHolds, LevelView, Out as CountsNot}
+use Rattle.freeze_laws.specs.{levels.Roles.{Out as IsApart, SyncNumberHolds}, stages.Roles.StagesHold}
+use Rattle.{freeze_levels.specs.holder_laws.Roles.{HolderRole, HoldersHold}, gate_world.specs.{Owners.KnowsWords, Roles.{count_role_if, role_if}}}
+use Rattle.gate_world.specs.{Rules.{SameView, holder_roles}, Shown.is_passed, Views.{added_after, taken_after}}
+use Rattle.{gated_tree.specs.Roles.Role as TreeRole, mount_counts.specs.Roles.{MountHolds, MountView, Out, Role}}
 use Rattle.gate_schedules.proofs.frames.Known.{known_same}
-use Rattle.gate_world.specs.{Owners.KnowsWords, Roles.{count_role_if, role_if, sync_role_if}, Rules.{GatesHold, IsSteady, SameView, SameWords}}
-use Rattle.gate_world.specs.{Rules.holder_roles, SameRoles.Roles, Shown.is_passed, Views.{added_after, taken_after}}
-use Rattle.gated_tree.specs.Roles.{Role as TreeRole}
-use Rattle.freeze_laws.specs.{levels.Roles.{Out as IsApart, SyncNumberHolds, SyncRole}, stages.Roles.StagesHold}
-use Rattle.mount_counts.specs.Roles.{MountHolds, MountView, Out, Role}
-use Rattle.std.specs.Prelude.{false, true, ◌%◌}
 
 pub added_load : (name : WordName) (added : ℕ → ℕ → ℕ) → added_after name Touch.Load added ≡ added
 added_load name added = grind arith

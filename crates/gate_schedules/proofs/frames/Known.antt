@@ -1,9 +1,8 @@
 -- What the owner of `umount` has found or left is still there: nobody else changes such a word.
 use Rattle.gate_schedules.proofs.Prelude.{Config, Event, Holds, HookAnswer, IsGood, Known, List, None, Owner, Phase, Some, Touch, Traced, View}
-use Rattle.gate_schedules.proofs.Prelude.{WordName, Words, World, [], after_of, after_step, ap, arith, cases_Bool, each_updated, event_of, found_at}
-use Rattle.gate_schedules.proofs.Prelude.{inl, inr, is_some, left, next_of, owns, phase_after, put, read, sym, true, true≢false, value_at, view_after}
-use Rattle.gate_schedules.proofs.Prelude.{words_after, ℕ, ◌<◌, ◌∙◌, ◌∷◌, ◌≡◌}
-use Rattle.std.{proofs.Common.◌⊎◌, specs.Prelude.false}
+use Rattle.gate_schedules.proofs.Prelude.{WordName, Words, World, [], after_of, after_step, ap, arith, cases_Bool, each_updated, event_of, false}
+use Rattle.gate_schedules.proofs.Prelude.{found_at, inl, inr, is_some, left, next_of, owns, phase_after, put, read, sym, true, true≢false, value_at}
+use Rattle.gate_schedules.proofs.Prelude.{view_after, words_after, ℕ, ◌<◌, ◌∙◌, ◌∷◌, ◌≡◌, ◌⊎◌}
 use Rattle.gate_world.specs.{Owners.{KnowsWords, is_owned, is_owned_word, last_left, takes_lock}, traces.Found.is_load}
 
 none_is_none : {A : Type 0} {B : Type 0} (x : A) → None ≡ Some x → B

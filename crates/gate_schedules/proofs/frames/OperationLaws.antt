@@ -1,12 +1,11 @@
 -- What is proved of an operation: of each of its phases, and of its beginning and its trace.
-use Rattle.gate_schedules.proofs.Prelude.{Action, ActionFits, Bool, CauseOf, Config, Err, Fits, GateError, HasFile, HasReason, Holdings, HookAnswer}
-use Rattle.gate_schedules.proofs.Prelude.{IsGood, IsWithin, IsWord, List, None, Op, Option, Phase, PhaseFits, Some, StepKeeps, SyncStep, Traced}
-use Rattle.gate_schedules.proofs.Prelude.{WordName, World, after_of, after_step, arith, false, file_of, found_at, held_after, held_of, holdings_of}
-use Rattle.gate_schedules.proofs.Prelude.{level_in, next_of, no_roles, phase_after, roles_of, true, ℕ, ◌+◌, ◌-◌, ◌<◌, ◌∷◌, ◌≡◌, ◌≤◌}
-use Rattle.cpu_words.specs.Names.{Extents}
-use Rattle.gate_world.specs.{Beginnings.{first_phase, is_in_order, is_in_range, is_within_room}, Configs.{extents_among, extents_of}, Holdings.Agree}
-use Rattle.gate_world.specs.{Moments.CompletesNow, refusals.Causes.{all_counted, all_inside}, traces.Traces.{actions_of, most_events}}
-use Rattle.std.specs.Prelude.{◌++◌}
+use Rattle.gate_schedules.proofs.Prelude.{Action, ActionFits, Agree, Bool, CauseOf, Config, Err, Fits, GateError, HasFile, HasReason, Holdings}
+use Rattle.gate_schedules.proofs.Prelude.{HookAnswer, IsGood, IsWithin, IsWord, List, None, Op, Option, Phase, PhaseFits, Some, StepKeeps, SyncStep}
+use Rattle.gate_schedules.proofs.Prelude.{Traced, WordName, World, actions_of, after_of, after_step, all_counted, arith, extents_of, false, file_of}
+use Rattle.gate_schedules.proofs.Prelude.{first_phase, found_at, held_after, held_of, holdings_of, level_in, most_events, next_of, no_roles}
+use Rattle.gate_schedules.proofs.Prelude.{phase_after, roles_of, true, ℕ, ◌+◌, ◌-◌, ◌<◌, ◌∷◌, ◌≡◌, ◌≤◌}
+use Rattle.{cpu_words.specs.Names.Extents, gate_world.specs.{Beginnings.{is_in_order, is_in_range, is_within_room}, Configs.extents_among}}
+use Rattle.{gate_world.specs.{Moments.CompletesNow, refusals.Causes.all_inside}, std.proofs.Common.◌++◌}
 use Rattle.gate_schedules.proofs.traces.TraceInvariant.{TraceLaws}
 
 pub by_bool : (b : Bool) (P : Bool → Type 0) → P true → P false → P b

@@ -1,13 +1,12 @@
 -- What every owner of `umount` may rely on, and its steps: under the lock, on the word `umount`, and on a mount's flags.
-use Rattle.gate_schedules.proofs.Prelude.{AtMount, Bool, Config, Holdings, IsGood, Option, Owner, OwnerHolds, Phase, View, ViewFits, Words, World}
-use Rattle.gate_schedules.proofs.Prelude.{added_by, ap, arith, at_mount, closing, each_updated, eqb_tells, has_hold, held_of, inl, inr, owns, refl}
-use Rattle.gate_schedules.proofs.Prelude.{remounts, ro_bit, role_of, shown, suc, taken_by, total, total_at, total_none, total_updated, update}
-use Rattle.gate_schedules.proofs.Prelude.{update_at, update_map, update_off, update_same, ℕ, ◌+◌, ◌<◌, ◌==◌, ◌∙◌, ◌≡◌, ◌≤◌}
-use Rattle.finite_sums.proofs.Totals.{HasPlace, total_place}
-use Rattle.gate_schedules.proofs.frames.Frames.{MountHoldsAfter, gates_after, holds_as, owner_same, shown_held, shown_still, view_as}
-use Rattle.gate_world.specs.{Rules.{GatesHold, IsSteady}, refusals.Waits.{HasCulprit, IsWaitedFor}}
+use Rattle.gate_schedules.proofs.Prelude.{AtMount, Bool, Config, GatesHold, Holdings, IsGood, IsSteady, Option, Owner, OwnerHolds, Phase, View}
+use Rattle.gate_schedules.proofs.Prelude.{ViewFits, Words, World, added_by, ap, arith, at_mount, closing, each_updated, eqb_tells, has_hold, held_of}
+use Rattle.gate_schedules.proofs.Prelude.{inl, inr, owns, refl, remounts, ro_bit, role_of, shown, suc, taken_by, total, total_at, total_none}
+use Rattle.gate_schedules.proofs.Prelude.{total_updated, update, update_at, update_map, update_off, update_same, ℕ, ◌+◌, ◌-◌, ◌<◌, ◌==◌, ◌∙◌, ◌≡◌}
+use Rattle.gate_schedules.proofs.Prelude.{◌≤◌}
+use Rattle.{finite_sums.proofs.Totals.{HasPlace, total_place}, gate_world.specs.refusals.Waits.{HasCulprit, IsWaitedFor}}
 use Rattle.mount_counts.specs.Roles.{Role, hold_bit, skips}
-use Rattle.std.specs.Prelude.{◌-◌}
+use Rattle.gate_schedules.proofs.frames.Frames.{MountHoldsAfter, gates_after, holds_as, owner_same, shown_held, shown_still, view_as}
 
 pub owns_le : (p : Option Phase) → owns p ≤ 1
 owns_le p = grind arith

@@ -1,7 +1,6 @@
 -- The words that are kept of a configuration have places.
 use Rattle.gate_schedules.proofs.Prelude.{Config, IsWithin, arith}
-use Rattle.cpu_words.specs.Lists.{AreFew}
-use Rattle.gate_world.specs.Configs.{extents_among, extents_kept}
+use Rattle.{cpu_words.specs.Lists.AreFew, gate_world.specs.Configs.{extents_among, extents_kept}}
 
 -- a configuration within the limits has no more of each than there may be
 pub are_few : (c : Config) → IsWithin c → AreFew (extents_kept c)

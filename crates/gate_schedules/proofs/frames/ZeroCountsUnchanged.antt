@@ -1,10 +1,9 @@
 -- Where nothing is counted at a mount or a level before a step and after it, the step leaves the counts there, whatever operation it is
 -- of: it writes one word at most, and the words sum to 0 before it and after it.
-use Rattle.gate_schedules.proofs.Prelude.{AtLevel, AtMount, Config, IsGood, IsWord, View, WordName, World, at_level, at_mount, eqb_tells, inl, inr}
-use Rattle.gate_schedules.proofs.Prelude.{put, refl, subst, sym, update, update_at, update_off, ℕ, ◌∙◌, ◌≡◌}
+use Rattle.gate_schedules.proofs.Prelude.{AtLevel, AtMount, Config, IsGood, IsWord, View, WordName, World, all_counted, at_level, at_mount, eqb_tells}
+use Rattle.gate_schedules.proofs.Prelude.{inl, inr, put, refl, subst, sym, update, update_at, update_off, ℕ, ◌∙◌, ◌≡◌}
 use Rattle.cpu_words.{proofs.gate_counts.ZeroCountWrites.write_is_quiet, specs.gate_counts.{Gates.CountsHold, Levels.level_as_gate}}
-use Rattle.mount_counts.specs.Roles.{mount_as_gate}
-use Rattle.gate_world.specs.refusals.Causes.{all_counted, all_inside}
+use Rattle.{gate_world.specs.refusals.Causes.all_inside, mount_counts.specs.Roles.mount_as_gate}
 use Rattle.gate_schedules.proofs.frames.OperationLaws.{IsQuiet, extents_touched}
 
 module _ (c : Config) (w : World) (good : IsGood c w) (views : ℕ → View) (n : ℕ) where

@@ -1,22 +1,21 @@
 -- What each step of a down-write leaves of the levels: it enters the rcu_sync of its level, sets `block`, and sums the counts until nobody
 -- is counted.
-use Rattle.gate_schedules.proofs.Prelude.{Action, AtLevel, Config, DownWrite, DownWriteStep, Holds, IsGood, IsWithin, LevelPosition, Next, Option}
-use Rattle.gate_schedules.proofs.Prelude.{Phase, Some, Stages, Sum, SyncStep, Touch, Transition, TransitionNext, View, WordName, Words, World, ap}
-use Rattle.gate_schedules.proofs.Prelude.{arith, at_level, common_steps, down_write_after, down_write_next, eq-eqb, eqb_tells, found_by, holds_level}
-use Rattle.gate_schedules.proofs.Prelude.{if◌then◌else◌, inl, inr, is_frozen_whole, left, left_by, level_in, level_role_of, position_sync, put, read}
-use Rattle.gate_schedules.proofs.Prelude.{refl, stage_role_of, stage_roles, subst, suc, sym, sync_role_of, total, transition_after, true≢false}
-use Rattle.gate_schedules.proofs.Prelude.{unpack, update, update_at, update_map, update_same, wrap_add, ℕ, ◌+◌, ◌<◌, ◌==◌, ◌∙◌, ◌≡◌, ◌≤◌}
-use Rattle.std.{proofs.lemmas.Option.none-some, specs.Prelude.{Bool, false, true}}
+use Rattle.gate_schedules.proofs.Prelude.{Action, AtLevel, Bool, Config, DownWrite, DownWriteStep, Holds, IsGood, IsWithin, LevelPosition, LevelRole}
+use Rattle.gate_schedules.proofs.Prelude.{Next, Option, Phase, Some, Stages, Sum, SyncLevelHolds, SyncStep, SyncWord, Touch, Transition}
+use Rattle.gate_schedules.proofs.Prelude.{TransitionNext, View, WordName, Words, World, ap, arith, at_down_write, at_level, common_steps}
+use Rattle.gate_schedules.proofs.Prelude.{down_write_after, down_write_next, down_write_role, eq-eqb, eqb_tells, false, found_by, holds_level}
+use Rattle.gate_schedules.proofs.Prelude.{if◌then◌else◌, inl, inr, is_frozen_whole, left, left_by, level_in, level_role_of, on_callback, on_enter}
+use Rattle.gate_schedules.proofs.Prelude.{position_sync, put, read, refl, stage_role_of, stage_roles, subst, suc, sym, sync_role_of, total}
+use Rattle.gate_schedules.proofs.Prelude.{transition_after, true, true≢false, unpack, update, update_at, update_map, update_same, wrap_add, ℕ, ◌+◌}
+use Rattle.gate_schedules.proofs.Prelude.{◌<◌, ◌==◌, ◌∙◌, ◌≡◌, ◌≤◌}
 use Rattle.cpu_words.{proofs.gate_counts.LevelLaws.{none_passed, passes, sums_anew, sums_on, swaps}, specs.Sums.sum_taking}
-use Rattle.cpu_words.specs.{declared.sums.Taken.Taken, gate_counts.Levels.{LevelHolds, LevelRole, LevelView, Out as CountsNot}}
-use Rattle.cpu_words.specs.gate_counts.Levels.{Passed as CountsPassed, Summing}
-use Rattle.percpu_rwsem.specs.{Graces.looked, SyncWords.{is_passed, is_queued, on_callback, on_enter}, Writers.{at_down_write, callback_step}}
-use Rattle.percpu_rwsem.specs.Writers.{down_write_summed, enter_step, passed_awaited, sections_awaited, sum_begun}
-use Rattle.percpu_rwsem.specs.declared.{grace.GraceNext.GraceNext, sync_word.{GpState.GpState, SyncWord.SyncWord}}
-use Rattle.freeze_laws.proofs.{levels.{EventLaws.swap_keeps, Operations.down_writes_are_there}, stages.{Facts.total_alone, Positions.not_full}}
-use Rattle.freeze_laws.{proofs.stages.Positions.other_position, specs.levels.{Events.SyncLevelHolds, Operations.{HoldsOfNext, by_next}}}
-use Rattle.freeze_laws.specs.{levels.{Operations.{down_write_role, value_at}, Roles.{Closed, Out as IsApart, entered}}, stages.Roles.has_position}
-use Rattle.gate_world.specs.{Fits.DownWriteFits, Roles.{down_count_role, position_count}}
+use Rattle.cpu_words.specs.{declared.sums.Taken.Taken, gate_counts.Levels.{LevelHolds, LevelView, Out as CountsNot, Passed as CountsPassed, Summing}}
+use Rattle.freeze_laws.proofs.{levels.{EventLaws.swap_keeps, Operations.down_writes_are_there}, stages.Facts.total_alone}
+use Rattle.freeze_laws.{proofs.stages.Positions.{not_full, other_position}, specs.levels.Operations.{HoldsOfNext, by_next, value_at}}
+use Rattle.{freeze_laws.specs.{levels.Roles.{Closed, Out as IsApart, entered}, stages.Roles.has_position}, gate_world.specs.Fits.DownWriteFits}
+use Rattle.{gate_world.specs.Roles.{down_count_role, position_count}, percpu_rwsem.specs.{Graces.looked, SyncWords.{is_passed, is_queued}}}
+use Rattle.percpu_rwsem.specs.Writers.{callback_step, down_write_summed, enter_step, passed_awaited, sections_awaited, sum_begun}
+use Rattle.{percpu_rwsem.specs.declared.{grace.GraceNext.GraceNext, sync_word.GpState.GpState}, std.proofs.lemmas.Option.none-some}
 use Rattle.gate_schedules.proofs.{frames.Frames.SameLevelCounts, levels.LevelPositions.{HasPosition, LevelsHold, closing_position, left_world}}
 use Rattle.gate_schedules.proofs.levels.{LevelPositions.position_after_closing, PositionRoles.{SayBeside, count_at, counts_become, counts_left}}
 use Rattle.gate_schedules.proofs.levels.{PositionRoles.{levels_move, sync_at}, Worlds.{IsEventAt, event_word, found_level, level_right}}

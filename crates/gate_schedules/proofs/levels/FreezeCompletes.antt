@@ -1,9 +1,8 @@
 -- The store of stage 4 that leaves all levels closed and no task's own, and the store of stage 0 that takes them over.
-use Rattle.gate_schedules.proofs.Prelude.{AtLevel, Config, IsGood, IsWithin, None, Some, SyncStep, View, Words, World, ap, arith, common_steps}
-use Rattle.gate_schedules.proofs.Prelude.{inside, is_frozen_whole, level_in, refl, subst, sym, sync_role_of, update, ℕ, ◌<◌, ◌∙◌, ◌≡◌}
+use Rattle.gate_schedules.proofs.Prelude.{AtLevel, Config, IsGood, IsWithin, None, Some, SyncRole, SyncStep, View, Words, World, ap, arith, closed_to}
+use Rattle.gate_schedules.proofs.Prelude.{common_steps, inside, is_frozen_whole, level_in, refl, subst, sym, sync_role_of, update, ℕ, ◌<◌, ◌∙◌, ◌≡◌}
 use Rattle.cpu_words.{proofs.gate_counts.LevelLaws.{is_left_frozen, thaws}, specs.gate_counts.Levels.{Out as CountsNot, Passed as CountsPassed}}
-use Rattle.freeze_laws.specs.levels.{Events.{Freezes, Thaws}, Roles.{Closed, Out as IsApart, SyncRole}}
-use Rattle.gate_world.specs.Roles.{closed_to}
+use Rattle.freeze_laws.specs.levels.{Events.{Freezes, Thaws}, Roles.{Closed, Out as IsApart}}
 use Rattle.gate_schedules.proofs.{frames.Frames.SameLevelCounts, levels.LevelPositions.{HasPosition, LevelsHold, LevelsRun, left_world}}
 use Rattle.gate_schedules.proofs.levels.{PositionRoles.{count_closed, counts_become, sections_left, sync_closed}, Worlds.level_steps}
 

@@ -1,10 +1,8 @@
 -- How a task stands with the levels, and what the invariant says of all of them.
 use Rattle.gate_schedules.proofs.Prelude.{AtLevel, Config, DownWrite, Holds, LevelPosition, Next, None, Option, Phase, Sections, Some, SyncAt}
-use Rattle.gate_schedules.proofs.Prelude.{SyncStep, UpWrite, View, Words, World, if◌then◌else◌, inside, level_in, level_role_of, position_sync}
-use Rattle.gate_schedules.proofs.Prelude.{sync_role_of, update, ℕ, ◌==◌, ◌≡◌, ◌≤◌}
-use Rattle.std.specs.Prelude.{◌-◌}
-use Rattle.freeze_laws.specs.levels.Operations.{down_write_role, up_write_role}
-use Rattle.gate_world.specs.Roles.{closed_to, down_count_role, position_count, up_count_role}
+use Rattle.gate_schedules.proofs.Prelude.{SyncStep, UpWrite, View, Words, World, closed_to, down_write_role, if◌then◌else◌, inside, level_in}
+use Rattle.gate_schedules.proofs.Prelude.{level_role_of, position_sync, sync_role_of, update, ℕ, ◌-◌, ◌==◌, ◌≡◌, ◌≤◌}
+use Rattle.{freeze_laws.specs.levels.Operations.up_write_role, gate_world.specs.Roles.{down_count_role, position_count, up_count_role}}
 
 -- a phase stands so with the levels, and is inside no section
 pub record HasPosition (p : Option Phase) (s : Option LevelPosition) : Type 0 where

@@ -1,12 +1,11 @@
 -- What a step at a freeze level leaves alone, where it leaves the word `block` of each.
 use Rattle.gate_schedules.proofs.Prelude.{AtLevel, AtMount, Config, DownRead, Files, Fitting, Holding, Holds, IsGood, Known, Next, Option, Owner}
-use Rattle.gate_schedules.proofs.Prelude.{Phase, Sections, Some, Stages, SyncAt, Tree, View, ViewFits, Words, World, added_by, ap, arith, at_level}
-use Rattle.gate_schedules.proofs.Prelude.{closing, each_updated, has_open, held_at, holders_in, holds_level, inside, is_frozen_whole, map_next}
-use Rattle.gate_schedules.proofs.Prelude.{no_roles, node_shown, owns, phase_after, refl, ro_bit, roles_of, shown, sym, sync_role_of, taken_by, update}
-use Rattle.gate_schedules.proofs.Prelude.{update_same, ℕ, ◌<◌, ◌==◌, ◌||◌, ◌∙◌, ◌≡◌}
+use Rattle.gate_schedules.proofs.Prelude.{Phase, Roles, Sections, Some, Stages, SyncAt, Tree, View, ViewFits, Words, World, added_by, ap, arith}
+use Rattle.gate_schedules.proofs.Prelude.{at_level, closing, each_updated, has_open, held_at, holders_in, holds_level, inside, is_frozen_whole}
+use Rattle.gate_schedules.proofs.Prelude.{map_next, no_roles, node_shown, owns, phase_after, refl, ro_bit, roles_of, shown, sym, sync_role_of}
+use Rattle.gate_schedules.proofs.Prelude.{taken_by, update, update_same, ℕ, ◌<◌, ◌==◌, ◌||◌, ◌∙◌, ◌≡◌}
+use Rattle.{gate_world.specs.Owners.KnowsWords, percpu_rwsem.specs.declared.readers.UpRead.UpRead}
 use Rattle.gate_schedules.proofs.frames.{ByPhase.closing_as, Frames.{left_alone, shown_as, unwritten, view_as}, Known.known_same}
-use Rattle.percpu_rwsem.specs.declared.readers.UpRead.{UpRead}
-use Rattle.gate_world.specs.{Owners.KnowsWords, SameRoles.Roles}
 
 -- the words that are no level's own, and `block`
 abbrev pub beside_levels : Words → Words

@@ -1,15 +1,14 @@
 -- What who stands at a level has there, below it and above it; which stands say the same; and what a step of such a task leaves.
-use Rattle.gate_schedules.proofs.Prelude.{AtLevel, Config, Holds, IsGood, LevelPosition, None, Option, Phase, Sections, Some, SyncAt, SyncStep, Touch}
-use Rattle.gate_schedules.proofs.Prelude.{View, WordName, Words, World, ap, arith, at_level, eq-eqb, eqb_tells, inl, inr, inside, is_frozen_whole}
-use Rattle.gate_schedules.proofs.Prelude.{left, left_by, level_in, level_role_of, position_sync, put, read, refl, subst, suc, sym, update, update_map}
-use Rattle.gate_schedules.proofs.Prelude.{update_same, ℕ, ◌<◌, ◌∙◌, ◌≡◌, ◌≤◌}
-use Rattle.cpu_words.specs.gate_counts.Levels.{LevelHolds, LevelRole, Out as CountsNot, Passed as CountsPassed}
-use Rattle.freeze_levels.specs.Levels.{closing}
-use Rattle.freeze_laws.specs.levels.{Events.SyncLevel, Operations.put_at, Roles.{Closed, Out as IsApart}}
-use Rattle.gate_world.specs.Roles.{closed_to, position_count}
-use Rattle.gate_schedules.proofs.{frames.Frames.{SameLevelCounts, SameLevelWords, left_alone, level_as}, levels.LevelPositions.HasPosition}
-use Rattle.gate_schedules.proofs.levels.{LevelPositions.{LevelsHold, closing_position, left_world}, Worlds.{IsEventAt, sections_stay, sync_elsewhere}}
-use Rattle.gate_schedules.proofs.levels.Worlds.{sync_there}
+use Rattle.gate_schedules.proofs.Prelude.{AtLevel, Config, Holds, IsGood, LevelPosition, LevelRole, None, Option, Phase, Sections, Some, SyncAt}
+use Rattle.gate_schedules.proofs.Prelude.{SyncStep, Touch, View, WordName, Words, World, ap, arith, at_level, closed_to, eq-eqb, eqb_tells, inl, inr}
+use Rattle.gate_schedules.proofs.Prelude.{inside, is_frozen_whole, left, left_by, level_in, level_role_of, position_sync, put, read, refl, subst, suc}
+use Rattle.gate_schedules.proofs.Prelude.{sym, update, update_map, update_same, ℕ, ◌<◌, ◌∙◌, ◌≡◌, ◌≤◌}
+use Rattle.cpu_words.specs.gate_counts.Levels.{LevelHolds, Out as CountsNot, Passed as CountsPassed}
+use Rattle.{freeze_laws.specs.levels.{Events.SyncLevel, Operations.put_at, Roles.{Closed, Out as IsApart}}, freeze_levels.specs.Levels.closing}
+use Rattle.gate_world.specs.Roles.{position_count}
+use Rattle.gate_schedules.proofs.frames.Frames.{SameLevelCounts, SameLevelWords, left_alone, level_as}
+use Rattle.gate_schedules.proofs.levels.LevelPositions.{HasPosition, LevelsHold, closing_position, left_world}
+use Rattle.gate_schedules.proofs.levels.Worlds.{IsEventAt, sections_stay, sync_elsewhere, sync_there}
 
 pub count_at : (i : ℕ) (s : LevelPosition) → i ≡ s.level → position_count i (Some s) ≡ s.count
 count_at i s e = rw (eq-eqb i s.level e) refl

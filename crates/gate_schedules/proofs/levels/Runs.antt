@@ -3,8 +3,7 @@ use Rattle.gate_schedules.proofs.Prelude.{Config, DownWrite, IsGood, IsWithin, L
 use Rattle.gate_schedules.proofs.Prelude.{View, WordName, Words, World, ap, arith, common_steps, down_write_after, down_write_next, eqb_tells}
 use Rattle.gate_schedules.proofs.Prelude.{found_by, inl, inr, is_frozen_whole, left, left_by, level_in, position_sync, put, read, subst, sym}
 use Rattle.gate_schedules.proofs.Prelude.{sync_role_of, total, up_write_after, up_write_next, ℕ, ◌+◌, ◌<◌, ◌∙◌, ◌≡◌, ◌≤◌}
-use Rattle.freeze_laws.specs.levels.Roles.{Out as IsApart, entered}
-use Rattle.gate_world.specs.Fits.{DownWriteFits, UpWriteFits}
+use Rattle.{freeze_laws.specs.levels.Roles.{Out as IsApart, entered}, gate_world.specs.Fits.{DownWriteFits, UpWriteFits}}
 use Rattle.gate_schedules.proofs.{frames.Frames.SameLevelWords, levels.DownWrite.{closing_others, closing_there, down_write_event, next_closing}}
 use Rattle.gate_schedules.proofs.levels.{GivenUp.{leaving_at, leaving_beside, summing_at, unblocked_there}, LevelPositions.{HasPosition, LevelsRun}}
 use Rattle.gate_schedules.proofs.levels.LevelPositions.{closing_position, left_world, opening_position, position_after_closing}

@@ -1,13 +1,12 @@
 -- What each step of an up-write leaves of the levels: its store opens its level, and its exchange leaves the rcu_sync.
 use Rattle.gate_schedules.proofs.Prelude.{AtLevel, Config, Holds, IsGood, IsWithin, Next, Some, SyncStep, Touch, Transition, TransitionNext, UpWrite}
-use Rattle.gate_schedules.proofs.Prelude.{UpWriteStep, View, WordName, Words, World, arith, found_by, is_frozen_whole, left, left_by, level_in}
-use Rattle.gate_schedules.proofs.Prelude.{on_exit, position_sync, put, read, refl, subst, sym, transition_after, up_write_after, up_write_next}
-use Rattle.gate_schedules.proofs.Prelude.{update_at, ℕ, ◌<◌, ◌∙◌, ◌≡◌, ◌≤◌}
+use Rattle.gate_schedules.proofs.Prelude.{UpWriteStep, View, WordName, Words, World, arith, exit_made, found_by, is_frozen_whole, left, left_by}
+use Rattle.gate_schedules.proofs.Prelude.{level_in, on_exit, position_sync, put, read, refl, subst, sym, transition_after, up_write_after}
+use Rattle.gate_schedules.proofs.Prelude.{up_write_next, update_at, ℕ, ◌<◌, ◌∙◌, ◌≡◌, ◌≤◌}
 use Rattle.cpu_words.{proofs.gate_counts.LevelLaws.reopens, specs.gate_counts.Levels.Out as CountsNot}
-use Rattle.percpu_rwsem.specs.Writers.{at_up_write, exit_made}
 use Rattle.freeze_laws.{proofs.levels.Operations.up_writes_are_there, specs.levels.Operations.{HoldsOfNext, by_next, up_write_role}}
-use Rattle.freeze_laws.specs.levels.Roles.{Out as IsApart}
-use Rattle.gate_world.specs.{Fits.UpWriteFits, Roles.position_count}
+use Rattle.{freeze_laws.specs.levels.Roles.Out as IsApart, gate_world.specs.{Fits.UpWriteFits, Roles.position_count}}
+use Rattle.percpu_rwsem.specs.Writers.{at_up_write}
 use Rattle.gate_schedules.proofs.{frames.Frames.SameLevelCounts, levels.LevelPositions.{HasPosition, LevelsHold, left_world, opening_position}}
 use Rattle.gate_schedules.proofs.levels.{LevelPositions.position_after_opening, PositionRoles.{SayBeside, count_at, counts_become, counts_left}}
 use Rattle.gate_schedules.proofs.levels.{PositionRoles.{levels_move, sync_at}, Worlds.{IsEventAt, event_word, found_level}}

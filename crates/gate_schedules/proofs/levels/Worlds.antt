@@ -1,13 +1,11 @@
 -- One level of a state, as the laws of a level have it: what holds there, and what a step of a task leaves of it.
-use Rattle.gate_schedules.proofs.Prelude.{Config, Holds, IsGood, Option, Phase, Sections, SyncAt, SyncStep, Touch, View, WordName, Words, World, ap}
-use Rattle.gate_schedules.proofs.Prelude.{arith, closed, closing, common_steps, eq-eqb, if◌then◌else◌, inside, left, left_by, level_in, ne_eqb, put}
-use Rattle.gate_schedules.proofs.Prelude.{read, refl, shown, subst, sym, sync_role_of, total, update, update_same, wrap_add, ℕ, ◌&&◌, ◌-◌, ◌<◌, ◌==◌}
-use Rattle.gate_schedules.proofs.Prelude.{◌∙◌, ◌≡◌, ◌≤◌}
-use Rattle.std.specs.Prelude.{Bool, false, true}
-use Rattle.finite_sums.proofs.Totals.{total_le}
-use Rattle.freeze_laws.{proofs.levels.CitedLaws.{events_keep, fast_finds_open as level_is_open}, specs.levels.Events.{SyncLevelHolds, TurnsSection}}
-use Rattle.freeze_laws.specs.levels.{Operations.{put_at, value_at}, Roles.{Fast, Out as IsApart, SyncRole, fast}}
-use Rattle.gate_world.specs.{Roles.sync_role_if, Rules.SameWords, Shown.is_passed}
+use Rattle.gate_schedules.proofs.Prelude.{Bool, Config, Holds, IsGood, Option, Phase, SameWords, Sections, SyncAt, SyncLevelHolds, SyncRole, SyncStep}
+use Rattle.gate_schedules.proofs.Prelude.{Touch, View, WordName, Words, World, ap, arith, closed, closing, common_steps, eq-eqb, false, if◌then◌else◌}
+use Rattle.gate_schedules.proofs.Prelude.{inside, left, left_by, level_in, ne_eqb, put, read, refl, shown, subst, sym, sync_role_if, sync_role_of}
+use Rattle.gate_schedules.proofs.Prelude.{total, true, update, update_same, wrap_add, ℕ, ◌&&◌, ◌-◌, ◌<◌, ◌==◌, ◌∙◌, ◌≡◌, ◌≤◌}
+use Rattle.{finite_sums.proofs.Totals.total_le, freeze_laws.proofs.levels.CitedLaws.{events_keep, fast_finds_open as level_is_open}}
+use Rattle.freeze_laws.specs.levels.{Events.TurnsSection, Operations.{put_at, value_at}, Roles.{Fast, Out as IsApart, fast}}
+use Rattle.gate_world.specs.Shown.{is_passed}
 use Rattle.gate_schedules.proofs.frames.Frames.{left_alone}
 
 pub fast_in_section : (i : ℕ) (p : Option Phase) → fast (sync_role_of i p) ≤ inside p

@@ -1,12 +1,11 @@
 -- What the steps of want, drop and change touch: the rest of the invariant stays.
-use Rattle.gate_schedules.proofs.Prelude.{AtLevel, Bool, Config, Files, Holding, Holds, HookAnswer, IsGood, Known, MountPhase, Next, Part, Phase}
-use Rattle.gate_schedules.proofs.Prelude.{Sections, Some, Stages, StepKeeps, SyncAt, Touch, Tree, View, WordName, Words, World, after_step, arith}
-use Rattle.gate_schedules.proofs.Prelude.{at_level, cases_Bool, has_open, inl, inr, left, map_next, no_roles, phase_after, put, read, refl, roles_of}
-use Rattle.gate_schedules.proofs.Prelude.{subst, sym, tree_role_of, true, true≢false, value_at, view_after, words_after, ℕ, ◌<◌, ◌≡◌}
-use Rattle.std.{proofs.Common.◌⊎◌, specs.Prelude.false}
+use Rattle.gate_schedules.proofs.Prelude.{AtLevel, Bool, Config, Files, GateStepKeeps, Holding, Holds, HookAnswer, IsGood, Known, MountPhase, Next}
+use Rattle.gate_schedules.proofs.Prelude.{Part, Phase, Roles, SameWords, Sections, Some, Stages, StepKeeps, SyncAt, Touch, Tree, View, WordName}
+use Rattle.gate_schedules.proofs.Prelude.{Words, World, after_step, arith, at_level, cases_Bool, false, has_open, inl, inr, left, map_next, no_roles}
+use Rattle.gate_schedules.proofs.Prelude.{phase_after, put, read, refl, roles_of, subst, sym, tree_role_of, true, true≢false, value_at, view_after}
+use Rattle.gate_schedules.proofs.Prelude.{words_after, ℕ, ◌<◌, ◌≡◌, ◌⊎◌}
+use Rattle.gate_world.specs.{Levels.{level_added_after, level_taken_after}, Rules.{SameView, at_gates}, traces.Found.is_load}
 use Rattle.mount_counts.specs.Phases.{next}
-use Rattle.gate_world.specs.{Levels.{level_added_after, level_taken_after}, Rules.{GateStepKeeps, SameView, SameWords, at_gates}, SameRoles.Roles}
-use Rattle.gate_world.specs.traces.Found.{is_load}
 use Rattle.gate_schedules.proofs.frames.{Frames.left_alone, Known.{IsOwnersWork, known_after}}
 
 -- the words that want, drop and change write

@@ -1,10 +1,8 @@
 -- What a step off the levels makes of each of them: it leaves it, and so each step of want, drop and change does.
-use Rattle.gate_schedules.proofs.Prelude.{HookAnswer, MountPhase, Phase, Some, SyncAt, SyncStep, Words, World, after_of, after_step, ap, arith}
-use Rattle.gate_schedules.proofs.Prelude.{found_at, inside, level_in, map_next, no_roles, phase_after, refl, roles_of, sym, sync_role_of, value_at}
-use Rattle.gate_schedules.proofs.Prelude.{view_after, words_after, ℕ, ◌<◌, ◌∙◌, ◌≡◌}
-use Rattle.mount_counts.specs.Phases.{after}
-use Rattle.freeze_laws.specs.levels.Roles.{Out as IsApart}
-use Rattle.gate_world.specs.Rules.{SameWords}
+use Rattle.gate_schedules.proofs.Prelude.{HookAnswer, MountPhase, Phase, SameWords, Some, SyncAt, SyncStep, Words, World, after_of, after_step, ap}
+use Rattle.gate_schedules.proofs.Prelude.{arith, found_at, inside, level_in, map_next, no_roles, phase_after, refl, roles_of, sym, sync_role_of}
+use Rattle.gate_schedules.proofs.Prelude.{value_at, view_after, words_after, ℕ, ◌<◌, ◌∙◌, ◌≡◌}
+use Rattle.{freeze_laws.specs.levels.Roles.Out as IsApart, mount_counts.specs.Phases.after}
 use Rattle.gate_schedules.proofs.{levels.Steps.{level_kept, level_stays}, mounts.Parts.{mounts_roles, off_mounts}}
 
 -- a step that leaves what a level reads of the words, of a task that has no part in the level and is inside no section, before it and

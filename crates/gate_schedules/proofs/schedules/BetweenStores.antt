@@ -1,18 +1,17 @@
 -- A freeze or a thaw is between its two stores just where its newest step is the first of them: what its role says, its trace says too.
 use Rattle.gate_schedules.proofs.Prelude.{Bool, Config, DownWrite, DownWriteStep, Entry, Err, Fits, Fitting, Freeze, FreezeStep, GateError, Holding}
-use Rattle.gate_schedules.proofs.Prelude.{HookAnswer, IsGood, Known, List, Next, None, Ok, Op, Option, Phase, Some, Thaw, ThawStep, Touch, Traced}
-use Rattle.gate_schedules.proofs.Prelude.{UpWrite, UpWriteStep, View, WordName, Words, World, after_of, after_step, ap, arith, cases_lt}
-use Rattle.gate_schedules.proofs.Prelude.{down_write_next, each_updated, event_of, false, found_at, happens, held_of, holder_role_of, inl, inr}
-use Rattle.gate_schedules.proofs.Prelude.{le-ltb, left, lt-ltb, map_next, next_of, phase_after, put, read, refl, step_of, subst, sym, total_updated}
-use Rattle.gate_schedules.proofs.Prelude.{true, up_write_next, value_at, view_after, with_hook, words_after, ℕ, ◌<◌, ◌==◌, ◌∙◌, ◌∷◌, ◌≡◌}
-use Rattle.access_model.specs.Holders.{with_holder}
-use Rattle.freeze_levels.{proofs.holder_laws.{HolderLaws.held_exactly, Words.held_word}, specs.{Freezes.{freeze_after, freeze_next}, Holders.word_of}}
-use Rattle.freeze_levels.specs.{Thaws.thaw_next, declared.freezes.FreezeStep.TheVariants.Closes, holder_laws.Roles.{HoldersHold, between, is_four}}
-use Rattle.freeze_levels.specs.holder_laws.Roles.{is_held}
+use Rattle.gate_schedules.proofs.Prelude.{HookAnswer, IsGood, Known, List, Next, None, Ok, Op, Option, Phase, Some, Steps, Thaw, ThawStep, Touch}
+use Rattle.gate_schedules.proofs.Prelude.{Traced, UpWrite, UpWriteStep, View, WordName, Words, World, after_of, after_step, ap, arith, begin_of}
+use Rattle.gate_schedules.proofs.Prelude.{cases_lt, down_write_next, each_updated, event_of, false, found_at, happens, held_of, holder_role_of}
+use Rattle.gate_schedules.proofs.Prelude.{if◌then◌else◌, inl, inr, le-ltb, left, lt-ltb, map_next, next_of, phase_after, put, read, refl, step_of}
+use Rattle.gate_schedules.proofs.Prelude.{subst, sym, total_updated, true, up_write_next, value_at, view_after, with_hook, words_after, ℕ, ◌<◌, ◌==◌}
+use Rattle.gate_schedules.proofs.Prelude.{◌∙◌, ◌∷◌, ◌≡◌}
+use Rattle.{access_model.specs.Holders.with_holder, freeze_levels.proofs.holder_laws.{HolderLaws.held_exactly, Words.held_word}}
+use Rattle.freeze_levels.specs.{Freezes.{freeze_after, freeze_next}, Holders.word_of, Thaws.thaw_next, declared.freezes.FreezeStep.TheVariants.Closes}
+use Rattle.freeze_levels.specs.holder_laws.Roles.{HoldersHold, between, is_four, is_held}
+use Rattle.gate_world.specs.{Headline.{HoldersAreTold, is_between, stores_nobody}, Worlds.{begin_refusal, opening}}
+use Rattle.gate_world.specs.{declared.{entries.Entry.TheVariants.Begins, work.Phase.TheVariants.Closes}, traces.Found.stores_stage}
 use Rattle.gate_schedules.proofs.frames.Holders.{holders_at}
-use Rattle.gate_world.specs.{Headline.{HoldersAreTold, is_between, stores_nobody}, Worlds.{begin_of, begin_refusal, opening}}
-use Rattle.gate_world.specs.{declared.{entries.Entry.TheVariants.{Begins, Steps}, work.Phase.TheVariants.Closes}, traces.Found.stores_stage}
-use Rattle.std.proofs.Common.{if◌then◌else◌}
 
 abbrev bit : Bool → ℕ
 bit b = if b then 1 else 0

@@ -1,12 +1,11 @@
 -- What a sum in progress says, by the invariant. While a freeze sums a level's words, nobody is on the level's fast path, so what is held there is all that is
 -- admitted.
-use Rattle.gate_schedules.proofs.Prelude.{AtLevel, AtMount, Config, IsGood, MountHoldsIn, World, ap, arith, at_level, at_mount, level_role_of}
-use Rattle.gate_schedules.proofs.Prelude.{role_of, subst, sync_role_of, total, total_at, total_none, ℕ, ◌+◌, ◌<◌, ◌∙◌, ◌≡◌, ◌≤◌}
-use Rattle.finite_sums.proofs.Totals.{total_add, total_same}
-use Rattle.cpu_words.specs.gate_counts.{Gates.{BarringHolds, admitted, bars}, Levels.{LevelRole, Summing as SumsLevel, barring_of, level_as_gate}}
-use Rattle.freeze_laws.specs.levels.Roles.{Fast, SyncRole, fast}
-use Rattle.mount_counts.specs.Roles.{Role, Summing, admitted as admitted_there, barring_of as barring_there, mount_as_gate}
+use Rattle.gate_schedules.proofs.Prelude.{AtLevel, AtMount, Config, IsGood, LevelRole, MountHoldsIn, SyncRole, World, ap, arith, at_level, at_mount}
+use Rattle.gate_schedules.proofs.Prelude.{level_role_of, role_of, subst, sync_role_of, total, total_at, total_none, ℕ, ◌+◌, ◌<◌, ◌∙◌, ◌≡◌, ◌≤◌}
+use Rattle.cpu_words.specs.gate_counts.{Gates.{BarringHolds, admitted, bars}, Levels.{Summing as SumsLevel, barring_of, level_as_gate}}
+use Rattle.{finite_sums.proofs.Totals.{total_add, total_same}, freeze_laws.specs.levels.Roles.{Fast, fast}}
 use Rattle.gate_world.specs.{Headline.{LevelsLead, admitted_at}, Rules.LevelHoldsIn}
+use Rattle.mount_counts.specs.Roles.{Role, Summing, admitted as admitted_there, barring_of as barring_there, mount_as_gate}
 use Rattle.gate_schedules.{proofs.levels.Worlds.fast_finds_open, specs.Leads.{MountsLead, SumsLead, to_come_at_level, to_come_at_mount}}
 
 not_fast : (r : SyncRole) → (r ≡ Fast → ⊥) → fast r ≡ 0

@@ -1,8 +1,7 @@
 -- Each task's own list is its part of the history.
-use Rattle.gate_schedules.proofs.Prelude.{Action, Config, Entry, GateError, HookAnswer, List, Op, Option, Phase, Some, World, [], arith, happens}
-use Rattle.gate_schedules.proofs.Prelude.{nat_lt, step_of, ℕ, ◌∷◌}
-use Rattle.access_model.specs.Histories.{Done, IsMerge}
-use Rattle.gate_world.specs.Worlds.{action_of, after_step_with_others, begin_of, history, phase_action, run, task_of, with_action}
+use Rattle.gate_schedules.proofs.Prelude.{Action, Config, Entry, GateError, HookAnswer, List, Op, Option, Phase, Some, World, [], arith, begin_of}
+use Rattle.gate_schedules.proofs.Prelude.{happens, nat_lt, phase_action, run, step_of, ℕ, ◌∷◌}
+use Rattle.{access_model.specs.Histories.{Done, IsMerge}, gate_world.specs.Worlds.{action_of, after_step_with_others, history, task_of, with_action}}
 
 -- the lists of a state
 abbrev pub lists : World → ℕ → List Action

@@ -1,9 +1,8 @@
 -- A phase that fits: the word of its next step is there and has a place, the action of the step can be done, and the phase that comes
 -- fits.
-use Rattle.gate_schedules.proofs.Prelude.{ActionFits, Config, Fits, Holdings, HookAnswer, IsWithin, IsWord, None, Option, Phase, PhaseFits, Some}
-use Rattle.gate_schedules.proofs.Prelude.{after_of, arith, held_after, next_of, phase_after, ℕ, ◌<◌}
-use Rattle.cpu_words.{proofs.Places.place_small, specs.Names.{place, words_in_all}}
-use Rattle.gate_world.specs.{Configs.{extents_among, extents_kept}, Holdings.Agree}
+use Rattle.gate_schedules.proofs.Prelude.{ActionFits, Agree, Config, Fits, Holdings, HookAnswer, IsWithin, IsWord, None, Option, Phase, PhaseFits}
+use Rattle.gate_schedules.proofs.Prelude.{Some, after_of, arith, held_after, next_of, phase_after, ℕ, ◌<◌}
+use Rattle.{cpu_words.{proofs.Places.place_small, specs.Names.{place, words_in_all}}, gate_world.specs.Configs.{extents_among, extents_kept}}
 use Rattle.gate_schedules.proofs.{frames.{OperationLaws.word_kept, Places.few_among}, operations.AllOperations.phase_keeps}
 
 module _ (c : Config) (within : IsWithin c) (t : ℕ) (held : Holdings) where

@@ -1,15 +1,13 @@
 -- Nothing is left behind: with no operation under way nobody has a lock, a remount or a hold.
-use Rattle.gate_schedules.proofs.Prelude.{AtMount, Bool, Config, Freezing, Holding, IsGood, None, Owner, Sections, Stages, SyncAt, Tree, World, ap}
-use Rattle.gate_schedules.proofs.Prelude.{arith, closed, eqb_tells, false, has_hold, holder_role_of, inl, inr, inside, is_frozen_whole, is_removed}
-use Rattle.gate_schedules.proofs.Prelude.{one_if, owns, refl, remounts, removal, role_of, shown, stage_role_of, stage_roles, subst, suc, sym}
-use Rattle.gate_schedules.proofs.Prelude.{sync_role_of, total, total_none, tree_role_of, true, unpack, zero, ℕ, ◌+◌, ◌<◌, ◌∙◌, ◌≡◌, ◌≤◌}
-use Rattle.std.proofs.Common.{◌%◌, ◌/◌, ◌⊎◌}
-use Rattle.mount_counts.{proofs.laws.Bits.hold_unset, specs.Roles.hold_bit}
-use Rattle.percpu_rwsem.specs.SyncWords.{bit}
-use Rattle.freeze_laws.{proofs.stages.{CitedLaws.freeze_is_under_way, Facts.{other_zero, way_is}}, specs.{levels.Roles.claimed, stages.Roles.Place}}
-use Rattle.freeze_laws.specs.stages.Roles.{freezes, under_way}
-use Rattle.freeze_levels.{proofs.holder_laws.HolderLaws.held_exactly, specs.holder_laws.Roles.between}
-use Rattle.gate_world.specs.{Headline.{FreezeIsUnderWay, HeldWhereFrozen, IsAtRest, IsUntaken}, Rules.SyncHoldsIn}
+use Rattle.gate_schedules.proofs.Prelude.{AtMount, Bool, Config, Freezing, Holding, IsGood, None, Owner, Sections, Stages, SyncAt, SyncHoldsIn, Tree}
+use Rattle.gate_schedules.proofs.Prelude.{World, ap, arith, closed, eqb_tells, false, has_hold, holder_role_of, inl, inr, inside, is_frozen_whole}
+use Rattle.gate_schedules.proofs.Prelude.{is_removed, one_if, owns, refl, remounts, removal, role_of, shown, stage_role_of, stage_roles, subst, suc}
+use Rattle.gate_schedules.proofs.Prelude.{sym, sync_role_of, total, total_none, tree_role_of, true, unpack, zero, ℕ, ◌%◌, ◌+◌, ◌<◌, ◌∙◌, ◌≡◌, ◌≤◌}
+use Rattle.gate_schedules.proofs.Prelude.{◌⊎◌}
+use Rattle.freeze_laws.{proofs.stages.{CitedLaws.freeze_is_under_way, Facts.{other_zero, way_is}}, specs.levels.Roles.claimed}
+use Rattle.{freeze_laws.specs.stages.Roles.{Place, freezes, under_way}, freeze_levels.proofs.holder_laws.HolderLaws.held_exactly}
+use Rattle.{freeze_levels.specs.holder_laws.Roles.between, gate_world.specs.Headline.{FreezeIsUnderWay, HeldWhereFrozen, IsAtRest, IsUntaken}}
+use Rattle.{mount_counts.{proofs.laws.Bits.hold_unset, specs.Roles.hold_bit}, percpu_rwsem.specs.SyncWords.bit, std.proofs.Common.◌/◌}
 use Rattle.gate_schedules.proofs.frames.{ByPhase.{apart_stage, freezing_is, stage_of}, Holders.holders_at, Stages.{stages_in, stages_right}}
 use Rattle.gate_schedules.proofs.trees.worlds.Frozen.{idle_sound}
 

@@ -1,8 +1,7 @@
 -- A snapshot under way stands in a frozen tree, from its load of stage 4 to its release.
 use Rattle.gate_schedules.proofs.Prelude.{Config, IsGood, KnowsStage, RoleHolds, SnapshotStep, Some, Stages, Tree, World, arith, stage_role_of, subst}
-use Rattle.gate_schedules.proofs.Prelude.{tree_bounds, tree_role_of, ℕ, ◌≡◌}
-use Rattle.gated_tree.specs.Calls.{reading, words_loaded}
-use Rattle.gate_world.specs.{Headline.SnapshotsStand, Roles.snapshot_stage_role, traces.Snapshots.values_noted}
+use Rattle.gate_schedules.proofs.Prelude.{tree_bounds, tree_role_of, values_noted, ℕ, ◌≡◌}
+use Rattle.{gate_world.specs.{Headline.SnapshotsStand, Roles.snapshot_stage_role}, gated_tree.specs.Calls.{reading, words_loaded}}
 
 -- who has loaded words relies on stage 4
 relies : (stage sb nodes words : ℕ) (s : SnapshotStep) → words_loaded nodes s ≡ Some words → KnowsStage stage sb (snapshot_stage_role s) →

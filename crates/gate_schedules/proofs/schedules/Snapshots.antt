@@ -1,18 +1,17 @@
 -- Each last snapshot has its moment in the history, and keeps it.
-use Rattle.gate_schedules.proofs.Prelude.{Action, Config, Entry, GateError, HookAnswer, IsGood, IsWithin, List, Moves, None, Op, Option, Phase, Some}
-use Rattle.gate_schedules.proofs.Prelude.{State, View, World, [], ap, arith, cases_Bool, each_updated, found_at, happens, inl, inr, length, ltb-true}
-use Rattle.gate_schedules.proofs.Prelude.{model_limits, nat_lt, refl, shown, step_of, subst, sym, value_at, ℕ, ◌<◌, ◌∙◌, ◌∷◌, ◌≡◌}
-use Rattle.std.specs.Prelude.{slice_index}
-use Rattle.finite_sums.proofs.Totals.{total_same}
-use Rattle.access_model.specs.{Histories.{Done, IsLegal, IsMerge, end_of, own_part}, States.size_of, declared.actions.NodeInfo.NodeInfo}
+use Rattle.gate_schedules.proofs.Prelude.{Action, Config, Entry, GateError, HookAnswer, IsGood, IsWithin, List, Moves, NodeInfo, None, Op, Option}
+use Rattle.gate_schedules.proofs.Prelude.{Phase, Some, State, Steps, View, World, [], ap, arith, begin_of, cases_Bool, each_updated, found_at}
+use Rattle.gate_schedules.proofs.Prelude.{happens, inl, inr, length, ltb-true, model_limits, nat_lt, phase_action, refl, run, shown, step_of, subst}
+use Rattle.gate_schedules.proofs.Prelude.{sym, value_at, ℕ, ◌<◌, ◌∙◌, ◌∷◌, ◌≡◌}
+use Rattle.{access_model.specs.{Histories.{Done, IsLegal, IsMerge, end_of, own_part}, States.size_of}, finite_sums.proofs.Totals.total_same}
 use Rattle.freeze_laws.{proofs.moments.Moments.{is_now, stays}, specs.moments.Moments.HaveDone}
-use Rattle.gated_tree.specs.{Trees.{HasDirectory, IsSound, LoadedClean, LoadedSound, is_child, node_at}, declared.trees.TreeWords.TreeWords}
 use Rattle.gate_world.specs.{Beginnings.view_refusal, Headline.FrozenTreeIsWhole, Moments.{AllHaveMoments, CompletesNow, HasMoment, IsPresentTree}}
-use Rattle.gate_world.specs.{Views.view_after_with_others, Worlds.{action_of, after_step_with_others, begin_of, history, phase_action, run, task_of}}
-use Rattle.gate_world.specs.{Worlds.with_action, declared.{entries.Entry.TheVariants.{Begins, Steps}, views.Snapshot.Snapshot}}
-use Rattle.gate_world.specs.traces.Snapshots.{completes, last_snapshot}
-use Rattle.gate_schedules.proofs.{operations.AllOperations.phase_keeps, schedules.{Lists.{happens_lists, lists}, Schedule.happens_keeps}}
-use Rattle.gate_schedules.proofs.{schedules.Schedule.legal_more, trees.worlds.Frozen.frozen_whole}
+use Rattle.gate_world.specs.{Views.view_after_with_others, Worlds.{action_of, after_step_with_others, history, task_of, with_action}}
+use Rattle.gate_world.specs.{declared.{entries.Entry.TheVariants.Begins, views.Snapshot.Snapshot}, traces.Snapshots.{completes, last_snapshot}}
+use Rattle.gated_tree.specs.{Trees.{HasDirectory, IsSound, LoadedClean, LoadedSound, is_child, node_at}, declared.trees.TreeWords.TreeWords}
+use Rattle.std.proofs.Common.{slice_index}
+use Rattle.gate_schedules.proofs.{operations.AllOperations.phase_keeps, schedules.Lists.{happens_lists, lists}}
+use Rattle.gate_schedules.proofs.{schedules.Schedule.{happens_keeps, legal_more}, trees.worlds.Frozen.frozen_whole}
 
 -- the parent of a node is a directory also in a tree that shows the same nodes
 directory_as : (nodes : ℕ) (old new : ℕ → Option NodeInfo) → ((n : ℕ) → n < nodes → old n ≡ new n) → (node : Option NodeInfo) →

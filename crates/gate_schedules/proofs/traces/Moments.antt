@@ -1,9 +1,8 @@
 -- Moments of an execution: the last question, the last look at the stage, the moments of a sum, and what was counted.
-use Rattle.gate_schedules.proofs.Prelude.{AtMount, Bool, Config, IsGood, List, MountHoldsIn, None, Some, World, [], arith, false, ne_eqb, refl, total}
-use Rattle.gate_schedules.proofs.Prelude.{true, ℕ, ◌<◌, ◌||◌, ◌∷◌, ◌≡◌}
-use Rattle.std.proofs.Common.{◌%◌}
+use Rattle.gate_schedules.proofs.Prelude.{AtMount, Bool, Config, IsGood, List, MountHoldsIn, None, Some, World, [], all_counted, arith, false, ne_eqb}
+use Rattle.gate_schedules.proofs.Prelude.{refl, total, true, ℕ, ◌%◌, ◌<◌, ◌||◌, ◌∷◌, ◌≡◌}
 use Rattle.cpu_words.{proofs.gate_counts.{Events.words_sum, Numbers.ahead_none}, specs.Sums.{ahead, lead}}
-use Rattle.gate_world.specs.refusals.Causes.{all_counted, asks, last_look, last_question, looks_at_stage, moments_of_sum, was_counted, words_read}
+use Rattle.gate_world.specs.refusals.Causes.{asks, last_look, last_question, looks_at_stage, moments_of_sum, was_counted, words_read}
 
 pub or_true : (b : Bool) → (b || true) ≡ true
 or_true true = refl

@@ -1,8 +1,7 @@
 -- What a trace says, kept from each step to the next.
-use Rattle.gate_schedules.proofs.Prelude.{Action, Config, Event, HookAnswer, List, Next, Op, Phase, Traced, [], actions_after, after_of, arith}
-use Rattle.gate_schedules.proofs.Prelude.{event_of, found_by, next_of, with_hook, ℕ, ◌∷◌}
-use Rattle.gate_world.specs.{Beginnings.first_phase, traces.TraceStates.{IsEventOf, IsNext, IsTrace, ReadIsValid, state_of_trace, trace_state_after}}
-use Rattle.gate_world.specs.traces.Traces.{IsShort, Tells, most_events}
+use Rattle.gate_schedules.proofs.Prelude.{Action, Config, Event, HookAnswer, List, Next, Op, Phase, ReadIsValid, Traced, [], actions_after, after_of}
+use Rattle.gate_schedules.proofs.Prelude.{arith, event_of, first_phase, found_by, most_events, next_of, with_hook, ℕ, ◌∷◌}
+use Rattle.gate_world.specs.traces.{TraceStates.{IsEventOf, IsNext, IsTrace, state_of_trace, trace_state_after}, Traces.{IsShort, Tells}}
 
 -- what a trace says by where its operation stands, where `At` is what it says at a phase
 abbrev pub InvariantAfter : (List Traced → Phase → List Action → Type 0) → Config → Op → List Traced → Next Phase → List Action → Type 0

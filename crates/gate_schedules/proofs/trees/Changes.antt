@@ -1,18 +1,16 @@
 -- The compare-exchanges of node words that found what was loaded. Each says what the tree keeps and which action it is.
-use Rattle.gate_schedules.proofs.Prelude.{Action, AreWithin, Bool, Bounds, NodeWord, None, Out, Role, RoleHolds, Some, TreeHolds, TreeState, ap}
-use Rattle.gate_schedules.proofs.Prelude.{arith, eq-eqb, false, if◌then◌else◌, inl, inr, is_removed, ne_eqb, node_shown, one_if, opens_in, refl}
-use Rattle.gate_schedules.proofs.Prelude.{removal, subst, sym, total, total_at, true, update, update_map, update_same, word_of, ℕ, ◌&&◌, ◌+◌, ◌-◌}
-use Rattle.gate_schedules.proofs.Prelude.{◌<◌, ◌==◌, ◌∙◌, ◌≡◌, ◌≤◌, ◌⊎◌}
-use Rattle.std.{proofs.Common.◌%◌, specs.Prelude.option_map}
+use Rattle.gate_schedules.proofs.Prelude.{Action, AreWithin, Bool, Bounds, Freeing, Kind, NobodyReads, NodeInfo, NodeWord, None, Out, Role, RoleHolds}
+use Rattle.gate_schedules.proofs.Prelude.{Some, TreeHolds, TreeState, ap, arith, charge, child_charge, eq-eqb, false, if◌then◌else◌, inl, inr}
+use Rattle.gate_schedules.proofs.Prelude.{is_removed, ne_eqb, node_shown, one_if, opens_in, refl, removal, subst, sym, total, total_at, true, update}
+use Rattle.gate_schedules.proofs.Prelude.{update_map, update_same, word_of, ℕ, ◌%◌, ◌&&◌, ◌+◌, ◌-◌, ◌<◌, ◌==◌, ◌∙◌, ◌≡◌, ◌≤◌, ◌⊎◌}
 use Rattle.access_model.specs.{Actions.{after_remove, grown, marked, moved, unlinked}, States.{IsDirectory, IsFile, IsLinkedFile, is_dirty, size_of}}
-use Rattle.access_model.specs.declared.actions.{Kind.Kind, NodeInfo.NodeInfo}
-use Rattle.node_words.{proofs.Words.{file_is_node, free_is_node, lawful_file, new_is_node, word_opens, word_shows}, specs.Nodes.IsLawful}
-use Rattle.node_words.specs.Nodes.{closed_node, grown_node, info_of, marked_node, moved_node, new_node, opened_node, unlinked_node}
-use Rattle.gated_tree.specs.Roles.{Charged, Dropped, Freed, Freeing, HasParent, IsDirectoryAt, IsFileNode, IsLastOpen, Loaded, MayDirty, MayGrow}
-use Rattle.gated_tree.specs.Roles.{Moving, NobodyElseFrees, NobodyReads, Placing, Removing, Returning, charge, child_charge, frees}
-use Rattle.gated_tree.specs.Trees.{has_parent, is_same}
-use Rattle.gate_schedules.{proofs.trees.Laws.{node_changes, not_freed, role_says}, specs.trees.Events.{MayClean, TreeDoes, opens_shown, tree_shown}}
-use Rattle.gate_schedules.specs.trees.Events.{with_node}
+use Rattle.gated_tree.specs.Roles.{Charged, Dropped, Freed, HasParent, IsDirectoryAt, IsFileNode, IsLastOpen, Loaded, MayDirty, MayGrow, Moving}
+use Rattle.gated_tree.specs.{Roles.{NobodyElseFrees, Placing, Removing, Returning, frees}, Trees.{has_parent, is_same}}
+use Rattle.node_words.proofs.Words.{file_is_node, free_is_node, lawful_file, new_is_node, word_opens, word_shows}
+use Rattle.node_words.specs.Nodes.{IsLawful, closed_node, grown_node, info_of, marked_node, moved_node, new_node, opened_node, unlinked_node}
+use Rattle.std.proofs.Common.{option_map}
+use Rattle.gate_schedules.proofs.trees.Laws.{node_changes, not_freed, role_says}
+use Rattle.gate_schedules.specs.trees.Events.{MayClean, TreeDoes, opens_shown, tree_shown, with_node}
 
 -- a file, as the model has it
 abbrev pub file_info : NodeWord → NodeInfo

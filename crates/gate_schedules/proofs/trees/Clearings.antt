@@ -1,13 +1,12 @@
 -- A clearing of the dirty marks; the tree is sealed and opened again; a snapshot; what holds where nothing is charged.
-use Rattle.gate_schedules.proofs.Prelude.{Action, AreWithin, Bounds, Clearing, NodeWord, None, Option, Out, TreeHolds, TreeState, ap, arith, dirty_in}
-use Rattle.gate_schedules.proofs.Prelude.{each_updated, eqb_tells, false, inl, inr, ne_eqb, node_shown, removal, subst, suc, sym, total_none, turned}
-use Rattle.gate_schedules.proofs.Prelude.{update, update_same, word_of, ℕ, ◌<◌, ◌∙◌, ◌≡◌, ◌≤◌}
-use Rattle.access_model.specs.{States.is_dirty, declared.actions.NodeInfo.NodeInfo}
-use Rattle.node_words.proofs.{ClearedMarks.{clean_stays, cleared_is, directory_clean, file_shown, marked_file}, Packing.word_returns}
-use Rattle.node_words.{proofs.Words.dirty_shown, specs.Nodes.{kind_in, kind_of, marked_node, node_of, removed_in}}
-use Rattle.gated_tree.specs.{Roles.{HasParent, IsFileNode, Reading, charge, child_charge, seen_as, tree_word}, Trees.{HasDirectory, IsClean, IsSound}}
-use Rattle.gate_schedules.{proofs.trees.{Changes.{file_shows, unmarks}, Laws.{moves, role_says}}, specs.trees.Events.{IsQuiet, MayClean, MovesBy}}
-use Rattle.gate_schedules.specs.trees.Events.{TreeDoes, cleared_word, opens_shown, tree_shown, with_node}
+use Rattle.gate_schedules.proofs.Prelude.{Action, AreWithin, Bounds, Clearing, NodeInfo, NodeWord, None, Option, Out, TreeHolds, TreeState, ap, arith}
+use Rattle.gate_schedules.proofs.Prelude.{charge, child_charge, dirty_in, each_updated, eqb_tells, false, inl, inr, ne_eqb, node_shown, removal}
+use Rattle.gate_schedules.proofs.Prelude.{seen_as, subst, suc, sym, total_none, turned, update, update_same, word_of, ℕ, ◌<◌, ◌∙◌, ◌≡◌, ◌≤◌}
+use Rattle.{access_model.specs.States.is_dirty, gated_tree.specs.{Roles.{HasParent, IsFileNode, Reading, tree_word}, Trees.{HasDirectory, IsClean}}}
+use Rattle.{gated_tree.specs.Trees.IsSound, node_words.proofs.ClearedMarks.{clean_stays, cleared_is, directory_clean, file_shown, marked_file}}
+use Rattle.node_words.{proofs.{Packing.word_returns, Words.dirty_shown}, specs.Nodes.{kind_in, kind_of, marked_node, node_of, removed_in}}
+use Rattle.gate_schedules.proofs.trees.{Changes.{file_shows, unmarks}, Laws.{moves, role_says}}
+use Rattle.gate_schedules.specs.trees.Events.{IsQuiet, MayClean, MovesBy, TreeDoes, cleared_word, opens_shown, tree_shown, with_node}
 
 parent_there : (nodes : ℕ) (node : ℕ → ℕ) (entry : Option NodeInfo) → HasParent nodes node entry →
     HasDirectory nodes (tree_shown node) entry

@@ -1,16 +1,12 @@
 -- Loads, and the steps at `used` and at the counts of children. None of them changes a node word, so the shown tree stays.
-use Rattle.gate_schedules.proofs.Prelude.{AreWithin, Bounds, NodeWord, Ok, Option, Out, Role, RoleHolds, Some, TreeHolds, TreeState, ap, arith}
-use Rattle.gate_schedules.proofs.Prelude.{each_updated, is_removed, node_shown, one_if, refl, removal, suc, sym, total, total_at, turned, update}
-use Rattle.gate_schedules.proofs.Prelude.{wrap_add, zero, ℕ, ◌+◌, ◌<◌, ◌∙◌, ◌≡◌, ◌≤◌}
-use Rattle.std.specs.Prelude.{true}
-use Rattle.finite_sums.proofs.Totals.{total_bound}
-use Rattle.access_model.specs.declared.actions.{Kind.Kind, NodeInfo.NodeInfo}
-use Rattle.cpu_words.specs.Touches.{wrap_sub}
-use Rattle.node_words.{proofs.Words.{any_file_loaded, directory_loaded, file_loaded, word_shows}, specs.Nodes.{any_file_in, directory_in, file_in}}
-use Rattle.node_words.specs.Nodes.{info_of}
-use Rattle.gated_tree.specs.Roles.{Bare, Charged, Dropped, Found, Freed, Freeing, Growing, HasNoCharge, HasParent, IsDirectoryAt, IsFileNode, Loaded}
-use Rattle.gated_tree.specs.Roles.{MayGrow, MayRemove, Moving, NobodyReads, Placing, Refunding, Removing, Returning, Targets, Uncounting, charge}
-use Rattle.gated_tree.specs.{Roles.child_charge, Trees.{has_parent, is_child, is_same}}
+use Rattle.gate_schedules.proofs.Prelude.{AreWithin, Bounds, Freeing, HasNoCharge, Kind, NobodyReads, NodeInfo, NodeWord, Ok, Option, Out, Role}
+use Rattle.gate_schedules.proofs.Prelude.{RoleHolds, Some, TreeHolds, TreeState, ap, arith, charge, child_charge, each_updated, is_removed}
+use Rattle.gate_schedules.proofs.Prelude.{node_shown, one_if, refl, removal, suc, sym, total, total_at, total_bound, true, turned, update, wrap_add}
+use Rattle.gate_schedules.proofs.Prelude.{zero, ℕ, ◌+◌, ◌<◌, ◌∙◌, ◌≡◌, ◌≤◌}
+use Rattle.{cpu_words.specs.Touches.wrap_sub, gated_tree.specs.Roles.{Bare, Charged, Dropped, Found, Freed, Growing, HasParent, IsDirectoryAt}}
+use Rattle.gated_tree.specs.Roles.{IsFileNode, Loaded, MayGrow, MayRemove, Moving, Placing, Refunding, Removing, Returning, Targets, Uncounting}
+use Rattle.{gated_tree.specs.Trees.{has_parent, is_child, is_same}, node_words.proofs.Words.{any_file_loaded, directory_loaded, file_loaded}}
+use Rattle.node_words.{proofs.Words.word_shows, specs.Nodes.{any_file_in, directory_in, file_in, info_of}}
 use Rattle.gate_schedules.proofs.{frames.Openers.one_le, trees.Laws.{all_change, counts_change, moves, role_says, same_here, same_off}}
 use Rattle.gate_schedules.specs.trees.Events.{with_kids, with_removed, with_used}
 

@@ -1,21 +1,20 @@
 -- Each step keeps what holds of the tree, and moves the shown tree by its action or not at all.
-use Rattle.gate_schedules.proofs.Prelude.{Action, AreWithin, Bounds, Clearing, Option, Out, TreeHolds, TreeState, ap, arith, each_updated, is_removed}
-use Rattle.gate_schedules.proofs.Prelude.{node_shown, one_if, refl, removal, suc, total_none, turned, update, update_off, zero, ℕ, ◌<◌, ◌≡◌, ◌≤◌}
-use Rattle.finite_sums.proofs.Totals.{total_zero}
-use Rattle.access_model.specs.States.{size_of}
+use Rattle.gate_schedules.proofs.Prelude.{Action, AreWithin, Bounds, Clearing, Option, Out, TreeHolds, TreeState, ap, arith, charge, child_charge}
+use Rattle.gate_schedules.proofs.Prelude.{each_updated, is_removed, node_shown, one_if, refl, removal, seen_as, suc, total_none, turned, update}
+use Rattle.gate_schedules.proofs.Prelude.{update_off, zero, ℕ, ◌<◌, ◌≡◌, ◌≤◌}
+use Rattle.{access_model.specs.States.size_of, finite_sums.proofs.Totals.total_zero, gated_tree.specs.{Roles.{Bare, HasParent}, Trees.is_child}}
 use Rattle.node_words.{proofs.Words.{free_is_node, root_is_node}, specs.Nodes.IsNode}
-use Rattle.gated_tree.specs.{Roles.{Bare, HasParent, charge, child_charge, seen_as}, Trees.is_child}
 use Rattle.gate_schedules.proofs.trees.Changes.{closes_file, creates, dirties, flushes, frees_file, grows, marks_removed, moves_to, opens_file}
 use Rattle.gate_schedules.proofs.trees.{Changes.removes, Clearings.{clearing_begins, clearing_ends, clears, goes_bare, opens, passes, seals}}
-use Rattle.gate_schedules.proofs.trees.{Clearings.{snapshot_begins, snapshot_loads, stops_bare}, Counts.{charges_blocks, counts_removal, create_adds}}
-use Rattle.gate_schedules.proofs.trees.Counts.{create_fails, drops_blocks, finds_directory, finds_file, finds_last, finds_none, finds_room}
-use Rattle.gate_schedules.proofs.trees.Counts.{finds_target, frees_blocks, grow_fails, leaves, looks, move_adds, move_fails, refunds_blocks}
-use Rattle.gate_schedules.{proofs.trees.{Counts.{remove_fails, subtracts_child, uncounts}, Laws.role_says}, specs.trees.Events.BeginsClearing}
-use Rattle.gate_schedules.specs.trees.Events.{BeginsReading, ChargesBlocks, Clears, ClosesFile, CountsRemoval, CreateAdds, CreateFails, Creates}
-use Rattle.gate_schedules.specs.trees.Events.{Dirties, DropsBlocks, Event, FindsDirectory, FindsFile, FindsLast, FindsNone, FindsRoom, FindsTarget}
-use Rattle.gate_schedules.specs.trees.Events.{Flushes, FreesBlocks, FreesFile, GoesBare, GrowFails, Grows, Leaves, Looks, MarksRemoved, MoveAdds}
-use Rattle.gate_schedules.specs.trees.Events.{MoveFails, Moves, MovesBy, Opens, OpensFile, Passes, Reads, RefundsBlocks, RemoveFails, Removes, Seals}
-use Rattle.gate_schedules.specs.trees.Events.{StopsBare, SubtractsChild, Uncounts, opening_tree}
+use Rattle.gate_schedules.proofs.trees.Clearings.{snapshot_begins, snapshot_loads, stops_bare}
+use Rattle.gate_schedules.proofs.trees.Counts.{charges_blocks, counts_removal, create_adds, create_fails, drops_blocks, finds_directory, finds_file}
+use Rattle.gate_schedules.proofs.trees.Counts.{finds_last, finds_none, finds_room, finds_target, frees_blocks, grow_fails, leaves, looks, move_adds}
+use Rattle.gate_schedules.proofs.trees.{Counts.{move_fails, refunds_blocks, remove_fails, subtracts_child, uncounts}, Laws.role_says}
+use Rattle.gate_schedules.specs.trees.Events.{BeginsClearing, BeginsReading, ChargesBlocks, Clears, ClosesFile, CountsRemoval, CreateAdds}
+use Rattle.gate_schedules.specs.trees.Events.{CreateFails, Creates, Dirties, DropsBlocks, Event, FindsDirectory, FindsFile, FindsLast, FindsNone}
+use Rattle.gate_schedules.specs.trees.Events.{FindsRoom, FindsTarget, Flushes, FreesBlocks, FreesFile, GoesBare, GrowFails, Grows, Leaves, Looks}
+use Rattle.gate_schedules.specs.trees.Events.{MarksRemoved, MoveAdds, MoveFails, Moves, MovesBy, Opens, OpensFile, Passes, Reads, RefundsBlocks}
+use Rattle.gate_schedules.specs.trees.Events.{RemoveFails, Removes, Seals, StopsBare, SubtractsChild, Uncounts, opening_tree}
 
 module _ (c : Bounds) (within : AreWithin c) (s : TreeState) (good : TreeHolds c s) (t : ℕ) (lt : t < c.tasks) where
   pub clearing_seals : (n : ℕ) → c.nodes ≤ n → s.at t ≡ Clearing n → TreeHolds c (record (turned s t Out) { sealed = 1 })

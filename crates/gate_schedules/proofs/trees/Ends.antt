@@ -1,17 +1,14 @@
 -- What is known of a call's steps is kept from each step to the next, up to its answer.
 use Rattle.gate_schedules.proofs.Prelude.{Action, Bool, Create, CreateStep, Err, Event, GateError, Grow, GrowStep, List, Mark, MarkStep, MoveStep}
 use Rattle.gate_schedules.proofs.Prelude.{MoveTo, Next, NodeWord, None, Ok, OpenFile, OpenStep, Option, Remove, RemoveStep, Reply, Result, Snapshot}
-use Rattle.gate_schedules.proofs.Prelude.{SnapshotStep, Some, [], ap, arith, cases_Bool, cases_lt, eq-eqb, eqb_tells, event_of, false, found_by, inl}
-use Rattle.gate_schedules.proofs.Prelude.{inr, is_some, le-ltb, lt-ltb, nat_lt, ne_eqb, refl, subst, sym, true, word_of, ℕ, ◌&&◌, ◌+◌, ◌<◌, ◌==◌, ◌∙◌}
-use Rattle.gate_schedules.proofs.Prelude.{◌≡◌, ◌≤◌}
-use Rattle.std.specs.Prelude.{not}
-use Rattle.node_words.{proofs.Refused.{directory_refused, file_refused, size_loaded, taken_some}, specs.Nodes.{directory_in, file_in, kind_in}}
-use Rattle.node_words.specs.{Nodes.{node_after, unpacked}, Phases.after_look}
+use Rattle.gate_schedules.proofs.Prelude.{SnapshotStep, Some, [], after_look, ap, arith, cases_Bool, cases_lt, eq-eqb, eqb_tells, event_of, false}
+use Rattle.gate_schedules.proofs.Prelude.{found_by, inl, inr, is_some, le-ltb, lt-ltb, nat_lt, ne_eqb, node_after, not, refl, snapshot_next, subst}
+use Rattle.gate_schedules.proofs.Prelude.{sym, true, unpacked, word_of, ℕ, ◌&&◌, ◌+◌, ◌<◌, ◌==◌, ◌∙◌, ◌≡◌, ◌≤◌}
 use Rattle.gated_tree.specs.Phases.{at_create, at_grow, at_mark, at_move, at_open, at_remove, create_looked, create_next, grow_next, kids_step}
 use Rattle.gated_tree.specs.Phases.{mark_done, mark_next, move_next, node_step, open_next, opens_from, remove_next, removes_file, snapshot_locked_out}
-use Rattle.gated_tree.specs.{Phases.snapshot_next, Refusals.{CreateHonest, FileHonest, GrowHonest, MoveHonest, SnapshotHonest, finds_directory}}
-use Rattle.gated_tree.specs.Refusals.{finds_file, finds_free, finds_full, finds_gone, finds_large, finds_other, finds_owner, finds_taken}
-use Rattle.gated_tree.specs.Refusals.{finds_thawed}
+use Rattle.gated_tree.specs.Refusals.{CreateHonest, FileHonest, GrowHonest, MoveHonest, SnapshotHonest, finds_directory, finds_file, finds_free}
+use Rattle.gated_tree.specs.Refusals.{finds_full, finds_gone, finds_large, finds_other, finds_owner, finds_taken, finds_thawed}
+use Rattle.node_words.{proofs.Refused.{directory_refused, file_refused, size_loaded, taken_some}, specs.Nodes.{directory_in, file_in, kind_in}}
 use Rattle.gate_schedules.specs.trees.Ends.{CreateEnds, CreateKnows, GrowEnds, GrowKnows, IsNodeReply, IsReply, MarkEnds, MoveAnswers, MoveEnds}
 use Rattle.gate_schedules.specs.trees.Ends.{MoveKnows, NextIsJustified, OpenEnds, RemoveEnds, RemoveKnows, SeesMore, SnapshotAnswers, SnapshotEnds}
 use Rattle.gate_schedules.specs.trees.Ends.{SnapshotKnows, action_if_done, create_adds, move_added, remove_added}

@@ -1,14 +1,12 @@
 -- Any step at the tree: a role changes with the counts, or with one node word.
-use Rattle.gate_schedules.proofs.Prelude.{Bounds, Clearing, NodeWord, Option, Role, RoleHolds, Some, TreeHolds, TreeState, ap, arith, cases_Bool}
-use Rattle.gate_schedules.proofs.Prelude.{cases_lt, each_updated, eq-eqb, false, inl, inr, is_removed, nat_lt, ne_eqb, node_shown, one_if, opens_in}
-use Rattle.gate_schedules.proofs.Prelude.{refl, removal, subst, suc, sym, total, total_at, total_updated, true, turned, update, zero, ℕ, ◌+◌, ◌<◌}
-use Rattle.gate_schedules.proofs.Prelude.{◌∙◌, ◌≡◌, ◌≤◌, ◌⊎◌}
-use Rattle.finite_sums.proofs.Totals.{total_changed_by}
-use Rattle.access_model.specs.{States.{IsDirectory, is_dirty, size_of}, declared.actions.{Kind.Kind, NodeInfo.NodeInfo}}
+use Rattle.gate_schedules.proofs.Prelude.{Bounds, Clearing, Freeing, Kind, NobodyReads, NodeInfo, NodeWord, Option, Role, RoleHolds, Some, TreeHolds}
+use Rattle.gate_schedules.proofs.Prelude.{TreeState, ap, arith, cases_Bool, cases_lt, charge, child_charge, each_updated, eq-eqb, false, inl, inr}
+use Rattle.gate_schedules.proofs.Prelude.{is_removed, nat_lt, ne_eqb, node_shown, one_if, opens_in, refl, removal, seen_as, subst, suc, sym, total}
+use Rattle.gate_schedules.proofs.Prelude.{total_at, total_updated, true, turned, update, zero, ℕ, ◌+◌, ◌<◌, ◌∙◌, ◌≡◌, ◌≤◌, ◌⊎◌}
+use Rattle.{access_model.specs.States.{IsDirectory, is_dirty, size_of}, finite_sums.proofs.Totals.total_changed_by}
+use Rattle.gated_tree.specs.Roles.{Bare, Found, HasParent, IsLastOpen, Loaded, MayDirty, Moving, Placing, Reading, Targets, cleared, frees, is_bare}
+use Rattle.gated_tree.specs.{Roles.{tree_word, words_read}, Trees.{has_parent, is_child, is_same}}
 use Rattle.node_words.{proofs.Words.{word_opens, word_shows}, specs.Nodes.{IsNode, info_of}}
-use Rattle.gated_tree.specs.Roles.{Bare, Found, Freeing, HasParent, IsLastOpen, Loaded, MayDirty, Moving, NobodyReads, Placing, Reading, Targets}
-use Rattle.gated_tree.specs.{Roles.{charge, child_charge, cleared, frees, is_bare, seen_as, tree_word, words_read}, Trees.{has_parent, is_child}}
-use Rattle.gated_tree.specs.Trees.{is_same}
 use Rattle.gate_schedules.specs.trees.Events.{with_node}
 
 pub same_here : (d : ℕ) → is_same d d ≡ 1

@@ -1,9 +1,8 @@
 -- The steps of all calls at the tree, by their phases.
 use Rattle.gate_schedules.proofs.Prelude.{Action, AreWithin, Bounds, HookAnswer, IsWord, Next, Option, Role, Touch, TreeHolds, TreePhase, WordName}
-use Rattle.gate_schedules.proofs.Prelude.{Words, arith, map_next, role_after, subst, ℕ, ◌<◌, ◌≡◌}
+use Rattle.gate_schedules.proofs.Prelude.{Words, arith, map_next, role_after, snapshot_next, subst, ℕ, ◌<◌, ◌≡◌}
 use Rattle.cpu_words.specs.Names.{Extents}
 use Rattle.gated_tree.specs.{Calls.{TreePhaseFits, phase_role}, Phases.{create_next, grow_next, mark_next, move_next, next, open_next, remove_next}}
-use Rattle.gated_tree.specs.Phases.{snapshot_next}
 use Rattle.gate_schedules.proofs.trees.{Steps.{create_step, grow_step, mark_step, move_step, open_step, remove_step}, Sweeps.clear_step}
 use Rattle.gate_schedules.{proofs.trees.Sweeps.snapshot_step, specs.trees.Steps.{EventKeeps, Notes, StepKeeps, TreeAllowsStep, found_at, tree_in}}
 

@@ -1,16 +1,15 @@
 -- Each step of each call is a step of the tree.
-use Rattle.gate_schedules.proofs.Prelude.{Action, AreWithin, Bool, Bounds, Create, CreateStep, Err, GateError, Grow, GrowStep, Mark, MarkStep}
-use Rattle.gate_schedules.proofs.Prelude.{MoveStep, MoveTo, Next, NodeWord, None, Ok, OpenFile, OpenStep, Option, Out, Remove, RemoveStep, Reply}
-use Rattle.gate_schedules.proofs.Prelude.{Result, Role, Some, Touch, TreeHolds, TreeState, WordName, Words, ap, arith, cases_lt, eqb_tells, false}
-use Rattle.gate_schedules.proofs.Prelude.{if◌then◌else◌, inl, inr, is_some, le-ltb, lt-ltb, mark_after, nat_lt, put, read, refl, role_after, subst}
-use Rattle.gate_schedules.proofs.Prelude.{sym, true, turned, update, word_of, ℕ, ◌+◌, ◌<◌, ◌==◌, ◌∙◌, ◌≡◌, ◌≤◌}
-use Rattle.access_model.specs.declared.actions.Kind.{Kind}
+use Rattle.gate_schedules.proofs.Prelude.{Action, AreWithin, Bool, Bounds, Create, CreateStep, Err, GateError, Grow, GrowStep, HasNoCharge, Kind}
+use Rattle.gate_schedules.proofs.Prelude.{Mark, MarkStep, MoveStep, MoveTo, Next, NobodyReads, NodeWord, None, Ok, OpenFile, OpenStep, Option, Out}
+use Rattle.gate_schedules.proofs.Prelude.{Remove, RemoveStep, Reply, Result, Role, Some, Touch, TreeHolds, TreeState, WordName, Words, after_look, ap}
+use Rattle.gate_schedules.proofs.Prelude.{arith, cases_lt, create_after, eqb_tells, false, grow_after, if◌then◌else◌, inl, inr, is_some, le-ltb}
+use Rattle.gate_schedules.proofs.Prelude.{lt-ltb, mark_after, move_after, nat_lt, node_after, open_after, put, read, refl, remove_after, role_after}
+use Rattle.gate_schedules.proofs.Prelude.{subst, sym, true, turned, unpacked, update, word_of, ℕ, ◌+◌, ◌<◌, ◌==◌, ◌∙◌, ◌≡◌, ◌≤◌}
 use Rattle.gated_tree.specs.Calls.{CreateStepFits, OpenStepFits, RemoveStepFits, create_role, grow_role, mark_role, move_role, open_role, remove_role}
-use Rattle.gated_tree.specs.Phases.{at_create, at_grow, at_mark, at_move, at_open, at_remove, create_after, create_looked, create_looks_at}
-use Rattle.gated_tree.specs.Phases.{create_next, create_past, grow_after, grow_from, grow_next, mark_done, mark_next, move_after, move_next}
-use Rattle.gated_tree.specs.{Phases.{open_after, open_next, opens_from, remove_after, remove_next, removes_file}, Roles.{Charged, Found, Growing}}
-use Rattle.gated_tree.specs.Roles.{HasNoCharge, Loaded, MayDirty, MayRemove, NobodyReads, Refunding, Returning, Uncounting}
-use Rattle.node_words.specs.{Nodes.{directory_in, file_in, marked_node, node_after, unpacked}, Phases.after_look}
+use Rattle.gated_tree.specs.Phases.{at_create, at_grow, at_mark, at_move, at_open, at_remove, create_looked, create_looks_at, create_next}
+use Rattle.gated_tree.specs.Phases.{create_past, grow_from, grow_next, mark_done, mark_next, move_next, open_next, opens_from, remove_next}
+use Rattle.gated_tree.specs.{Phases.removes_file, Roles.{Charged, Found, Growing, Loaded, MayDirty, MayRemove, Refunding, Returning, Uncounting}}
+use Rattle.node_words.specs.Nodes.{directory_in, file_in, marked_node}
 use Rattle.gate_schedules.proofs.trees.Counts.{charges_blocks, create_fails, finds_directory, finds_file, finds_room, finds_target, grow_fails}
 use Rattle.gate_schedules.{proofs.trees.{Counts.{leaves, looks, move_fails, remove_fails}, Each.each_event}, specs.trees.Events.CountsRemoval}
 use Rattle.gate_schedules.specs.trees.Events.{CreateAdds, Creates, Dirties, Event, Flushes, FreesBlocks, Grows, MarksRemoved as MarksOne, MoveAdds}

@@ -1,11 +1,10 @@
 -- Each step of a clearing of the dirty marks and of a snapshot is a step of the tree.
-use Rattle.gate_schedules.proofs.Prelude.{AreWithin, Bool, Bounds, ClearMarks, Clearing, Err, Ok, Out, Role, Snapshot, SnapshotStep, TreeHolds}
-use Rattle.gate_schedules.proofs.Prelude.{TreeState, WordName, Words, ap, arith, cases_lt, clear_after, dirty_in, eqb_tells, false, inl, inr, is_some}
-use Rattle.gate_schedules.proofs.Prelude.{le-ltb, lt-ltb, refl, role_after, subst, suc, sym, true, turned, update, update_at, ℕ, ◌+◌, ◌-◌, ◌<◌, ◌∙◌}
-use Rattle.gate_schedules.proofs.Prelude.{◌≡◌}
-use Rattle.node_words.{proofs.Packing.packed_unpacks, specs.{Nodes.unpacked, Phases.clear_next}}
-use Rattle.gated_tree.specs.{Calls.{SnapshotStepFits, snapshot_role}, Phases.{snapshot_after, snapshot_locked_out, snapshot_next}, Roles.HasNoCharge}
-use Rattle.gated_tree.specs.Roles.{Reading, seen_as, tree_word}
+use Rattle.gate_schedules.proofs.Prelude.{AreWithin, Bool, Bounds, ClearMarks, Clearing, Err, HasNoCharge, Ok, Out, Role, Snapshot, SnapshotStep}
+use Rattle.gate_schedules.proofs.Prelude.{TreeHolds, TreeState, WordName, Words, ap, arith, cases_lt, clear_after, dirty_in, eqb_tells, false, inl}
+use Rattle.gate_schedules.proofs.Prelude.{inr, is_some, le-ltb, lt-ltb, refl, role_after, seen_as, snapshot_next, subst, suc, sym, true, turned}
+use Rattle.gate_schedules.proofs.Prelude.{unpacked, update, update_at, ℕ, ◌+◌, ◌-◌, ◌<◌, ◌∙◌, ◌≡◌}
+use Rattle.gated_tree.specs.{Calls.{SnapshotStepFits, snapshot_role}, Phases.{snapshot_after, snapshot_locked_out}, Roles.{Reading, tree_word}}
+use Rattle.node_words.{proofs.Packing.packed_unpacks, specs.Phases.clear_next}
 use Rattle.gate_schedules.proofs.trees.{Clearings.{clears, passes, snapshot_begins, snapshot_loads}, Counts.leaves, Steps.{ends_free, leaves_word}}
 use Rattle.gate_schedules.{proofs.trees.Steps.stays_at, specs.trees.{Events.MayClean, Steps.{EventKeeps, NotesLoad, found_at, tree_in, words_left}}}
 

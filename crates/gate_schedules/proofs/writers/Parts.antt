@@ -1,18 +1,16 @@
 -- What a step of a freeze or a thaw may leave: each conjunct of the invariant, and the shown state.
 use Rattle.gate_schedules.proofs.Prelude.{Action, AtLevel, AtMount, Config, DownWrite, DownWriteStep, Files, Fitting, Freeze, FreezeFits, HasFile}
-use Rattle.gate_schedules.proofs.Prelude.{Holding, Holdings, Holds, HookAnswer, IsGood, Known, Moves, Next, None, Ok, Option, Owner, OwnerHolds, Part}
-use Rattle.gate_schedules.proofs.Prelude.{Phase, Reply, Sections, Some, StageEvent, Stages, State, StepKeeps, SyncAt, Thaw, Tree, View, ViewFits}
-use Rattle.gate_schedules.proofs.Prelude.{Words, World, added_by, after_step, ap, arith, cases_Bool, common_steps, down_write_after, each_updated}
-use Rattle.gate_schedules.proofs.Prelude.{false, file_of, has_open, held_of, holders_in, inl, inr, map_next, model_limits, no_roles, node_shown}
-use Rattle.gate_schedules.proofs.Prelude.{openers, opens_in, phase_after, refl, roles_of, shown, stage_role_of, stage_roles, subst, sym, taken_by}
-use Rattle.gate_schedules.proofs.Prelude.{true≢false, update, ℕ, ◌<◌, ◌∙◌, ◌≡◌}
-use Rattle.access_model.specs.{States.Limits, declared.actions.{Holders.Holders, NodeInfo.NodeInfo}}
-use Rattle.gate_schedules.proofs.frames.{Frames.{left_alone, opens_left, view_as}, Known.{IsOwnersWork, known_after}, Stages.{IsStageEvent, shown_by}}
-use Rattle.gate_schedules.proofs.{frames.Stages.{stage_action, stage_effect, stages_after, stages_in}, levels.LevelPositions.{LevelsHold, left_world}}
-use Rattle.gate_schedules.proofs.mounts.Parts.{is_known_part, known_is}
-use Rattle.gate_world.specs.{SameRoles.Roles, Worlds.phase_action}
-use Rattle.percpu_rwsem.specs.Writers.{at_down_write}
-use Rattle.freeze_laws.specs.stages.{Events.action_of as stage_action_of, Shown.{AsksOthers, ShowsStages, state_after}}
+use Rattle.gate_schedules.proofs.Prelude.{Holding, Holdings, Holds, HookAnswer, IsGood, Known, Moves, Next, NodeInfo, None, Ok, Option, Owner}
+use Rattle.gate_schedules.proofs.Prelude.{OwnerHolds, Part, Phase, Reply, Roles, Sections, Some, StageEvent, Stages, State, StepKeeps, SyncAt, Thaw}
+use Rattle.gate_schedules.proofs.Prelude.{Tree, View, ViewFits, Words, World, added_by, after_step, ap, arith, at_down_write, cases_Bool}
+use Rattle.gate_schedules.proofs.Prelude.{common_steps, down_write_after, each_updated, false, file_of, has_open, held_of, holders_in, inl, inr}
+use Rattle.gate_schedules.proofs.Prelude.{map_next, model_limits, no_roles, node_shown, openers, opens_in, phase_action, phase_after, refl, roles_of}
+use Rattle.gate_schedules.proofs.Prelude.{shown, stage_role_of, stage_roles, state_after, subst, sym, taken_by, true≢false, update, ℕ, ◌<◌, ◌∙◌, ◌≡◌}
+use Rattle.access_model.specs.{States.Limits, declared.actions.Holders.Holders}
+use Rattle.freeze_laws.specs.stages.{Events.action_of as stage_action_of, Shown.{AsksOthers, ShowsStages}}
+use Rattle.gate_schedules.proofs.frames.{Frames.{left_alone, opens_left, view_as}, Known.{IsOwnersWork, known_after}}
+use Rattle.gate_schedules.proofs.frames.Stages.{IsStageEvent, shown_by, stage_action, stage_effect, stages_after, stages_in}
+use Rattle.gate_schedules.proofs.{levels.LevelPositions.{LevelsHold, left_world}, mounts.Parts.{is_known_part, known_is}}
 
 -- of these roles those that no freeze and no thaw has
 abbrev pub off_writers : Roles → Roles

@@ -1,15 +1,14 @@
 -- A level is closed, where nobody is inside a section and nothing is counted there, and opened, in a bounded number of steps.
-use Rattle.gate_schedules.proofs.Prelude.{Config, DownWrite, DownWriteStep, IsGood, Next, None, RankDecreases, Some, Sum, SyncAt, Transition}
-use Rattle.gate_schedules.proofs.Prelude.{TransitionNext, UpWrite, UpWriteStep, WordName, Words, World, add-one, ap, arith, cases_Bool, closed}
-use Rattle.gate_schedules.proofs.Prelude.{down_write_after, down_write_next, eq-eqb, eqb_tells, found_by, inl, inr, is_frozen_whole, left, ltb-false}
-use Rattle.gate_schedules.proofs.Prelude.{ltb-true, nat_lt, on_exit, read, refl, subst, suc, sym, sync_role_of, total, transition_after, true, unpack}
-use Rattle.gate_schedules.proofs.Prelude.{up_write_after, up_write_next, update_at, wrap_add, ℕ, ◌+◌, ◌<◌, ◌==◌, ◌≡◌, ◌≤◌}
-use Rattle.std.specs.Prelude.{◌%◌, ◌*◌, ◌-◌}
+use Rattle.gate_schedules.proofs.Prelude.{Config, DownWrite, DownWriteStep, IsGood, Next, None, RankDecreases, Some, Sum, SyncAt, SyncHoldsIn}
+use Rattle.gate_schedules.proofs.Prelude.{SyncRole, Transition, TransitionNext, UpWrite, UpWriteStep, WordName, Words, World, add-one, ap, arith}
+use Rattle.gate_schedules.proofs.Prelude.{at_down_write, cases_Bool, closed, down_write_after, down_write_next, down_write_role, eq-eqb, eqb_tells}
+use Rattle.gate_schedules.proofs.Prelude.{exit_made, found_by, inl, inr, is_frozen_whole, left, ltb-false, ltb-true, nat_lt, on_callback, on_enter}
+use Rattle.gate_schedules.proofs.Prelude.{on_exit, read, refl, subst, suc, sym, sync_role_of, total, transition_after, true, unpack, up_write_after}
+use Rattle.gate_schedules.proofs.Prelude.{up_write_next, update_at, wrap_add, ℕ, ◌%◌, ◌*◌, ◌+◌, ◌-◌, ◌<◌, ◌==◌, ◌≡◌, ◌≤◌}
 use Rattle.cpu_words.{proofs.gate_counts.Numbers.{ahead_past, ahead_step}, specs.Sums.{ahead, lead}}
-use Rattle.percpu_rwsem.specs.{Graces.looked, SyncWords.{is_passed, on_callback, on_enter}, Transitions.transition_next, Writers.at_down_write}
-use Rattle.percpu_rwsem.specs.{Writers.{callback_step, enter_step, exit_made, sections_awaited}, declared.grace.GraceNext.GraceNext}
-use Rattle.freeze_laws.specs.levels.{Operations.{down_write_role, up_write_role}, Roles.{Entered, Past, SyncRole, entered, entering}}
-use Rattle.gate_world.specs.{Fits.DownWriteStepFits, Rules.SyncHoldsIn}
+use Rattle.{freeze_laws.specs.levels.{Operations.up_write_role, Roles.{Entered, Past, entered, entering}}, gate_world.specs.Fits.DownWriteStepFits}
+use Rattle.percpu_rwsem.specs.{Graces.looked, SyncWords.is_passed, Transitions.transition_next, Writers.{callback_step, enter_step, sections_awaited}}
+use Rattle.percpu_rwsem.specs.declared.grace.GraceNext.{GraceNext}
 use Rattle.gate_schedules.proofs.{frames.Words.load_same, levels.Facts.{ExchangeFalls, block_clear, defined_falls, enter_defined, exchange_falls}}
 use Rattle.gate_schedules.proofs.{levels.Facts.{exit_defined, writer_called, writer_passed}, operations.callback.Progress.{GraceFalls, look_falls}}
 use Rattle.gate_schedules.{proofs.operations.deadlocks.RankDecreases.after_event, specs.operations.Ranks.{down_rank, exchange_rank, grace_rank}}

@@ -1,15 +1,14 @@
 -- Steps of a freeze or a thaw that leave the words of the levels: on `umount`, loads by the owner, and stores of the stage.
 use Rattle.gate_schedules.proofs.Prelude.{Action, Config, Holding, Holds, IsGood, IsWithin, LevelPosition, None, Option, OwnerHolds, Some, StageEvent}
 use Rattle.gate_schedules.proofs.Prelude.{StageRole, Stages, Tree, TreeState, View, ViewFits, Words, World, ap, arith, common_steps, eqb_tells}
-use Rattle.gate_schedules.proofs.Prelude.{holders_in, inl, inr, is_frozen_whole, model_limits, refl, shown, stage_role_of, stage_roles, subst, sym}
-use Rattle.gate_schedules.proofs.Prelude.{tree_bounds, tree_of, tree_role_of, tree_roles, update, update_same, ℕ, ◌<◌, ◌∙◌, ◌≡◌}
-use Rattle.access_model.specs.Actions.{after_action}
+use Rattle.gate_schedules.proofs.Prelude.{holders_in, inl, inr, is_frozen_whole, model_limits, playing, refl, shown, stage_role_of, stage_roles}
+use Rattle.gate_schedules.proofs.Prelude.{subst, sym, tree_bounds, tree_of, tree_role_of, tree_roles, update, update_same, ℕ, ◌<◌, ◌∙◌, ◌≡◌}
+use Rattle.{access_model.specs.Actions.after_action, freeze_laws.specs.stages.Events.{Stays, action_of as stage_action_of}}
 use Rattle.gated_tree.specs.Roles.{sealed_by}
-use Rattle.gate_schedules.proofs.{frames.{Frames.{SameLevelCounts, left_alone}, Stages.{IsStageEvent, stages_in}}, levels.LevelPositions.HasPosition}
-use Rattle.gate_schedules.proofs.{levels.{LevelPositions.{LevelsHold, left_world}, PositionRoles.levels_stay}, trees.worlds.Trees.sealed_read_only}
-use Rattle.gate_schedules.proofs.{trees.worlds.Trees.{tree_after, tree_then}, writers.Parts.{AsksWhere, IsWriter, LeavesRest, SameAtMounts}}
-use Rattle.gate_schedules.{proofs.writers.Parts.{WriterLaw, writer_law}, specs.trees.Events.{Event, Opens}}
-use Rattle.freeze_laws.specs.stages.Events.{Stays, action_of as stage_action_of, playing}
+use Rattle.gate_schedules.proofs.frames.{Frames.{SameLevelCounts, left_alone}, Stages.{IsStageEvent, stages_in}}
+use Rattle.gate_schedules.proofs.levels.{LevelPositions.{HasPosition, LevelsHold, left_world}, PositionRoles.levels_stay}
+use Rattle.gate_schedules.proofs.{trees.worlds.Trees.{sealed_read_only, tree_after, tree_then}, writers.Parts.{AsksWhere, IsWriter, LeavesRest}}
+use Rattle.gate_schedules.{proofs.writers.Parts.{SameAtMounts, WriterLaw, writer_law}, specs.trees.Events.{Event, Opens}}
 
 -- the words that tell the stage are as they were
 pub record SameStageWords (old new : Words) : Type 0 where

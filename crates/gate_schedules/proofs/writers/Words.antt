@@ -2,15 +2,14 @@
 use Rattle.gate_schedules.proofs.Prelude.{Action, Clearing, Config, DownWrite, DownWriteStep, Holds, IsGood, IsWithin, None, Option, Out, Some}
 use Rattle.gate_schedules.proofs.Prelude.{StageEvent, State, Tree, UpWrite, UpWriteStep, View, ViewFits, Words, World, arith, down_write_after}
 use Rattle.gate_schedules.proofs.Prelude.{down_write_next, holder_role_of, holders_in, is_bare_at, left, model_limits, node_shown, opens_in, owns}
-use Rattle.gate_schedules.proofs.Prelude.{put, read, refl, shown, subst, sym, tree_bounds, tree_of, tree_role_of, tree_roles, turned, up_write_after}
-use Rattle.gate_schedules.proofs.Prelude.{up_write_next, update, ℕ, ◌<◌, ◌∙◌, ◌≡◌}
-use Rattle.access_model.specs.Actions.{after_action}
+use Rattle.gate_schedules.proofs.Prelude.{put, read, refl, shown, state_after, subst, sym, tree_bounds, tree_of, tree_role_of, tree_roles, turned}
+use Rattle.gate_schedules.proofs.Prelude.{up_write_after, up_write_next, update, ℕ, ◌<◌, ◌∙◌, ◌≡◌}
+use Rattle.{access_model.specs.Actions.after_action, freeze_laws.specs.stages.Events.action_of as stage_action_of}
+use Rattle.gate_world.specs.{Levels.{level_added_after, level_taken_after}, Trees.is_sealed, Views.{added_after, taken_after}}
 use Rattle.gate_schedules.proofs.frames.{Frames.{left_alone, unwritten}, Holders.holders_stay, Stages.{IsStageEvent, stages_in}}
 use Rattle.gate_schedules.proofs.{levels.LevelPositions.{LevelsHold, left_world}, trees.worlds.Trees.{tree_after, tree_then}}
 use Rattle.gate_schedules.proofs.writers.{Owner.owner_stays, Parts.{AsksWhere, IsWriter, LeavesRest, SameAtMounts, WriterLaw, writer_law}}
 use Rattle.gate_schedules.specs.trees.Events.{BeginsClearing, Event}
-use Rattle.freeze_laws.specs.stages.{Events.action_of as stage_action_of, Shown.state_after}
-use Rattle.gate_world.specs.{Levels.{level_added_after, level_taken_after}, Trees.is_sealed, Views.{added_after, taken_after}}
 
 -- the words that are no level's own
 abbrev pub off_level_words : Words → Words

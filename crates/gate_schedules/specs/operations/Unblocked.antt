@@ -1,23 +1,20 @@
 -- When the way of a phase is free: where nobody else does anything, none of its steps waits for good.
-use Rattle.std.specs.Prelude.{◌≡◌, ℕ, ◌<◌, ◌≤◌, ◌%◌, Bool, true, false, Some}
-use Rattle.finite_sums.specs.Sums.{total}
-use Rattle.access_model.specs.declared.replies.Next.{Next, TheVariants.{Go, Wait, Done}}
-use Rattle.cpu_words.specs.{Hooks.HookAnswer, Words.Words}
-use Rattle.gated_tree.specs.declared.phases.TreePhase.{TreePhase, TheVariants.Snapshot as Snapshots}
-use Rattle.gated_tree.specs.declared.snapshots.SnapshotStep.{SnapshotStep, TheVariants.Locks as SnapshotLocks}
-use Rattle.mount_counts.specs.{Phases.{has_flag}, declared.phases.ChangeStep.{ChangeStep, TheVariants.{Locks as ChangeLocks}}}
-use Rattle.mount_counts.specs.declared.phases.MountPhase.{MountPhase, TheVariants.{Want as Wants, Change as Changes}}
-use Rattle.mount_counts.specs.declared.remounts.RemountStep.{RemountStep, TheVariants.Locks as RemountLocks}
-use Rattle.percpu_rwsem.specs.declared.readers.DownRead.{DownRead}
-use Rattle.freeze_levels.specs.declared.freezes.FreezeStep.{FreezeStep, TheVariants.{Locks as FreezeLocks, Closes, LocksAgain, Waits as FreezeWaits, Undoes, LocksToUndo}}
-use Rattle.freeze_levels.specs.declared.thaws.ThawStep.{ThawStep, TheVariants.Locks as ThawLocks}
-use Rattle.composite_ops.specs.declared.write_access.phases.WritePhase.{WritePhase, TheVariants.{Takes, Wants as WriteWants}}
-use Rattle.composite_ops.specs.declared.file_closes.phases.ClosePhase.{ClosePhase, TheVariants.{LoadsFile, Enters as EntersLevel}}
-use Rattle.gate_world.specs.{Configs.IsWithin, Rules.IsGood, Work.after_of, Worlds.{World, words_after, found_at}}
-use Rattle.gate_world.specs.declared.{config.Config.{Config}, work.Phase.{Phase}}
-use Rattle.gate_world.specs.declared.work.Phase.TheVariants.{Mounts, Remounts, DownReads, Callbacks, Writes, Freezes, Thaws, Trees}
-use Rattle.gate_world.specs.declared.work.Phase.TheVariants.{Closes as FileCloses}
-use Rattle.gate_schedules.specs.operations.{Progress.{is_admitted, next_level, is_last_close}, Ranks.rank}
+use Rattle.access_model.specs.declared.replies.Next.{Next, TheVariants.{Done, Go, Wait}}
+use Rattle.composite_ops.specs.declared.file_closes.phases.ClosePhase.{ClosePhase, TheVariants.{Enters as EntersLevel, LoadsFile}}
+use Rattle.composite_ops.specs.declared.write_access.phases.WritePhase.{TheVariants.{Takes, Wants as WriteWants}, WritePhase}
+use Rattle.{cpu_words.specs.{Hooks.HookAnswer, Words.Words}, finite_sums.specs.Sums.total}
+use Rattle.freeze_levels.specs.declared.freezes.FreezeStep.{FreezeStep, TheVariants.{Closes, Locks as FreezeLocks, LocksAgain, LocksToUndo, Undoes}}
+use Rattle.freeze_levels.specs.declared.{freezes.FreezeStep.TheVariants.Waits as FreezeWaits, thaws.ThawStep.ThawStep}
+use Rattle.{freeze_levels.specs.declared.thaws.ThawStep.TheVariants.Locks as ThawLocks, gate_world.specs.{Configs.IsWithin, Rules.IsGood}}
+use Rattle.gate_world.specs.{Work.after_of, Worlds.{World, found_at, words_after}, declared.{config.Config.Config, work.Phase.Phase}}
+use Rattle.gate_world.specs.declared.work.Phase.TheVariants.{Callbacks, Closes as FileCloses, DownReads, Freezes, Mounts, Remounts, Thaws, Trees}
+use Rattle.{gate_world.specs.declared.work.Phase.TheVariants.Writes, gated_tree.specs.declared.phases.TreePhase.TheVariants.Snapshot as Snapshots}
+use Rattle.gated_tree.specs.declared.{phases.TreePhase.TreePhase, snapshots.SnapshotStep.{SnapshotStep, TheVariants.Locks as SnapshotLocks}}
+use Rattle.mount_counts.specs.{Phases.has_flag, declared.phases.{ChangeStep.{ChangeStep, TheVariants.Locks as ChangeLocks}, MountPhase.MountPhase}}
+use Rattle.mount_counts.specs.declared.{phases.MountPhase.TheVariants.{Change as Changes, Want as Wants}, remounts.RemountStep.RemountStep}
+use Rattle.{mount_counts.specs.declared.remounts.RemountStep.TheVariants.Locks as RemountLocks, percpu_rwsem.specs.declared.readers.DownRead.DownRead}
+use Rattle.std.specs.Prelude.{Bool, Some, false, true, ℕ, ◌%◌, ◌<◌, ◌≡◌, ◌≤◌}
+use Rattle.gate_schedules.specs.operations.{Progress.{is_admitted, is_last_close, next_level}, Ranks.rank}
 
 -- HOLD, which is 2, is clear at a mount
 abbrev pub HoldIsClear : Words → ℕ → Type 0

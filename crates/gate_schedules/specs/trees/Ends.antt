@@ -1,22 +1,19 @@
 -- What the steps of a call have found, as far as it has come: so each refusal has its cause among them, and an answer its actions.
-use Rattle.std.specs.Prelude.{◌≡◌, ℕ, ◌+◌, ◌<◌, ◌≤◌, nat_lt, Bool, true, Option, Some, None, Result, Ok, Err, List, [], ◌∷◌}
-use Rattle.access_model.specs.declared.actions.Action.{Action}
-use Rattle.access_model.specs.declared.actions.Action.TheVariants.{Create as CreateAction, Remove as RemoveAction, Grow as GrowAction, MoveTo as MoveToAction}
-use Rattle.access_model.specs.declared.actions.Action.TheVariants.{Open as OpenAction}
-use Rattle.access_model.specs.declared.errors.GateError.{GateError, TheVariants.{Again, Invalid}}
-use Rattle.access_model.specs.declared.replies.Next.{Next, TheVariants.{Go, Wait, Done}}
-use Rattle.access_model.specs.declared.replies.Reply.{Reply, TheVariants.{Unit as UnitReply, Node as NodeReply, Tree as TreeReply}}
+use Rattle.access_model.specs.declared.actions.Action.{Action, TheVariants.{Create as CreateAction, Grow as GrowAction, MoveTo as MoveToAction}}
+use Rattle.access_model.specs.declared.{actions.Action.TheVariants.{Open as OpenAction, Remove as RemoveAction}, errors.GateError.GateError}
+use Rattle.access_model.specs.declared.{errors.GateError.TheVariants.{Again, Invalid}, replies.Next.{Next, TheVariants.{Done, Go, Wait}}}
+use Rattle.access_model.specs.declared.replies.Reply.{Reply, TheVariants.{Node as NodeReply, Tree as TreeReply, Unit as UnitReply}}
 use Rattle.cpu_words.specs.declared.events.Event.{Event}
-use Rattle.gated_tree.specs.Phases.{create_after, remove_after, grow_after, move_after, mark_after, mark_done, open_after, snapshot_after}
-use Rattle.gated_tree.specs.Refusals.{CreateHonest, FileHonest, GrowHonest, MoveHonest, SnapshotHonest, finds_taken, finds_other, finds_large, finds_thawed}
-use Rattle.gated_tree.specs.declared.changes.{Create.Create, CreateStep.{CreateStep, TheVariants.{LoadsNode, RefundsChild}}}
+use Rattle.gated_tree.specs.Phases.{create_after, grow_after, mark_after, mark_done, move_after, open_after, remove_after, snapshot_after}
+use Rattle.gated_tree.specs.Refusals.{CreateHonest, FileHonest, GrowHonest, MoveHonest, SnapshotHonest, finds_large, finds_other, finds_taken}
+use Rattle.gated_tree.specs.{Refusals.finds_thawed, declared.changes.{Create.Create, CreateStep.{CreateStep, TheVariants.{LoadsNode, RefundsChild}}}}
 use Rattle.gated_tree.specs.declared.changes.{MoveStep.{MoveStep, TheVariants.RefundsChild as RefundsOne}, MoveTo.MoveTo, Remove.Remove}
-use Rattle.gated_tree.specs.declared.changes.RemoveStep.{RemoveStep}
-use Rattle.gated_tree.specs.declared.changes.RemoveStep.TheVariants.{LoadsFile as LoadsFileToRemove, FreesNode, CountsRemoved, MarksRemoved, RefundsRemoved}
-use Rattle.gated_tree.specs.declared.changes.RemoveStep.TheVariants.{RefundsBlocks as RefundsItsBlocks, RefundsChild as RefundsItsChild}
-use Rattle.gated_tree.specs.declared.{growth.{Grow.Grow, GrowStep.{GrowStep, TheVariants.{LoadsUsed, RefundsBlocks}}}, marks.{Mark.Mark, MarkStep.MarkStep}}
-use Rattle.gated_tree.specs.declared.opens.{OpenFile.OpenFile, OpenStep.OpenStep}
-use Rattle.gated_tree.specs.declared.snapshots.{Snapshot.Snapshot, SnapshotStep.{SnapshotStep, TheVariants.Releases}}
+use Rattle.gated_tree.specs.declared.changes.RemoveStep.{RemoveStep, TheVariants.{CountsRemoved, FreesNode, LoadsFile as LoadsFileToRemove}}
+use Rattle.gated_tree.specs.declared.changes.RemoveStep.TheVariants.{MarksRemoved, RefundsBlocks as RefundsItsBlocks, RefundsChild as RefundsItsChild}
+use Rattle.gated_tree.specs.declared.{changes.RemoveStep.TheVariants.RefundsRemoved, growth.{Grow.Grow, GrowStep.{GrowStep, TheVariants.LoadsUsed}}}
+use Rattle.gated_tree.specs.declared.{growth.GrowStep.TheVariants.RefundsBlocks, marks.{Mark.Mark, MarkStep.MarkStep}, opens.OpenFile.OpenFile}
+use Rattle.gated_tree.specs.declared.{opens.OpenStep.OpenStep, snapshots.{Snapshot.Snapshot, SnapshotStep.{SnapshotStep, TheVariants.Releases}}}
+use Rattle.std.specs.Prelude.{Bool, Err, List, None, Ok, Option, Result, Some, [], nat_lt, true, ℕ, ◌+◌, ◌<◌, ◌∷◌, ◌≡◌, ◌≤◌}
 
 -- an action, if there is one, on top of the earlier ones
 abbrev pub with_action : Option Action → List Action → List Action

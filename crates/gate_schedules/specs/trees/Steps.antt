@@ -1,13 +1,12 @@
 -- One step of a call, among all words.
-use Rattle.std.specs.Prelude.{◌≡◌, ℕ, suc, ◌+◌, ◌<◌, Bool, true, false, Option}
-use Rattle.finite_sums.specs.Sums.{update}
-use Rattle.access_model.specs.declared.actions.Action.{Action}
-use Rattle.cpu_words.specs.{Hooks.HookAnswer, Touches.{left, found_by}, Words.{Words, read, put}, declared.{events.Touch.Touch, names.WordName.WordName}}
-use Rattle.gated_tree.specs.{Calls.{phase_role, role_after}, Phases.{next, after}, Roles.{Role, Bounds, TreeState, TreeHolds, NobodyReads, MayDirty, MayRemove}}
-use Rattle.gated_tree.specs.declared.phases.TreePhase.{TreePhase}
-use Rattle.gated_tree.specs.declared.phases.TreePhase.TheVariants.{Create as Creates, Remove as Removes, Grow as Grows, MoveTo as Moves, Mark as Marks}
-use Rattle.gated_tree.specs.declared.phases.TreePhase.TheVariants.{OpenFile as OpensOne, Snapshot as Snapshots, ClearMarks as Clears}
-use Rattle.gated_tree.specs.declared.snapshots.SnapshotStep.{SnapshotStep, TheVariants.{LoadsUsed, LoadsNode, LoadsKids}}
+use Rattle.{access_model.specs.declared.actions.Action.Action, cpu_words.specs.{Hooks.HookAnswer, Touches.{found_by, left}, Words.{Words, put, read}}}
+use Rattle.{cpu_words.specs.declared.{events.Touch.Touch, names.WordName.WordName}, finite_sums.specs.Sums.update, gated_tree.specs.Calls.phase_role}
+use Rattle.gated_tree.specs.{Calls.role_after, Phases.{after, next}, Roles.{Bounds, MayDirty, MayRemove, NobodyReads, Role, TreeHolds, TreeState}}
+use Rattle.gated_tree.specs.declared.phases.TreePhase.TheVariants.{ClearMarks as Clears, Create as Creates, Grow as Grows, Mark as Marks}
+use Rattle.gated_tree.specs.declared.phases.TreePhase.TheVariants.{MoveTo as Moves, OpenFile as OpensOne, Remove as Removes, Snapshot as Snapshots}
+use Rattle.gated_tree.specs.declared.{phases.TreePhase.TreePhase, snapshots.SnapshotStep.SnapshotStep}
+use Rattle.gated_tree.specs.declared.snapshots.SnapshotStep.TheVariants.{LoadsKids, LoadsNode, LoadsUsed}
+use Rattle.std.specs.Prelude.{Bool, Option, false, suc, true, ℕ, ◌+◌, ◌<◌, ◌≡◌}
 use Rattle.gate_schedules.specs.trees.Events.{MayClean, MovesBy}
 
 -- the tree among all words, with the roles of all tasks

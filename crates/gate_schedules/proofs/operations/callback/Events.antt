@@ -1,18 +1,17 @@
 -- Steps of a callback: each keeps the invariant, and leaves the shown state.
 use Rattle.gate_schedules.proofs.Prelude.{AtLevel, Callback, Config, Fits, Fitting, Holdings, Holds, HookAnswer, IsGood, IsWithin, Moves, Next, None}
-use Rattle.gate_schedules.proofs.Prelude.{Phase, PhaseFits, Some, StepKeeps, SyncAt, SyncStep, Touch, View, ViewFits, WordName, Words, World}
-use Rattle.gate_schedules.proofs.Prelude.{actions_after, ap, arith, common_steps, eqb_tells, found_by, held_of, if◌then◌else◌, inl, inr, inside, left}
-use Rattle.gate_schedules.proofs.Prelude.{left_by, level_added_by, level_in, level_role_of, level_taken_by, map_next, phase_after, put, read, shown}
-use Rattle.gate_schedules.proofs.Prelude.{subst, sym, sync_role_of, update, update_same, view_after, ℕ, ◌<◌, ◌∙◌, ◌≡◌, ◌≤◌}
-use Rattle.access_model.specs.Histories.{levels_of}
-use Rattle.cpu_words.specs.gate_counts.Levels.{Out as CountsNot}
-use Rattle.gate_schedules.proofs.{frames.Frames.{left_alone, level_view_as}, levels.Parts.{IsAtLevels, SameAtMounts, SameOffLevels, level_parts}}
-use Rattle.gate_schedules.proofs.levels.{Parts.{level_still, whole_same}, Worlds.{IsEventAt, IsOfLevel, found_level, level_there, sync_elsewhere}}
-use Rattle.gate_schedules.proofs.levels.Worlds.{sync_off, sync_on}
-use Rattle.gate_world.specs.{Fits.GraceFits, Levels.{level_added_after, level_taken_after}}
-use Rattle.freeze_laws.{proofs.levels.Operations.callbacks_are_there, specs.levels.{Events.{SyncLevel, SyncLevelHolds}, Operations.CallbackIsThere}}
-use Rattle.freeze_laws.specs.levels.{Operations.{HoldsOfNext, KnowsCallback, by_next, callback_role, put_at, value_at}, Roles.Out as IsApart}
+use Rattle.gate_schedules.proofs.Prelude.{Phase, PhaseFits, Some, StepKeeps, SyncAt, SyncLevelHolds, SyncStep, Touch, View, ViewFits, WordName, Words}
+use Rattle.gate_schedules.proofs.Prelude.{World, actions_after, ap, arith, common_steps, eqb_tells, found_by, held_of, if◌then◌else◌, inl, inr}
+use Rattle.gate_schedules.proofs.Prelude.{inside, left, left_by, level_added_by, level_in, level_role_of, level_taken_by, map_next, phase_after, put}
+use Rattle.gate_schedules.proofs.Prelude.{read, shown, subst, sym, sync_role_of, update, update_same, view_after, ℕ, ◌<◌, ◌∙◌, ◌≡◌, ◌≤◌}
+use Rattle.{access_model.specs.Histories.levels_of, cpu_words.specs.gate_counts.Levels.Out as CountsNot}
+use Rattle.freeze_laws.{proofs.levels.Operations.callbacks_are_there, specs.levels.Events.SyncLevel}
+use Rattle.freeze_laws.specs.levels.Operations.{CallbackIsThere, HoldsOfNext, KnowsCallback, by_next, callback_role, put_at, value_at}
+use Rattle.{freeze_laws.specs.levels.Roles.Out as IsApart, gate_world.specs.{Fits.GraceFits, Levels.{level_added_after, level_taken_after}}}
 use Rattle.percpu_rwsem.specs.{Callbacks.{at_callback, callback_after, callback_next}, declared.callbacks.CallbackStep.CallbackStep}
+use Rattle.gate_schedules.proofs.frames.Frames.{left_alone, level_view_as}
+use Rattle.gate_schedules.proofs.levels.Parts.{IsAtLevels, SameAtMounts, SameOffLevels, level_parts, level_still, whole_same}
+use Rattle.gate_schedules.proofs.levels.Worlds.{IsEventAt, IsOfLevel, found_level, level_there, sync_elsewhere, sync_off, sync_on}
 
 pub event_of_level : (b : Callback) (s : CallbackStep) → IsEventAt b.level (callback_next b s).0 (callback_next b s).1
 event_of_level b s = grind arith

@@ -1,17 +1,14 @@
 -- A callback runs out where nobody is inside a section.
 use Rattle.gate_schedules.proofs.Prelude.{Callback, Config, Fits, Fitting, IsGood, IsUnblocked, None, Phase, PhaseEnds, PhaseFits, RankDecreases}
-use Rattle.gate_schedules.proofs.Prelude.{SyncAt, Transition, TransitionNext, WordName, Words, World, ap, arith, eq-eqb, found_at, found_by, held_of}
-use Rattle.gate_schedules.proofs.Prelude.{is_frozen_whole, left, rank, read, refl, subst, sym, sync_role_of, transition_after, update_at, words_after}
-use Rattle.gate_schedules.proofs.Prelude.{ℕ, ◌+◌, ◌<◌, ◌==◌, ◌∙◌, ◌≡◌, ◌≤◌}
+use Rattle.gate_schedules.proofs.Prelude.{SyncAt, SyncHoldsIn, Transition, TransitionNext, WordName, Words, World, ap, arith, eq-eqb, found_at}
+use Rattle.gate_schedules.proofs.Prelude.{found_by, held_of, is_frozen_whole, left, on_callback, rank, read, refl, subst, sym, sync_role_if}
+use Rattle.gate_schedules.proofs.Prelude.{sync_role_of, transition_after, update_at, words_after, ℕ, ◌%◌, ◌+◌, ◌<◌, ◌==◌, ◌∙◌, ◌≡◌, ◌≤◌}
+use Rattle.{freeze_laws.specs.levels.{Operations.callback_role, Roles.{Ready, claimed as has_claimed}}, gate_world.specs.Fits.GraceFits}
+use Rattle.percpu_rwsem.specs.{Callbacks.{callback_after, callback_looked, callback_next, called_back, claimed}, Graces.looked, SyncWords.on_claim}
+use Rattle.percpu_rwsem.specs.{Transitions.transition_next, declared.{callbacks.CallbackStep.CallbackStep, grace.{Grace.Grace, GraceNext.GraceNext}}}
 use Rattle.gate_schedules.proofs.{frames.Words.load_same, levels.Facts.{ExchangeFalls, callback_called, defined_falls, exchange_falls}}
-use Rattle.gate_schedules.{proofs.operations.deadlocks.RankDecreases.{after_event, falls_as}, specs.operations.Ranks.{callback_rank, exchange_rank}}
-use Rattle.gate_schedules.specs.operations.{Ranks.grace_rank, Unblocked.NobodyInside}
-use Rattle.gate_world.specs.{Fits.GraceFits, Roles.sync_role_if, Rules.SyncHoldsIn}
-use Rattle.freeze_laws.specs.levels.{Operations.callback_role, Roles.{Ready, claimed as has_claimed}}
-use Rattle.percpu_rwsem.specs.{Callbacks.{callback_after, callback_looked, callback_next, called_back, claimed}, Graces.looked, SyncWords.on_callback}
-use Rattle.percpu_rwsem.specs.{SyncWords.on_claim, Transitions.transition_next, declared.{callbacks.CallbackStep.CallbackStep, grace.Grace.Grace}}
-use Rattle.percpu_rwsem.specs.declared.grace.GraceNext.{GraceNext}
-use Rattle.std.specs.Prelude.{◌%◌}
+use Rattle.gate_schedules.proofs.operations.deadlocks.RankDecreases.{after_event, falls_as}
+use Rattle.gate_schedules.specs.operations.{Ranks.{callback_rank, exchange_rank, grace_rank}, Unblocked.NobodyInside}
 
 -- what comes after a look at a section word that is even
 abbrev pub GraceFalls : ℕ → GraceNext → Type 0

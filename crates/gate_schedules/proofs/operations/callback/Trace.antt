@@ -1,7 +1,6 @@
 -- Traces of a callback.
 use Rattle.gate_schedules.proofs.Prelude.{Action, Callback, Config, List, Op, Phase, Traced, [], arith, common_steps, ℕ, ◌≡◌}
-use Rattle.percpu_rwsem.specs.declared.callbacks.CallbackStep.{CallbackStep}
-use Rattle.gate_world.specs.traces.Found.{transitions_made}
+use Rattle.{gate_world.specs.traces.Found.transitions_made, percpu_rwsem.specs.declared.callbacks.CallbackStep.CallbackStep}
 use Rattle.gate_schedules.proofs.traces.TraceInvariant.{IsInductive}
 
 -- a callback of this level over so many tasks, at a step

@@ -1,11 +1,9 @@
 -- Traces of a create.
-use Rattle.gate_schedules.proofs.Prelude.{Action, Config, Create, CreateStep, IsWithin, List, Op, Phase, Traced, TreePhase, [], arith, common_steps}
-use Rattle.gate_schedules.proofs.Prelude.{false, ℕ, ◌+◌, ◌<◌}
-use Rattle.access_model.specs.declared.actions.Kind.{Kind}
-use Rattle.gated_tree.specs.Phases.{at_create}
+use Rattle.gate_schedules.proofs.Prelude.{Action, Config, Create, CreateStep, IsWithin, Kind, List, Op, Phase, Traced, TreePhase, [], arith}
+use Rattle.gate_schedules.proofs.Prelude.{common_steps, false, ℕ, ◌+◌, ◌<◌}
+use Rattle.{gate_world.specs.Operations.first_create, gated_tree.specs.Phases.at_create}
 use Rattle.gate_schedules.proofs.{operations.calls.Trace.CallAt, traces.TraceInvariant.{TraceLaws, traces_given_reads}}
 use Rattle.gate_schedules.specs.trees.Ends.{CreateKnows}
-use Rattle.gate_world.specs.Operations.{first_create}
 
 -- the node that a create loads is one of the tree's
 abbrev StepInvariant : Config → List Traced → CreateStep → Type 0

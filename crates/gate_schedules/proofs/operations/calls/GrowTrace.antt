@@ -1,8 +1,7 @@
 -- Traces of a grow.
 use Rattle.gate_schedules.proofs.Prelude.{Action, Config, Grow, GrowStep, List, Op, Phase, Traced, TreePhase, [], arith, common_steps, false, ℕ}
-use Rattle.gated_tree.specs.Phases.{at_grow}
+use Rattle.{gate_world.specs.Operations.first_grow, gated_tree.specs.Phases.at_grow}
 use Rattle.gate_schedules.{proofs.{operations.calls.Trace.CallAt, traces.TraceInvariant.{TraceLaws, traces_given_reads}}, specs.trees.Ends.GrowKnows}
-use Rattle.gate_world.specs.Operations.{first_grow}
 
 -- how many steps a grow has done before a program point
 abbrev events_before : GrowStep → ℕ

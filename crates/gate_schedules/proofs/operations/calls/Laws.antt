@@ -1,10 +1,9 @@
 -- All that is proved of the beginnings and the traces of the operations at the tree.
-use Rattle.gate_schedules.proofs.Prelude.{Bool, Config, Op, arith, ltb-true, ℕ}
+use Rattle.gate_schedules.proofs.Prelude.{Bool, Config, Kind, Op, arith, ltb-true, ℕ}
 use Rattle.gate_schedules.proofs.frames.{Agreeing.{faulter_agrees, none_agree, writer_agrees}, OperationLaws.OpLaws}
 use Rattle.gate_schedules.proofs.operations.calls.{CreateTrace.create_traces, GrowTrace.grow_traces, MarkTrace.{fault_traces, flush_traces}}
 use Rattle.gate_schedules.proofs.operations.calls.{MoveTrace.move_traces, OpenTrace.open_traces, RemoveTrace.remove_traces}
 use Rattle.gate_schedules.proofs.{operations.snapshot.Trace.snapshot_traces, trees.worlds.Holders.both_true}
-use Rattle.access_model.specs.declared.actions.Kind.{Kind}
 
 pub create_keeps : (c : Config) (d : ℕ) (kind : Kind) → OpLaws c (Op.Create d kind)
 create_keeps c d kind = grind (arith, create_traces, writer_agrees, ltb-true)

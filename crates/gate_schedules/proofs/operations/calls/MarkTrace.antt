@@ -1,9 +1,8 @@
 -- Traces of a page fault and of a write-back.
 use Rattle.gate_schedules.proofs.Prelude.{Action, Bool, Config, List, Mark, MarkStep, Op, Phase, Traced, TreePhase, [], arith, common_steps, false}
 use Rattle.gate_schedules.proofs.Prelude.{true, ℕ}
-use Rattle.gated_tree.specs.Phases.{at_mark}
+use Rattle.{gate_world.specs.Operations.first_mark, gated_tree.specs.Phases.at_mark}
 use Rattle.gate_schedules.proofs.{operations.calls.Trace.CallAt, traces.TraceInvariant.{TraceLaws, traces_given_reads}}
-use Rattle.gate_world.specs.Operations.{first_mark}
 
 -- how many steps one has done before a program point
 abbrev events_before : MarkStep → ℕ

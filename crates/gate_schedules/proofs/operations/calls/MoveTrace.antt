@@ -1,9 +1,8 @@
 -- Traces of a move.
 use Rattle.gate_schedules.proofs.Prelude.{Action, Config, List, MoveStep, MoveTo, Op, Phase, Traced, TreePhase, arith, common_steps, false, ℕ}
-use Rattle.gated_tree.specs.Phases.{at_move}
-use Rattle.gate_schedules.{proofs.{operations.calls.Trace.CallAt, traces.TraceInvariant.{TraceLaws, traces_given_reads}}, specs.trees.Ends.MoveKnows}
-use Rattle.gate_schedules.specs.trees.Ends.{move_added}
-use Rattle.gate_world.specs.Operations.{first_move}
+use Rattle.{gate_world.specs.Operations.first_move, gated_tree.specs.Phases.at_move}
+use Rattle.gate_schedules.proofs.{operations.calls.Trace.CallAt, traces.TraceInvariant.{TraceLaws, traces_given_reads}}
+use Rattle.gate_schedules.specs.trees.Ends.{MoveKnows, move_added}
 
 -- how many steps a move has done before a program point
 abbrev events_before : MoveStep → ℕ

@@ -1,13 +1,12 @@
 -- A call at the tree that its next step refuses for what a node is: the step loads that node, and the shown state has it so.
-use Rattle.gate_schedules.proofs.Prelude.{ClearMarks, Config, Create, CreateStep, Err, GateError, Grow, GrowStep, HookAnswer, List, Mark, MarkStep}
-use Rattle.gate_schedules.proofs.Prelude.{MoveStep, MoveTo, Next, NodeWord, OpenFile, OpenStep, Option, Phase, Remove, RemoveStep, Reply, Result}
-use Rattle.gate_schedules.proofs.Prelude.{Some, TreePhase, World, after_of, arith, clear_after, common_steps, found_at, if◌then◌else◌, map_next}
-use Rattle.gate_schedules.proofs.Prelude.{mark_after, nat_lt, node_shown, refl, shown, word_of, ℕ, ◌==◌, ◌∷◌, ◌≡◌}
-use Rattle.std.specs.Prelude.{Bool, false, true, ◌+◌}
-use Rattle.gated_tree.specs.{Calls.{IsMoveAnswer, MoveStepFits}, Phases.{at_create, at_grow, at_mark, at_move, at_open, at_remove, create_after}}
-use Rattle.gated_tree.specs.Phases.{create_looked, grow_after, move_after, open_after, remove_after}
-use Rattle.node_words.specs.{Nodes.{directory_in, file_in, node_after, unpacked}, Phases.{after_look, clears_at}}
+use Rattle.gate_schedules.proofs.Prelude.{Bool, ClearMarks, Config, Create, CreateStep, Err, GateError, Grow, GrowStep, HookAnswer, List, Mark}
+use Rattle.gate_schedules.proofs.Prelude.{MarkStep, MoveStep, MoveTo, Next, NodeWord, OpenFile, OpenStep, Option, Phase, Remove, RemoveStep, Reply}
+use Rattle.gate_schedules.proofs.Prelude.{Result, Some, TreePhase, World, after_look, after_of, arith, clear_after, common_steps, create_after, false}
+use Rattle.gate_schedules.proofs.Prelude.{found_at, grow_after, if◌then◌else◌, map_next, mark_after, move_after, nat_lt, node_after, node_shown}
+use Rattle.gate_schedules.proofs.Prelude.{open_after, refl, remove_after, shown, true, unpacked, word_of, ℕ, ◌+◌, ◌==◌, ◌∷◌, ◌≡◌}
 use Rattle.gate_world.specs.refusals.Causes.{CallRefused, TellsOf, tree_sees}
+use Rattle.gated_tree.specs.{Calls.{IsMoveAnswer, MoveStepFits}, Phases.{at_create, at_grow, at_mark, at_move, at_open, at_remove, create_looked}}
+use Rattle.node_words.specs.{Nodes.{directory_in, file_in}, Phases.clears_at}
 
 pub some_is : {A : Type 0} (a b : A) → Some a ≡ Some b → a ≡ b
 some_is a b e = cc

@@ -1,8 +1,7 @@
 -- Traces of an open.
 use Rattle.gate_schedules.proofs.Prelude.{Action, Config, List, Op, OpenFile, OpenStep, Phase, Traced, TreePhase, [], arith, common_steps, false, ℕ}
-use Rattle.gated_tree.specs.Phases.{at_open}
+use Rattle.{gate_world.specs.Operations.first_open, gated_tree.specs.Phases.at_open}
 use Rattle.gate_schedules.proofs.{operations.calls.Trace.CallAt, traces.TraceInvariant.{TraceLaws, traces_given_reads}}
-use Rattle.gate_world.specs.Operations.{first_open}
 
 -- how many steps an open has done before a program point
 abbrev events_before : OpenStep → ℕ

@@ -1,14 +1,13 @@
 -- The calls at the tree run out, a snapshot where it finds `umount` free.
 use Rattle.gate_schedules.proofs.Prelude.{ClearMarks, Config, Create, CreateStep, Grow, GrowStep, HookAnswer, IsUnblocked, Mark, MarkStep, MoveStep}
-use Rattle.gate_schedules.proofs.Prelude.{MoveTo, OpenFile, OpenStep, Phase, PhaseEnds, RankDecreases, Remove, RemoveStep, Snapshot, SnapshotStep}
-use Rattle.gate_schedules.proofs.Prelude.{TreePhase, Words, arith, clear_after, common_steps, found_at, found_by, mark_after, rank, read, words_after}
-use Rattle.gate_schedules.proofs.Prelude.{ℕ}
-use Rattle.std.specs.Prelude.{◌-◌}
-use Rattle.gated_tree.specs.Phases.{after as tree_after, create_after, create_next, grow_after, grow_next, mark_next, move_after, move_next}
-use Rattle.gated_tree.specs.Phases.{next as tree_next, open_after, open_next, remove_after, remove_next, snapshot_after, snapshot_next}
-use Rattle.gate_world.specs.traces.TraceStates.{OpenReadIsValid, ReadIsValid, WordIsValid}
-use Rattle.gate_schedules.{proofs.{frames.ValidWords.events_may_be, operations.deadlocks.RankDecreases.falls_as}, specs.operations.Ranks.create_rank}
-use Rattle.gate_schedules.specs.operations.Ranks.{grow_rank, mark_rank, move_rank, open_rank, remove_rank, snapshot_rank, tree_rank}
+use Rattle.gate_schedules.proofs.Prelude.{MoveTo, OpenFile, OpenStep, Phase, PhaseEnds, RankDecreases, ReadIsValid, Remove, RemoveStep, Snapshot}
+use Rattle.gate_schedules.proofs.Prelude.{SnapshotStep, TreePhase, Words, arith, clear_after, common_steps, create_after, found_at, found_by}
+use Rattle.gate_schedules.proofs.Prelude.{grow_after, mark_after, move_after, open_after, rank, read, remove_after, snapshot_next, words_after, ℕ}
+use Rattle.gate_schedules.proofs.Prelude.{◌-◌}
+use Rattle.{gate_world.specs.traces.TraceStates.{OpenReadIsValid, WordIsValid}, gated_tree.specs.Phases.{after as tree_after, create_next, grow_next}}
+use Rattle.gated_tree.specs.Phases.{mark_next, move_next, next as tree_next, open_next, remove_next, snapshot_after}
+use Rattle.gate_schedules.proofs.{frames.ValidWords.events_may_be, operations.deadlocks.RankDecreases.falls_as}
+use Rattle.gate_schedules.specs.operations.Ranks.{create_rank, grow_rank, mark_rank, move_rank, open_rank, remove_rank, snapshot_rank, tree_rank}
 use Rattle.gate_schedules.specs.operations.Unblocked.{SnapshotIsUnblocked, TreeIsUnblocked}
 
 module _ (w : Words) where

@@ -1,9 +1,8 @@
 -- Traces of a remove.
 use Rattle.gate_schedules.proofs.Prelude.{Action, Config, List, Op, Phase, Remove, RemoveStep, Traced, TreePhase, arith, common_steps, false, ℕ}
-use Rattle.gated_tree.specs.Phases.{at_remove}
+use Rattle.{gate_world.specs.Operations.first_remove, gated_tree.specs.Phases.at_remove}
 use Rattle.gate_schedules.proofs.{operations.calls.Trace.CallAt, traces.TraceInvariant.{TraceLaws, traces_given_reads}}
 use Rattle.gate_schedules.specs.trees.Ends.{RemoveKnows, remove_added}
-use Rattle.gate_world.specs.Operations.{first_remove}
 
 -- how many steps a remove has done before a program point
 abbrev events_before : RemoveStep → ℕ

@@ -1,14 +1,13 @@
 -- Of the calls at the tree only a snapshot waits, and only where another task has `umount`; each is refused only for its cause.
-use Rattle.gate_schedules.proofs.Prelude.{ClearMarks, Config, Create, CreateStep, Err, GateError, Grow, GrowStep, HasReason, HookAnswer, IsGood, List}
-use Rattle.gate_schedules.proofs.Prelude.{Mark, MarkStep, MoveStep, MoveTo, Next, Ok, OpenFile, OpenStep, Option, Phase, PhaseFits, Remove}
+use Rattle.gate_schedules.proofs.Prelude.{Bool, ClearMarks, Config, Create, CreateStep, Err, GateError, Grow, GrowStep, HasReason, HookAnswer, IsGood}
+use Rattle.gate_schedules.proofs.Prelude.{List, Mark, MarkStep, MoveStep, MoveTo, Next, Ok, OpenFile, OpenStep, Option, Phase, PhaseFits, Remove}
 use Rattle.gate_schedules.proofs.Prelude.{RemoveStep, Snapshot, SnapshotStep, Some, TreePhase, World, after_of, ap, arith, clear_after, common_steps}
-use Rattle.gate_schedules.proofs.Prelude.{eqb_tells, found_at, held_of, if◌then◌else◌, inl, inr, is_some, map_next, mark_after, owns, shown, ℕ, ◌<◌}
-use Rattle.gate_schedules.proofs.Prelude.{◌==◌, ◌∷◌, ◌≡◌}
-use Rattle.std.specs.Prelude.{Bool, false, true}
-use Rattle.node_words.specs.{Nodes.{node_after, unpacked}, Phases.clears_at}
-use Rattle.gated_tree.specs.Phases.{at_snapshot, create_after, grow_after, move_after, node_step, open_after, remove_after, snapshot_locked_out}
+use Rattle.gate_schedules.proofs.Prelude.{create_after, eqb_tells, false, found_at, grow_after, held_of, if◌then◌else◌, inl, inr, is_some, map_next}
+use Rattle.gate_schedules.proofs.Prelude.{mark_after, move_after, node_after, open_after, owns, remove_after, shown, true, unpacked, ℕ, ◌<◌, ◌==◌}
+use Rattle.gate_schedules.proofs.Prelude.{◌∷◌, ◌≡◌}
 use Rattle.gate_world.specs.refusals.{Causes.{CallRefused, IsTaken, TellsOf, TreeRefused, tree_sees}, KeptCauses.{SnapshotCause, TreeCause}}
-use Rattle.gate_world.specs.refusals.Waits.{HasCulprit}
+use Rattle.{gate_world.specs.refusals.Waits.HasCulprit, gated_tree.specs.Phases.{at_snapshot, node_step, snapshot_locked_out}}
+use Rattle.node_words.specs.Phases.{clears_at}
 use Rattle.gate_schedules.proofs.{frames.Owners.umount_taken, operations.calls.NodeCauses.{call_refused, clear_node, create_node, grow_node}}
 use Rattle.gate_schedules.proofs.operations.calls.NodeCauses.{is_of_node, mark_node, move_node, open_node, remove_node}
 

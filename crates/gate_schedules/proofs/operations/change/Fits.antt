@@ -1,8 +1,7 @@
 -- What fits after a step of a change.
-use Rattle.gate_schedules.proofs.Prelude.{ActionFits, ChangeStep, Config, Fits, Holdings, IsWithin, IsWord, MountPhase, Phase, arith, held_after}
-use Rattle.gate_schedules.proofs.Prelude.{map_next, phase_after, ℕ, ◌<◌}
-use Rattle.mount_counts.specs.{Phases.{change_after, change_next}, declared.phases.Change.Change}
-use Rattle.gate_world.specs.{Configs.extents_of, Fits.{MountFits, SumFits}}
+use Rattle.gate_schedules.proofs.Prelude.{ActionFits, ChangeStep, Config, Fits, Holdings, IsWithin, IsWord, MountPhase, Phase, arith, extents_of}
+use Rattle.gate_schedules.proofs.Prelude.{held_after, map_next, phase_after, ℕ, ◌<◌}
+use Rattle.{gate_world.specs.Fits.{MountFits, SumFits}, mount_counts.specs.{Phases.{change_after, change_next}, declared.phases.Change.Change}}
 
 pub change_there : (c : Config) (x : Change) (step : ChangeStep) → x.mount < c.mounts → SumFits c step → IsWord (extents_of c) (change_next x step).0
 change_there c x step m f = grind arith

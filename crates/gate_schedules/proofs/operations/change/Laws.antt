@@ -1,12 +1,11 @@
 -- All that is proved of a change.
-use Rattle.gate_schedules.proofs.Prelude.{Bool, Config, Fits, Fitting, MountPhase, Op, Phase, Some, after_step, arith, held_of, ltb-true, no_roles}
-use Rattle.gate_schedules.proofs.Prelude.{refl, subst, ℕ}
+use Rattle.gate_schedules.proofs.Prelude.{Bool, Config, Fits, Fitting, MountPhase, Op, Phase, Some, after_step, arith, held_of, ltb-true, most_events}
+use Rattle.gate_schedules.proofs.Prelude.{no_roles, refl, subst, ℕ}
+use Rattle.mount_counts.specs.declared.phases.Change.{Change}
 use Rattle.gate_schedules.proofs.frames.{Agreeing.none_agree, Frames.role_none, OperationLaws.{IsSmall, OpLaws, PhaseLaws, by_bool, word_among}}
 use Rattle.gate_schedules.proofs.{frames.Snapshots.completes_none, mounts.Runs.mounts_run, operations.change.Causes.{change_cause_stays, change_own}}
 use Rattle.gate_schedules.proofs.operations.change.{Events.change_keeps, Fits.{change_acts, change_goes, change_there}, Trace.ChangeAt}
 use Rattle.gate_schedules.proofs.{operations.change.{Trace.change_inductive as change_traced, Waits.change_waits}, traces.TraceInvariant.traces_tell}
-use Rattle.gate_world.specs.traces.Traces.{most_events}
-use Rattle.mount_counts.specs.declared.phases.Change.{Change}
 
 pub change_phase : (c : Config) (x : Change) → PhaseLaws c (Phase.Mounts (MountPhase.Change x))
 change_phase c x = record {

@@ -1,7 +1,6 @@
 -- The causes and the waits of a close: those of a down-read of level 3, where it is a last one.
-use Rattle.gate_schedules.proofs.Prelude.{CauseOf, ClosePhase, Config, DownRead, GateError, List, Next, NodeWord, Option, Phase, Result, World, arith}
-use Rattle.gate_schedules.proofs.Prelude.{map_next, phase_after, ℕ, ◌∷◌, ◌≡◌}
-use Rattle.node_words.specs.Phases.{after_look}
+use Rattle.gate_schedules.proofs.Prelude.{CauseOf, ClosePhase, Config, DownRead, GateError, List, Next, NodeWord, Option, Phase, Result, World}
+use Rattle.gate_schedules.proofs.Prelude.{after_look, arith, map_next, phase_after, ℕ, ◌∷◌, ◌≡◌}
 use Rattle.composite_ops.specs.{declared.file_closes.phases.Closing.Closing, file_closes.Phases.{closed_from, then_frees}}
 use Rattle.gate_schedules.proofs.operations.readers.Causes.{AsksNext, HasNextCause}
 

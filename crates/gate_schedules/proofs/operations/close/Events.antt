@@ -1,19 +1,18 @@
 -- A close at the tree: each of its steps there is one of the tree's, and nobody is in the way of a last close inside level 3.
-use Rattle.gate_schedules.proofs.Prelude.{AreWithin, Bool, Bounds, ClosePhase, Config, Err, Files, GateError, HasFile, IsGood, IsWithin, List}
-use Rattle.gate_schedules.proofs.Prelude.{NodeWord, None, Ok, Option, Out, Phase, Result, Role, RoleHolds, Some, Stages, Traced, Tree, TreeHolds}
-use Rattle.gate_schedules.proofs.Prelude.{TreeState, WordName, Words, World, ap, arith, cases_Bool, eqb_tells, false, file_of, has_open, holds_level}
-use Rattle.gate_schedules.proofs.Prelude.{if◌then◌else◌, inl, inr, is_bare_at, is_removed, node_shown, one_if, openers, opens_in, refl, removal}
-use Rattle.gate_schedules.proofs.Prelude.{role_after, subst, sym, total, total_at, total_updated, tree_bounds, tree_of, tree_role_of, tree_roles}
-use Rattle.gate_schedules.proofs.Prelude.{true, turned, update, update_off, word_of, ℕ, ◌&&◌, ◌<◌, ◌==◌, ◌∙◌, ◌≡◌, ◌≤◌}
-use Rattle.std.proofs.lemmas.Bool.{true≢false}
+use Rattle.gate_schedules.proofs.Prelude.{AreWithin, Bool, Bounds, ClosePhase, Config, Err, Files, Freeing, GateError, HasFile, IsGood, IsWithin}
+use Rattle.gate_schedules.proofs.Prelude.{List, NobodyReads, NodeWord, None, Ok, Option, Out, Phase, Result, Role, RoleHolds, Some, Stages, Traced}
+use Rattle.gate_schedules.proofs.Prelude.{Tree, TreeHolds, TreeState, WordName, Words, World, after_look, ap, arith, cases_Bool, eqb_tells, false}
+use Rattle.gate_schedules.proofs.Prelude.{file_of, has_open, holds_level, if◌then◌else◌, inl, inr, is_bare_at, is_removed, node_shown, one_if}
+use Rattle.gate_schedules.proofs.Prelude.{openers, opens_in, refl, removal, role_after, subst, sym, total, total_at, total_updated, tree_bounds}
+use Rattle.gate_schedules.proofs.Prelude.{tree_of, tree_role_of, tree_roles, true, turned, update, update_off, word_of, ℕ, ◌&&◌, ◌<◌, ◌==◌, ◌∙◌, ◌≡◌}
+use Rattle.gate_schedules.proofs.Prelude.{◌≤◌}
 use Rattle.access_model.specs.States.{most_tasks}
-use Rattle.gate_schedules.proofs.{frames.Openers.most_tasks_is, trees.{Counts.finds_last, Each.each_event, Laws.role_says, Steps.as_event}}
-use Rattle.gate_schedules.proofs.trees.{Steps.{leaves_word, stays_at}, worlds.{Holders.level_thawed, Trees.nobody_reads}}
-use Rattle.gate_schedules.specs.trees.{Events.{ClosesFile, DropsBlocks, FreesFile, Uncounts}, Steps.{EventKeeps, tree_in}}
-use Rattle.node_words.{proofs.Words.{word_opens, word_shows}, specs.{Nodes.{any_file_in, info_of}, Phases.after_look}}
-use Rattle.gated_tree.specs.Roles.{Dropped, Freeing, IsLastOpen, NobodyElseFrees, NobodyReads, Uncounting, frees}
 use Rattle.composite_ops.specs.{declared.file_closes.phases.Closing.Closing, file_closes.Phases.{after, closed_from, enters, next}}
-use Rattle.gate_world.specs.{Fits.MayLower, Roles.close_tree_role}
+use Rattle.{gate_world.specs.{Fits.MayLower, Roles.close_tree_role}, gated_tree.specs.Roles.{Dropped, IsLastOpen, NobodyElseFrees, Uncounting, frees}}
+use Rattle.{node_words.{proofs.Words.{word_opens, word_shows}, specs.Nodes.{any_file_in, info_of}}, std.proofs.lemmas.Bool.true≢false}
+use Rattle.gate_schedules.proofs.{frames.Openers.most_tasks_is, trees.{Counts.finds_last, Each.each_event, Laws.role_says}}
+use Rattle.gate_schedules.proofs.trees.{Steps.{as_event, leaves_word, stays_at}, worlds.{Holders.level_thawed, Trees.nobody_reads}}
+use Rattle.gate_schedules.specs.trees.{Events.{ClosesFile, DropsBlocks, FreesFile, Uncounts}, Steps.{EventKeeps, tree_in}}
 
 -- each step of a close on a word of the tree, where its task holds what it may
 module _ (c : Bounds) (within : AreWithin c) (sealed bare : ℕ) (w : Words) (at : ℕ → Role) (good : TreeHolds c (tree_in sealed bare w at))

@@ -1,8 +1,7 @@
 -- What fits after a step of a close.
-use Rattle.gate_schedules.proofs.Prelude.{ActionFits, ClosePhase, Config, DownRead, Fits, Holdings, HookAnswer, IsWithin, IsWord, NodeWord, Phase}
-use Rattle.gate_schedules.proofs.Prelude.{arith, common_steps, down_read_after, held_after, map_next, phase_after, ℕ, ◌<◌, ◌≤◌}
-use Rattle.composite_ops.specs.file_closes.Phases.{after, next, then_frees}
-use Rattle.gate_world.specs.{Fits.CloseFits, Holdings.Agree}
+use Rattle.gate_schedules.proofs.Prelude.{ActionFits, Agree, ClosePhase, Config, DownRead, Fits, Holdings, HookAnswer, IsWithin, IsWord, NodeWord}
+use Rattle.gate_schedules.proofs.Prelude.{Phase, arith, common_steps, down_read_after, held_after, map_next, phase_after, ℕ, ◌<◌, ◌≤◌}
+use Rattle.{composite_ops.specs.file_closes.Phases.{after, next, then_frees}, gate_world.specs.Fits.CloseFits}
 use Rattle.gate_schedules.proofs.frames.OperationLaws.{extents_touched}
 
 pub enters_fits : (c : Config) (t : ℕ) (held : Holdings) (file : ℕ) (node : NodeWord) (r : DownRead) (found : ℕ) →

@@ -1,17 +1,16 @@
 -- All that is proved of a close, from what is proved of its steps at the tree and at level 3.
 use Rattle.gate_schedules.proofs.Prelude.{CauseOf, ClosePhase, Config, DownRead, HasReason, HookAnswer, IsGood, IsWithin, List, Next, Ok, Phase}
 use Rattle.gate_schedules.proofs.Prelude.{Reply, Some, StepKeeps, SyncStep, World, after_step, ap, arith, cases_Bool, closed, common_steps}
-use Rattle.gate_schedules.proofs.Prelude.{down_read_after, found_at, held_of, inl, inr, level_in, map_next, phase_after, refl, sync_role_of, value_at}
-use Rattle.gate_schedules.proofs.Prelude.{word_of, ℕ, ◌<◌, ◌==◌, ◌∙◌, ◌∷◌, ◌≡◌, ◌≤◌}
-use Rattle.node_words.specs.Nodes.{any_file_in}
-use Rattle.composite_ops.specs.file_closes.Phases.{after, leaves_on, then_frees}
-use Rattle.gate_world.specs.{Fits.CloseFits, SameRoles.{SameRolesOffTree, rephased}, refusals.Causes.asks_level, traces.TraceStates.CloseReadIsValid}
+use Rattle.gate_schedules.proofs.Prelude.{down_read_after, found_at, held_of, inl, inr, level_in, map_next, phase_after, refl, rephased, sync_role_of}
+use Rattle.gate_schedules.proofs.Prelude.{value_at, word_of, ℕ, ◌<◌, ◌==◌, ◌∙◌, ◌∷◌, ◌≡◌, ◌≤◌}
+use Rattle.{composite_ops.specs.file_closes.Phases.{after, leaves_on, then_frees}, gate_world.specs.{Fits.CloseFits, SameRoles.SameRolesOffTree}}
+use Rattle.{gate_world.specs.{refusals.Causes.asks_level, traces.TraceStates.CloseReadIsValid}, node_words.specs.Nodes.any_file_in}
 use Rattle.gate_schedules.proofs.frames.{OperationLaws.PhaseLaws, Snapshots.completes_none, ValidWords.events_may_be}
-use Rattle.gate_schedules.proofs.operations.close.{Causes.{enters_asks, enters_cause, looked_cause}, Fits.{close_acts, close_agrees, close_goes}}
-use Rattle.gate_schedules.proofs.operations.close.{Fits.close_there, LevelEvents.{beside_ends, beside_enters, beside_reads, beside_runs}}
-use Rattle.gate_schedules.proofs.operations.close.{LevelEvents.{close_fits_now, enters_level, leaves_level}, Parts.{close_run, frees_node}}
-use Rattle.gate_schedules.proofs.operations.{close.Parts.{loads_file, lowers_count, refunds_blocks, uncounts}, readers.Causes.read_not_closed}
-use Rattle.gate_schedules.proofs.operations.readers.{Causes.read_own, Laws.{end_phase, read_phase}}
+use Rattle.gate_schedules.proofs.operations.close.Causes.{enters_asks, enters_cause, looked_cause}
+use Rattle.gate_schedules.proofs.operations.close.{Fits.{close_acts, close_agrees, close_goes, close_there}, LevelEvents.{beside_ends, beside_enters}}
+use Rattle.gate_schedules.proofs.operations.close.LevelEvents.{beside_reads, beside_runs, close_fits_now, enters_level, leaves_level}
+use Rattle.gate_schedules.proofs.operations.close.Parts.{close_run, frees_node, loads_file, lowers_count, refunds_blocks, uncounts}
+use Rattle.gate_schedules.proofs.operations.readers.{Causes.{read_not_closed, read_own}, Laws.{end_phase, read_phase}}
 
 -- each step keeps the invariant, and moves the shown state by its action or not at all
 pub close_keeps : (c : Config) → IsWithin c → (w : World) → IsGood c w → (t : ℕ) → t < c.tasks → (hook : HookAnswer) → (x : ClosePhase) →

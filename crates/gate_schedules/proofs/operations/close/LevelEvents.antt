@@ -1,19 +1,17 @@
 -- The steps of a close at level 3: the law of each is that of the level's own step, but for the tree and the open files, which the step
 -- leaves alone.
-use Rattle.gate_schedules.proofs.Prelude.{Action, Bool, ClosePhase, Config, DownRead, DownReadStep, Files, Fits, Fitting, HasFile, Holdings, Holds}
-use Rattle.gate_schedules.proofs.Prelude.{HookAnswer, IsGood, IsWithin, List, Moves, Next, NodeWord, Ok, Option, Phase, Reply, Some, StepKeeps}
-use Rattle.gate_schedules.proofs.Prelude.{SyncStep, Traced, Tree, TreeHolds, View, Words, World, after_of, ap, arith, down_read_after, each_updated}
-use Rattle.gate_schedules.proofs.Prelude.{file_of, found_at, has_open, held_after, held_of, inl, inr, level_in, map_next, next_of, openers, opens_in}
-use Rattle.gate_schedules.proofs.Prelude.{phase_after, read, refl, removal, shown, subst, sym, tree_bounds, tree_of, tree_role_of, tree_roles, true}
-use Rattle.gate_schedules.proofs.Prelude.{update, update_at, view_with, words_after, ℕ, ◌<◌, ◌∙◌, ◌≡◌}
-use Rattle.composite_ops.specs.file_closes.Phases.{leaves_on, then_frees}
+use Rattle.gate_schedules.proofs.Prelude.{Action, Bool, ClosePhase, Config, DownRead, DownReadStep, Files, Fits, Fitting, Freeing, HasFile, Holdings}
+use Rattle.gate_schedules.proofs.Prelude.{Holds, HookAnswer, IsGood, IsWithin, List, Moves, Next, NodeWord, Ok, Option, Phase, Reply, SameWords, Some}
+use Rattle.gate_schedules.proofs.Prelude.{StepKeeps, SyncStep, Traced, Tree, TreeHolds, View, Words, World, after_of, ap, arith, charge, child_charge}
+use Rattle.gate_schedules.proofs.Prelude.{down_read_after, each_updated, file_of, found_at, has_open, held_after, held_of, inl, inr, level_in}
+use Rattle.gate_schedules.proofs.Prelude.{map_next, next_of, openers, opens_in, phase_after, read, refl, removal, rephased, shown, subst, sym}
+use Rattle.gate_schedules.proofs.Prelude.{tree_bounds, tree_of, tree_role_of, tree_roles, true, update, update_at, view_with, words_after, ℕ, ◌<◌}
+use Rattle.gate_schedules.proofs.Prelude.{◌∙◌, ◌≡◌, ◌⊎◌}
+use Rattle.{composite_ops.specs.file_closes.Phases.{leaves_on, then_frees}, gate_world.specs.{Fits.CloseFits, SameRoles.{SameRolesOffTree, at_phase}}}
+use Rattle.{gated_tree.specs.Roles.Out as OffTree, percpu_rwsem.specs.Readers.at_down_read}
 use Rattle.gate_schedules.proofs.frames.{Accesses.holdings_of_after, Frames.{left_alone, opens_left}, SameRolesOffTree.{made, made_keeps_off_tree}}
 use Rattle.gate_schedules.proofs.{frames.SameRolesOffTree.{made_runs_off_tree, rephased_off_tree, roles_off_tree}, operations.close.Fits.enters_fits}
 use Rattle.gate_schedules.proofs.{operations.readers.Laws.{end_phase, read_phase}, trees.{Counts.leaves, worlds.Trees.tree_holds}}
-use Rattle.gate_world.specs.{Fits.CloseFits, Rules.SameWords, SameRoles.{SameRolesOffTree, at_phase, rephased}}
-use Rattle.gated_tree.specs.Roles.{Freeing, Out as OffTree, charge, child_charge}
-use Rattle.percpu_rwsem.specs.Readers.{at_down_read}
-use Rattle.std.proofs.Common.{◌⊎◌}
 
 -- what comes after a step at level 3 is beside what comes in its own operation
 pub beside_enters : (file p : ℕ) (node : NodeWord) (n : Next DownRead) →

@@ -1,20 +1,19 @@
 -- A step of a close at the tree: it leaves the mounts, the levels and the sections alone, and all of the shown state but the tree and its
 -- task's open files.
-use Rattle.gate_schedules.proofs.Prelude.{Action, Bool, ClosePhase, Config, Files, Fits, Fitting, GateError, HasFile, Holdings, HookAnswer, IsGood}
-use Rattle.gate_schedules.proofs.Prelude.{IsWithin, List, Next, NodeWord, Option, Phase, Result, Some, StepKeeps, SyncStep, Traced, Tree, View, World}
-use Rattle.gate_schedules.proofs.Prelude.{after_step, ap, arith, cases_Bool, common_steps, eqb_tells, false, file_of, found_at, has_open, held_after}
-use Rattle.gate_schedules.proofs.Prelude.{held_of, inl, inr, is_bare_at, is_removed, level_in, map_next, model_limits, node_shown, opens_in}
-use Rattle.gate_schedules.proofs.Prelude.{phase_after, refl, role_after, shown, subst, sym, tree_bounds, tree_role_of, tree_roles, true, true≢false}
-use Rattle.gate_schedules.proofs.Prelude.{value_at, view_after, word_of, ℕ, ◌<◌, ◌==◌, ◌∙◌, ◌≡◌}
+use Rattle.gate_schedules.proofs.Prelude.{Action, Bool, ClosePhase, Config, Files, Fits, Fitting, Freeing, GateError, HasFile, Holdings, HookAnswer}
+use Rattle.gate_schedules.proofs.Prelude.{IsGood, IsWithin, List, Next, NodeWord, Option, Phase, Result, Some, StepKeeps, SyncStep, Traced, Tree}
+use Rattle.gate_schedules.proofs.Prelude.{View, World, after_look, after_step, ap, arith, cases_Bool, common_steps, eqb_tells, false, file_of}
+use Rattle.gate_schedules.proofs.Prelude.{found_at, has_open, held_after, held_of, inl, inr, is_bare_at, is_removed, level_in, map_next, model_limits}
+use Rattle.gate_schedules.proofs.Prelude.{node_shown, opens_in, phase_after, refl, role_after, shown, subst, sym, tree_bounds, tree_role_of}
+use Rattle.gate_schedules.proofs.Prelude.{tree_roles, true, true≢false, value_at, view_after, word_of, ℕ, ◌<◌, ◌==◌, ◌∙◌, ◌≡◌}
 use Rattle.composite_ops.specs.{declared.file_closes.phases.Closing.Closing, file_closes.Phases.{after, closed_from, next}}
+use Rattle.{gate_world.specs.{Fits.{CloseFits, MayLower}, Roles.close_tree_role, Trees.is_sealed}, gated_tree.specs.Roles.Dropped}
+use Rattle.node_words.{proofs.Words.{word_opens, word_shows}, specs.Nodes.info_of}
 use Rattle.gate_schedules.proofs.operations.close.Events.{close_drops, close_frees, close_loads, close_lowers, close_uncounts, closer_unread}
 use Rattle.gate_schedules.proofs.operations.close.{Events.{dropped_removed, freeing_removed, frees_alone}, Fits.close_goes}
 use Rattle.gate_schedules.proofs.trees.worlds.{Events.{IsPlain, plain_parts, tree_run}, MayTree.LeaveFor, Parts.{IsAtTree, IsOffGates}}
 use Rattle.gate_schedules.proofs.trees.worlds.Parts.{LeavesAccesses, files_then, fitting_then, idle_off, is_node_word, node_call, shown_moves}
 use Rattle.gate_schedules.{proofs.trees.worlds.{Parts.tree_then, Trees.tree_within}, specs.trees.{Events.HasLeave, Steps.EventKeeps}}
-use Rattle.gate_world.specs.{Fits.{CloseFits, MayLower}, Roles.close_tree_role, Trees.is_sealed}
-use Rattle.node_words.{proofs.Words.{word_opens, word_shows}, specs.{Nodes.info_of, Phases.after_look}}
-use Rattle.gated_tree.specs.Roles.{Dropped, Freeing}
 
 -- the steps at the tree
 abbrev pub is_at_tree : ClosePhase → Bool

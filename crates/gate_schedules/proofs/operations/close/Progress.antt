@@ -1,8 +1,7 @@
 -- A close runs out, a last one where level 3 is open.
 use Rattle.gate_schedules.proofs.Prelude.{ClosePhase, Config, IsUnblocked, Phase, PhaseEnds, RankDecreases, Words, arith, common_steps, found_at}
 use Rattle.gate_schedules.proofs.Prelude.{found_by, left, put, rank, read, words_after}
-use Rattle.composite_ops.specs.file_closes.Phases.{after as close_after, next as close_next}
-use Rattle.gate_world.specs.traces.TraceStates.{CloseReadIsValid}
+use Rattle.{composite_ops.specs.file_closes.Phases.{after as close_after, next as close_next}, gate_world.specs.traces.TraceStates.CloseReadIsValid}
 use Rattle.gate_schedules.{proofs.{frames.ValidWords.events_may_be, operations.deadlocks.RankDecreases.falls_as}, specs.operations.Ranks.close_rank}
 use Rattle.gate_schedules.specs.operations.Unblocked.{CloseIsUnblocked}
 

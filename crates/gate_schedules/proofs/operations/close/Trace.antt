@@ -1,7 +1,6 @@
 -- Traces of a close: that of its down-read of level 3, where it is a last one, between its own steps.
-use Rattle.gate_schedules.proofs.Prelude.{Action, Bool, ClosePhase, Config, DownReadStep, List, Op, Phase, Traced, [], arith, common_steps, false}
-use Rattle.gate_schedules.proofs.Prelude.{length, true, ℕ, ◌∷◌, ◌≡◌, ◌≤◌}
-use Rattle.access_model.specs.declared.actions.Gate.{Gate}
+use Rattle.gate_schedules.proofs.Prelude.{Action, Bool, ClosePhase, Config, DownReadStep, Gate, List, Op, Phase, Traced, [], arith, common_steps}
+use Rattle.gate_schedules.proofs.Prelude.{false, length, true, ℕ, ◌∷◌, ◌≡◌, ◌≤◌}
 use Rattle.gate_world.specs.{Operations.first_close, traces.Found.found_dropped}
 use Rattle.gate_schedules.proofs.{frames.OperationLaws.OpLaws, operations.{close.Beginning.close_op_from, readers.Trace.{ReadSays, read_at}}}
 use Rattle.gate_schedules.proofs.traces.TraceInvariant.{IsInductiveGivenReads, traces_given_reads}

@@ -1,21 +1,26 @@
 -- Where each operation under way is blocked, no step of one of them is a reply, and all stay blocked.
 use Rattle.gate_schedules.proofs.Prelude.{Action, Bool, ClearMarks, Config, Done, DownRead, DownReads, DownWrite, DownWriteStep, Freeze, FreezeFits}
 use Rattle.gate_schedules.proofs.Prelude.{FreezeStep, Go, HookAnswer, IsGood, KnowsStage, Next, Ok, Option, Owner, Phase, PhaseFits, Some, Stages}
-use Rattle.gate_schedules.proofs.Prelude.{SyncAt, Tree, View, Words, World, after_of, after_step, ap, arith, at_freeze, cases_Bool, down_read_after}
-use Rattle.gate_schedules.proofs.Prelude.{down_read_next, down_write_after, down_write_next, each_updated, eqb_tells, false, found_at, found_by}
-use Rattle.gate_schedules.proofs.Prelude.{freeze_stage_role, held_of, holds_level, if◌then◌else◌, inl, inr, is_frozen_whole, left, map_next, nat_lt}
-use Rattle.gate_schedules.proofs.Prelude.{ne_eqb, opens_in, owns, phase_after, put, read, refl, shown, stage_role_of, subst, sym, sync_role_of, true}
-use Rattle.gate_schedules.proofs.Prelude.{true≢false, update_off, value_at, view_after, words_after, ℕ, ◌&&◌, ◌<◌, ◌==◌, ◌∙◌, ◌≡◌, ◌≤◌}
-use Rattle.gate_world.specs.{Roles.freeze_owns, Rules.{Moves as MovesModel, SyncHoldsIn}, Worlds.phase_action}
-use Rattle.gate_world.specs.declared.work.Phase.TheVariants.{Closes as FileCloses, Freezes, Mounts, Remounts, Thaws, Trees, Writes}
-use Rattle.access_model.specs.declared.{actions.Action.TheVariants.Pass, replies.Next.TheVariants.Wait}
-use Rattle.cpu_words.specs.declared.{events.Touch.TheVariants.Cas, names.WordName.TheVariants.{Node, Umount}}
+use Rattle.gate_schedules.proofs.Prelude.{SyncAt, SyncHoldsIn, Tree, View, Wait, Words, World, after_closing, after_of, after_step, ap, arith}
+use Rattle.gate_schedules.proofs.Prelude.{at_freeze, cases_Bool, down_read_after, down_read_next, down_write_after, down_write_next, each_updated}
+use Rattle.gate_schedules.proofs.Prelude.{eqb_tells, false, found_at, found_by, freeze_stage_role, held_of, holds_level, if◌then◌else◌, inl, inr}
+use Rattle.gate_schedules.proofs.Prelude.{is_frozen_whole, left, map_next, nat_lt, ne_eqb, opens_in, owns, phase_action, phase_after, put, read, refl}
+use Rattle.gate_schedules.proofs.Prelude.{shown, stage_role_of, subst, sym, sync_role_of, true, true≢false, update_off, value_at, view_after}
+use Rattle.gate_schedules.proofs.Prelude.{words_after, ℕ, ◌&&◌, ◌+◌, ◌<◌, ◌==◌, ◌∙◌, ◌≡◌, ◌≤◌}
+use Rattle.access_model.specs.declared.actions.Action.TheVariants.{Pass}
 use Rattle.composite_ops.specs.declared.file_closes.phases.ClosePhase.TheVariants.{Enters as EntersLevel, LoadsFile as CloseLoadsFile}
 use Rattle.composite_ops.specs.declared.{file_closes.phases.Closing.Closing, write_access.phases.WritePhase.TheVariants.Takes}
 use Rattle.composite_ops.specs.{file_closes.Phases.{after as close_after, enters, then_frees}, write_access.Phases.then_wants}
-use Rattle.freeze_levels.specs.{Freezes.{after_closing, closing_waits, freeze_closes, level_closed}, declared.freezes.FreezeStep.TheVariants.Cleans}
-use Rattle.freeze_levels.specs.declared.freezes.FreezeStep.TheVariants.{Closes, LoadsStage, LoadsSuperblock, Locks as FreezeLocks, LocksAgain, SetsFs}
-use Rattle.freeze_levels.specs.declared.freezes.FreezeStep.TheVariants.{SetsPageFault, SetsWrite, Unlocks, Waits}
+use Rattle.{cpu_words.specs.declared.{events.Touch.TheVariants.Cas, names.WordName.TheVariants.{Node, Umount}}, freeze_laws.specs.stages.Roles.bit}
+use Rattle.freeze_levels.specs.Freezes.{closing_waits, freeze_closes, level_closed}
+use Rattle.freeze_levels.specs.declared.freezes.FreezeStep.TheVariants.{Cleans, Closes, LoadsStage, LoadsSuperblock, Locks as FreezeLocks, LocksAgain}
+use Rattle.freeze_levels.specs.declared.freezes.FreezeStep.TheVariants.{SetsFs, SetsPageFault, SetsWrite, Unlocks, Waits}
+use Rattle.gate_world.specs.{Roles.freeze_owns, Rules.Moves as MovesModel}
+use Rattle.gate_world.specs.declared.work.Phase.TheVariants.{Closes as FileCloses, Freezes, Mounts, Remounts, Thaws, Trees, Writes}
+use Rattle.gated_tree.specs.declared.phases.TreePhase.TheVariants.{Snapshot as Snapshots}
+use Rattle.mount_counts.specs.declared.phases.MountPhase.TheVariants.{Change as Changes}
+use Rattle.node_words.{proofs.ClearedMarks.{IsCleared, clears_mark, without_mark}, specs.Nodes.{IsPacked, node_of, removed_in}}
+use Rattle.{percpu_rwsem.specs.Readers.step_found, std.proofs.lemmas.Bool.eqb-true}
 use Rattle.gate_schedules.proofs.{frames.{Owners.owns_le, Words.load_same}, levels.Facts.blocked_slow}
 use Rattle.gate_schedules.proofs.operations.deadlocks.{BlockedCloses.{StaysAtLevel, down_stays}, BlockedOrProgress.{first_finds, first_is, or_phase}}
 use Rattle.gate_schedules.proofs.operations.deadlocks.{BlockedStarts.{StaysKept, start_stays}, FreezeProgress.{next_same, not_none}}
@@ -23,12 +28,6 @@ use Rattle.gate_schedules.proofs.operations.deadlocks.{RankDecreases.{after_even
 use Rattle.gate_schedules.specs.operations.Progress.{AllAreBlocked, BlockedIfFreeze, BlockedIsStable, EventsMoveModel, FreezeIsBlocked, HasReply}
 use Rattle.gate_schedules.specs.operations.Progress.{HeldLevelAhead, IsAgreed, IsBlockedAt, IsHeldIdle, LockIsBlocked, StartIsBlocked, begins_freeze}
 use Rattle.gate_schedules.specs.operations.Progress.{is_admitted, is_first_lock, is_last_close, next_level}
-use Rattle.node_words.{proofs.ClearedMarks.{IsCleared, clears_mark, without_mark}, specs.Nodes.{IsPacked, node_of, removed_in}}
-use Rattle.gated_tree.specs.declared.phases.TreePhase.TheVariants.{Snapshot as Snapshots}
-use Rattle.mount_counts.specs.declared.phases.MountPhase.TheVariants.{Change as Changes}
-use Rattle.percpu_rwsem.specs.Readers.{step_found}
-use Rattle.freeze_laws.specs.stages.Roles.{bit}
-use Rattle.std.{proofs.lemmas.Bool.eqb-true, specs.Prelude.◌+◌}
 
 -- a step of a down-write leaves a closed level closed, the nodes, the stage and the superblock's flag
 down_blocks : (w : Words) (d : DownWrite) (s : DownWriteStep) (i : ℕ) → w.block i ≡ 1 → (after_event w (down_write_next d s)).block i ≡ 1

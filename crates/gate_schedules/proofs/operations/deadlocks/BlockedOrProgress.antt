@@ -1,20 +1,19 @@
 -- Each operation under way is blocked, or a reply is near.
 use Rattle.gate_schedules.proofs.Prelude.{AtLevel, Bool, ChangeStep, ClosePhase, Config, DownReadStep, EventsKeepRule, Freeze, FreezeStep, HookAnswer}
 use Rattle.gate_schedules.proofs.Prelude.{IsGood, IsUnblocked, IsWithin, KnowsStage, MountPhase, None, Option, Phase, PhaseEnds, PhaseFits}
-use Rattle.gate_schedules.proofs.Prelude.{RemountStep, SnapshotStep, Some, Stages, ThawStep, TreePhase, View, Words, World, WritePhase, after_of}
-use Rattle.gate_schedules.proofs.Prelude.{after_step, ap, arith, at_freeze, cases_Bool, cases_lt, eqb_tells, false, found_at, held_of, inl, inr}
-use Rattle.gate_schedules.proofs.Prelude.{le-ltb, nat_lt, owns, phase_after, refl, stage_role_of, subst, sym, true, true≢false, update_off, value_at}
-use Rattle.gate_schedules.proofs.Prelude.{view_after, ℕ, ◌+◌, ◌<◌, ◌==◌, ◌∙◌, ◌≡◌, ◌≤◌, ◌⊎◌}
-use Rattle.gate_world.specs.{Remounts.remount_owns, Roles.{change_owns, freeze_owns, snapshot_owns, thaw_owns}}
+use Rattle.gate_schedules.proofs.Prelude.{RemountStep, ReplyWithin, SnapshotStep, Some, Stages, ThawStep, TreePhase, View, Words, World, WritePhase}
+use Rattle.gate_schedules.proofs.Prelude.{after_of, after_step, ap, arith, at_freeze, cases_Bool, cases_lt, eqb_tells, false, found_at, held_of, inl}
+use Rattle.gate_schedules.proofs.Prelude.{inr, le-ltb, nat_lt, owns, phase_after, refl, stage_role_of, subst, sym, true, true≢false, update_off}
+use Rattle.gate_schedules.proofs.Prelude.{value_at, view_after, ℕ, ◌+◌, ◌<◌, ◌==◌, ◌∙◌, ◌≡◌, ◌≤◌, ◌⊎◌}
+use Rattle.{freeze_laws.specs.stages.Roles.bit, gate_world.specs.{Remounts.remount_owns, Roles.{change_owns, freeze_owns, snapshot_owns, thaw_owns}}}
 use Rattle.gate_schedules.proofs.operations.deadlocks.{Bounds.alone_settled, FreezeProgress.{FirstFree, IdleApart, callback_goes, freeze_goes}}
-use Rattle.gate_schedules.proofs.operations.deadlocks.{FreezeProgress.{kept_or_apart, not_none, search_below}, RankDecreases.{near_by, no_further}}
-use Rattle.gate_schedules.proofs.operations.deadlocks.{RankDecreases.stands_after, WhoCanStep.{HasOwner, fits_at, free_goes, has_owner, owner_free}}
-use Rattle.gate_schedules.{proofs.operations.deadlocks.WhoCanStep.want_goes, specs.operations.Progress.{BlockedIfFreeze, ChangeIsBlocked}}
-use Rattle.gate_schedules.specs.operations.Progress.{FreezeIsBlocked, HeldLevelAhead, IsBlockedAt, LockIsBlocked, Progresses, RemountIsBlocked}
-use Rattle.gate_schedules.specs.operations.Progress.{ReplyWithin, SnapshotIsBlocked, ThawIsBlocked, begins_freeze, is_admitted, is_first_lock}
-use Rattle.gate_schedules.specs.operations.{Progress.{is_last_close, next_level}, Ranks.{most_alone, most_settled}, Unblocked.ChangeIsUnblocked}
-use Rattle.gate_schedules.specs.operations.Unblocked.{RemountIsUnblocked, SnapshotIsUnblocked, ThawIsUnblocked}
-use Rattle.freeze_laws.specs.stages.Roles.{bit}
+use Rattle.gate_schedules.proofs.operations.deadlocks.FreezeProgress.{kept_or_apart, not_none, search_below}
+use Rattle.gate_schedules.proofs.operations.deadlocks.RankDecreases.{near_by, no_further, stands_after}
+use Rattle.gate_schedules.proofs.operations.deadlocks.WhoCanStep.{HasOwner, fits_at, free_goes, has_owner, owner_free, want_goes}
+use Rattle.gate_schedules.specs.operations.Progress.{BlockedIfFreeze, ChangeIsBlocked, FreezeIsBlocked, HeldLevelAhead, IsBlockedAt, LockIsBlocked}
+use Rattle.gate_schedules.specs.operations.Progress.{Progresses, RemountIsBlocked, SnapshotIsBlocked, ThawIsBlocked, begins_freeze, is_admitted}
+use Rattle.gate_schedules.specs.operations.{Progress.{is_first_lock, is_last_close, next_level}, Ranks.{most_alone, most_settled}}
+use Rattle.gate_schedules.specs.operations.Unblocked.{ChangeIsUnblocked, RemountIsUnblocked, SnapshotIsUnblocked, ThawIsUnblocked}
 
 -- a lock is free, or not, and then the task stands before it
 change_either : (w : Words) (s : ChangeStep) (wait : Bool) →

@@ -1,7 +1,6 @@
 -- A start or a last close that is blocked stays so by its own steps, which leave the words that others are blocked by.
-use Rattle.gate_schedules.proofs.Prelude.{Done, DownRead, DownReadStep, Go, Next, Words, arith, down_read_after, down_read_next, false, found_by}
-use Rattle.gate_schedules.proofs.Prelude.{read, true, unpack, ◌≡◌}
-use Rattle.access_model.specs.declared.replies.Next.TheVariants.{Wait}
+use Rattle.gate_schedules.proofs.Prelude.{Done, DownRead, DownReadStep, Go, Next, Wait, Words, arith, down_read_after, down_read_next, false}
+use Rattle.gate_schedules.proofs.Prelude.{found_by, read, true, unpack, ◌≡◌}
 use Rattle.percpu_rwsem.specs.{Readers.step_found, declared.readers.DownReadStep.TheVariants.CountsUpSlow}
 use Rattle.gate_schedules.specs.operations.Progress.{is_admitted}
 

@@ -1,23 +1,21 @@
 -- A freeze that no idle task keeps, and a callback, have a reply near, whoever is inside a section.
 use Rattle.gate_schedules.proofs.Prelude.{Bool, Callback, ClosePhase, Config, DownReadStep, EventsKeepRule, Freeze, FreezeFits, FreezeStep, Freezing}
-use Rattle.gate_schedules.proofs.Prelude.{HookAnswer, IsGood, IsWithin, KnowsStage, MountPhase, None, Option, Owner, Phase, PhaseEnds, PhaseFits}
-use Rattle.gate_schedules.proofs.Prelude.{Sections, Some, Stages, TreePhase, View, Words, World, WritePhase, after_step, ap, arith, cases_Bool}
-use Rattle.gate_schedules.proofs.Prelude.{cases_lt, each_updated, eqb_tells, false, freeze_stage_role, held_of, holds_level, inl, inr, inside}
-use Rattle.gate_schedules.proofs.Prelude.{is_some, nat_lt, owns, refl, stage_role_of, stage_roles, subst, suc, sym, total, total_at, total_updated}
-use Rattle.gate_schedules.proofs.Prelude.{true, true≢false, update, update_off, value_at, view_after, zero, ℕ, ◌<◌, ◌∙◌, ◌≡◌, ◌≤◌, ◌⊎◌}
+use Rattle.gate_schedules.proofs.Prelude.{Holder, HookAnswer, IsGood, IsWithin, KnowsStage, MountPhase, None, Option, Owner, Phase, PhaseEnds}
+use Rattle.gate_schedules.proofs.Prelude.{PhaseFits, ReplyWithin, Sections, Some, Stages, TreePhase, View, Words, World, WritePhase, after_step, ap}
+use Rattle.gate_schedules.proofs.Prelude.{arith, cases_Bool, cases_lt, each_updated, eqb_tells, false, freeze_stage_role, held_of, holds_level, inl}
+use Rattle.gate_schedules.proofs.Prelude.{inr, inside, is_some, nat_lt, owns, refl, stage_role_of, stage_roles, subst, suc, sym, total, total_at}
+use Rattle.gate_schedules.proofs.Prelude.{total_bound, total_updated, true, true≢false, update, update_off, value_at, view_after, zero, ℕ, ◌*◌, ◌+◌}
+use Rattle.gate_schedules.proofs.Prelude.{◌-◌, ◌<◌, ◌∙◌, ◌≡◌, ◌≤◌, ◌⊎◌}
+use Rattle.freeze_laws.{proofs.stages.Facts.other_zero, specs.levels.Operations.down_read_inside}
+use Rattle.freeze_laws.specs.stages.Roles.{Before, HasPassed, Place, freezes, owns as stage_owns, under_way}
 use Rattle.gate_world.specs.{Fits.ReadStepFits, Operations.holds_none_from, Roles.{freeze_owns, place_of}}
 use Rattle.gate_schedules.proofs.{frames.ByPhase.freeze_owner, operations.deadlocks.Bounds.{alone_settled, beside_settled}}
-use Rattle.gate_schedules.proofs.operations.deadlocks.{RankDecreases.no_further, SectionExit.{StaysBeside, all_leave, all_within, inside_le}}
-use Rattle.gate_schedules.proofs.operations.deadlocks.{SectionExit.phase_beside, WhoCanStep.{HasOwner, OwnerFreezes, beside_goes, fits_at, free_goes}}
-use Rattle.gate_schedules.proofs.operations.deadlocks.WhoCanStep.{has_owner, hold_clear, holds_below, holds_not_none, nothing_counted, open_above}
-use Rattle.gate_schedules.{proofs.operations.deadlocks.WhoCanStep.owner_free, specs.operations.Progress.{HeldLevelAhead, IsHeldIdle, ReplyWithin}}
-use Rattle.gate_schedules.specs.operations.{Progress.next_level, Ranks.{most_alone, most_beside, most_settled}, Unblocked.FreezeIsUnblocked}
-use Rattle.gate_schedules.specs.operations.Unblocked.{FreezeLocksFree, NobodyInside}
-use Rattle.access_model.specs.declared.actions.Holder.{Holder}
-use Rattle.finite_sums.proofs.Totals.{total_bound}
-use Rattle.freeze_laws.{proofs.stages.Facts.other_zero, specs.{levels.Operations.down_read_inside, stages.Roles.{Before, HasPassed, Place, freezes}}}
-use Rattle.freeze_laws.specs.stages.Roles.{owns as stage_owns, under_way}
-use Rattle.std.specs.Prelude.{◌*◌, ◌+◌, ◌-◌}
+use Rattle.gate_schedules.proofs.operations.deadlocks.RankDecreases.{no_further}
+use Rattle.gate_schedules.proofs.operations.deadlocks.SectionExit.{StaysBeside, all_leave, all_within, inside_le, phase_beside}
+use Rattle.gate_schedules.proofs.operations.deadlocks.WhoCanStep.{HasOwner, OwnerFreezes, beside_goes, fits_at, free_goes, has_owner, hold_clear}
+use Rattle.gate_schedules.proofs.operations.deadlocks.WhoCanStep.{holds_below, holds_not_none, nothing_counted, open_above, owner_free}
+use Rattle.gate_schedules.specs.operations.{Progress.{HeldLevelAhead, IsHeldIdle, next_level}, Ranks.{most_alone, most_beside, most_settled}}
+use Rattle.gate_schedules.specs.operations.Unblocked.{FreezeIsUnblocked, FreezeLocksFree, NobodyInside}
 
 -- one of the two for each number below a bound: the first for some, or the second for all
 pub search_below : (n : ℕ) (P Q : ℕ → Type 0) → ((i : ℕ) → i < n → P i ⊎ Q i) → ((i : ℕ) × (i < n) × P i) ⊎ ((i : ℕ) → i < n → Q i)

@@ -1,15 +1,13 @@
 -- With an operation under way, a reply is near, or the file system is frozen as a whole, or a freeze is blocked by an idle task.
 use Rattle.gate_schedules.proofs.Prelude.{Bool, ChangeStep, ClosePhase, Config, EventsKeepRule, Freeze, FreezeStep, IsGood, IsWithin, MountPhase}
 use Rattle.gate_schedules.proofs.Prelude.{None, Option, Phase, PhaseFits, RemountStep, Some, Stages, ThawStep, TreePhase, World, WritePhase, ap}
-use Rattle.gate_schedules.proofs.Prelude.{arith, false, freeze_stage_role, held_of, inl, inr, is_frozen_whole, refl, stage_role_of, stage_roles, true}
-use Rattle.gate_schedules.proofs.Prelude.{ℕ, ◌&&◌, ◌<◌, ◌==◌, ◌∙◌, ◌≡◌, ◌≤◌, ◌⊎◌}
-use Rattle.finite_sums.proofs.Totals.{HasPlace, total_place}
-use Rattle.gate_world.specs.Roles.{remount_stage_role, thaw_stage_role, tree_stage_role}
+use Rattle.gate_schedules.proofs.Prelude.{arith, false, freeze_stage_role, held_of, inl, inr, is_frozen_whole, refl, remount_stage_role}
+use Rattle.gate_schedules.proofs.Prelude.{stage_role_of, stage_roles, true, ℕ, ◌&&◌, ◌<◌, ◌==◌, ◌∙◌, ◌≡◌, ◌≤◌, ◌⊎◌}
+use Rattle.{finite_sums.proofs.Totals.{HasPlace, total_place}, freeze_laws.specs.stages.Roles.{bit, closed_by, closes, up_to}}
+use Rattle.{gate_world.specs.Roles.{thaw_stage_role, tree_stage_role}, std.proofs.lemmas.Bool.lt-leb}
 use Rattle.gate_schedules.proofs.operations.{AllOperations.phase_ends, deadlocks.{BlockedOrProgress.world_goes, WhoCanStep.fits_at}}
 use Rattle.gate_schedules.specs.operations.Progress.{AFreezeIsKept, ChangeIsBlocked, FreezeIsBlocked, HeldLevelAhead, IsBlockedAt, Progresses}
 use Rattle.gate_schedules.specs.operations.{Progress.{RemountIsBlocked, ReplyOrFrozen, ThawIsBlocked, TreeIsBlocked}, Ranks.most_events_to_reply}
-use Rattle.freeze_laws.specs.stages.Roles.{bit, closed_by, closes, up_to}
-use Rattle.std.proofs.lemmas.Bool.{lt-leb}
 
 up_to_none : (i : ℕ) → 1 ≤ i → up_to i 0 ≡ 0
 up_to_none i one = rw (lt-leb i 0 one)

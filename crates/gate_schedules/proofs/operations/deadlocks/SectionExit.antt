@@ -1,16 +1,13 @@
 -- Who is inside a read-side section leaves it by a few steps of its own, so where a reply is near once nobody is inside one, it is near.
-use Rattle.gate_schedules.proofs.Prelude.{Config, Done, DownReads, EventsKeepRule, Go, HookAnswer, IsGood, IsWithin, Next, Option, Phase, Some, View}
-use Rattle.gate_schedules.proofs.Prelude.{Words, World, after_of, after_step, ap, arith, eqb_tells, false, found_at, inl, inr, inside, next_of}
-use Rattle.gate_schedules.proofs.Prelude.{phase_after, suc, sym, total, total_updated, value_at, view_after, words_after, zero, ℕ, ◌+◌, ◌<◌, ◌∙◌, ◌≡◌}
-use Rattle.gate_schedules.proofs.Prelude.{◌≤◌, ◌⊎◌}
-use Rattle.std.proofs.Common.{◌*◌}
-use Rattle.finite_sums.proofs.Totals.{HasPlace, total_place}
-use Rattle.access_model.specs.declared.replies.Next.TheVariants.{Wait}
+use Rattle.gate_schedules.proofs.Prelude.{Config, Done, DownReads, EventsKeepRule, Go, HookAnswer, IsGood, IsWithin, Next, Option, Phase, ReadIsValid}
+use Rattle.gate_schedules.proofs.Prelude.{ReplyWithin, Some, View, Wait, Words, World, after_of, after_step, ap, arith, eqb_tells, false, found_at}
+use Rattle.gate_schedules.proofs.Prelude.{inl, inr, inside, next_of, phase_after, suc, sym, total, total_updated, value_at, view_after, words_after}
+use Rattle.gate_schedules.proofs.Prelude.{zero, ℕ, ◌*◌, ◌+◌, ◌<◌, ◌∙◌, ◌≡◌, ◌≤◌, ◌⊎◌}
 use Rattle.composite_ops.specs.declared.file_closes.phases.ClosePhase.TheVariants.{Enters as EntersLevel}
-use Rattle.composite_ops.specs.declared.write_access.phases.WritePhase.TheVariants.{Takes}
-use Rattle.gate_world.specs.{declared.work.Phase.TheVariants.{Closes as FileCloses, Writes}, traces.TraceStates.ReadIsValid}
+use Rattle.{composite_ops.specs.declared.write_access.phases.WritePhase.TheVariants.Takes, finite_sums.proofs.Totals.{HasPlace, total_place}}
+use Rattle.gate_world.specs.declared.work.Phase.TheVariants.{Closes as FileCloses, Writes}
 use Rattle.gate_schedules.proofs.{frames.ValidWords.events_may_be, operations.deadlocks.RankDecreases.{near_after, no_further, stands_after}}
-use Rattle.gate_schedules.specs.operations.{Progress.{HasReply, ReplyWithin}, Ranks.read_rank}
+use Rattle.gate_schedules.specs.operations.{Progress.HasReply, Ranks.read_rank}
 
 -- how many steps may still come after the next one, until it is outside
 abbrev pub leave_rank : Phase → ℕ

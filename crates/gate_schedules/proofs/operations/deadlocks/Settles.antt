@@ -1,13 +1,10 @@
 -- All that is under way comes to its reply, one after the other, until what is left is blocked.
-use Rattle.gate_schedules.proofs.Prelude.{Config, EventsKeepRule, HookAnswer, IsGood, IsWithin, None, Option, Phase, Some, View, World, []}
-use Rattle.gate_schedules.proofs.Prelude.{after_step, ap, arith, happens, inl, inr, subst, suc, sym, total, total_at, total_updated, update_at}
-use Rattle.gate_schedules.proofs.Prelude.{value_at, zero, ℕ, ◌+◌, ◌<◌, ◌≡◌, ◌≤◌}
-use Rattle.std.proofs.Common.{◌*◌}
-use Rattle.finite_sums.proofs.Totals.{total_bound}
-use Rattle.gate_world.specs.{Views.view_after_with_others, declared.entries.Entry.TheVariants.Steps}
+use Rattle.gate_schedules.proofs.Prelude.{Config, EventsKeepRule, HookAnswer, IsGood, IsWithin, None, Option, Phase, ReplyWithin, Some, Steps, View}
+use Rattle.gate_schedules.proofs.Prelude.{World, [], after_step, ap, arith, happens, inl, inr, subst, suc, sym, total, total_at, total_bound}
+use Rattle.gate_schedules.proofs.Prelude.{total_updated, update_at, value_at, zero, ℕ, ◌*◌, ◌+◌, ◌<◌, ◌≡◌, ◌≤◌}
+use Rattle.gate_world.specs.Views.{view_after_with_others}
 use Rattle.gate_schedules.proofs.operations.{AllOperations.phase_ends, deadlocks.{BlockedOrProgress.world_goes, RankDecreases.happens_is}}
-use Rattle.gate_schedules.specs.operations.{Progress.{AllAreBlocked, Progresses, ReplyWithin, SettlesWithin}, Ranks.most_events_to_reply}
-use Rattle.gate_schedules.specs.operations.Ranks.{most_events_to_settle}
+use Rattle.gate_schedules.specs.operations.{Progress.{AllAreBlocked, Progresses, SettlesWithin}, Ranks.{most_events_to_reply, most_events_to_settle}}
 
 -- 1 where an operation is under way
 abbrev is_going : Option Phase → ℕ

@@ -1,18 +1,16 @@
 -- Who can move: a task whose way is free, who has HOLD set at a mount, and an owner of `umount` that is no freeze; and what the invariant says of who
 -- holds a level.
 use Rattle.gate_schedules.proofs.Prelude.{AtLevel, AtMount, Bool, Config, EventsKeepRule, Fits, Fitting, Freeze, IsGood, IsUnblocked, IsWithin, None}
-use Rattle.gate_schedules.proofs.Prelude.{Option, Owner, Phase, PhaseEnds, PhaseFits, Some, SyncAt, Words, World, ap, arith, at_level, cases_Bool}
-use Rattle.gate_schedules.proofs.Prelude.{closed, common_steps, false, has_flag, has_hold, held_of, holds_level, inl, inr, inside, is_frozen_whole}
-use Rattle.gate_schedules.proofs.Prelude.{level_role_of, ltb-true, nat_lt, owns, refl, role_of, subst, suc, sym, sync_role_of, total, total_at}
-use Rattle.gate_schedules.proofs.Prelude.{total_none, true, true≢false, ℕ, ◌<◌, ◌||◌, ◌∙◌, ◌≡◌, ◌≤◌, ◌⊎◌}
-use Rattle.gate_world.specs.{Operations.{holds_none, holds_none_from}, Rules.{LevelHoldsIn, SyncHoldsIn}}
-use Rattle.std.{proofs.lemmas.Bool.{and_parts, not-true, or_cases}, specs.Prelude.{not, ◌-◌}}
+use Rattle.gate_schedules.proofs.Prelude.{Option, Owner, Phase, PhaseEnds, PhaseFits, ReplyWithin, Some, SyncAt, SyncHoldsIn, Words, World, ap, arith}
+use Rattle.gate_schedules.proofs.Prelude.{at_level, cases_Bool, closed, common_steps, false, has_flag, has_hold, held_of, holds_level, inl, inr}
+use Rattle.gate_schedules.proofs.Prelude.{inside, is_frozen_whole, level_role_of, ltb-true, nat_lt, not, owns, refl, role_of, subst, suc, sym}
+use Rattle.gate_schedules.proofs.Prelude.{sync_role_of, total, total_at, total_none, true, true≢false, ℕ, ◌-◌, ◌<◌, ◌||◌, ◌∙◌, ◌≡◌, ◌≤◌, ◌⊎◌}
 use Rattle.cpu_words.{proofs.gate_counts.Events.words_sum, specs.gate_counts.{Gates.{BarringHolds, admitted, below, counted, unread}, Levels.Passed}}
-use Rattle.cpu_words.specs.gate_counts.Levels.{barring_of, level_as_gate, processor_of}
-use Rattle.gate_schedules.proofs.{frames.Owners.{hold_owns, owns_le, who_holds}, levels.Counts.held_bit, operations.deadlocks.Bounds.beside_small}
-use Rattle.gate_schedules.proofs.operations.deadlocks.{Bounds.{is_beside, rank_small}, RankDecreases.runs_out}
-use Rattle.gate_schedules.specs.operations.{Progress.ReplyWithin, Ranks.{most_alone, most_beside}, Unblocked.{HoldIsClear, NothingCounted}}
-use Rattle.mount_counts.proofs.laws.Bits.{hold_set}
+use Rattle.{cpu_words.specs.gate_counts.Levels.{barring_of, level_as_gate, processor_of}, gate_world.specs.Operations.{holds_none, holds_none_from}}
+use Rattle.{gate_world.specs.Rules.LevelHoldsIn, mount_counts.proofs.laws.Bits.hold_set, std.proofs.lemmas.Bool.{and_parts, not-true, or_cases}}
+use Rattle.gate_schedules.proofs.{frames.Owners.{hold_owns, owns_le, who_holds}, levels.Counts.held_bit}
+use Rattle.gate_schedules.proofs.operations.deadlocks.{Bounds.{beside_small, is_beside, rank_small}, RankDecreases.runs_out}
+use Rattle.gate_schedules.specs.operations.{Ranks.{most_alone, most_beside}, Unblocked.{HoldIsClear, NothingCounted}}
 
 pub owner_free : (c : Config) (w : Words) (phase : Phase) → owns (Some phase) ≡ 1 → IsUnblocked c w phase ⊎ ((x : Freeze) × (phase ≡ Phase.Freezes x))
 owner_free c w phase h = grind arith

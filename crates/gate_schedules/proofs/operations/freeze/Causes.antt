@@ -1,19 +1,18 @@
 -- The causes of a freeze's refusal and of the sums of its levels, along an execution.
 use Rattle.gate_schedules.proofs.Prelude.{AtLevel, CauseOf, ClearMarks, Config, DownWrite, DownWriteStep, Err, Freeze, FreezeFits, FreezeStep}
-use Rattle.gate_schedules.proofs.Prelude.{GateError, HookAnswer, IsGood, List, Next, Ok, Option, Phase, Some, Sum, TransitionNext, UpWrite, WordName}
-use Rattle.gate_schedules.proofs.Prelude.{Words, World, [], add-one, after_of, ap, arith, at_freeze, cases_Bool, clear_after, down_write_after}
-use Rattle.gate_schedules.proofs.Prelude.{down_write_next, eqb_tells, false, found_at, found_by, held_by, holders_in, inl, inr, left, map_next}
-use Rattle.gate_schedules.proofs.Prelude.{nat_lt, on_exit, phase_after, put, read, refl, subst, suc, sym, total, transition_after, true, unpack}
-use Rattle.gate_schedules.proofs.Prelude.{up_write_after, words_after, wrap_add, ℕ, ◌+◌, ◌-◌, ◌<◌, ◌==◌, ◌∙◌, ◌∷◌, ◌≡◌, ◌≤◌}
-use Rattle.std.proofs.Common.{◌%◌}
+use Rattle.gate_schedules.proofs.Prelude.{GateError, HookAnswer, IsGood, List, Next, Ok, Option, Phase, Some, Sum, SyncWord, TransitionNext, UpWrite}
+use Rattle.gate_schedules.proofs.Prelude.{WordName, Words, World, [], add-one, after_closing, after_of, ap, arith, at_down_write, at_freeze}
+use Rattle.gate_schedules.proofs.Prelude.{cases_Bool, clear_after, down_write_after, down_write_next, eqb_tells, false, found_at, found_by, held_by}
+use Rattle.gate_schedules.proofs.Prelude.{holders_in, inl, inr, left, map_next, nat_lt, on_callback, on_enter, on_exit, phase_after, put, read, refl}
+use Rattle.gate_schedules.proofs.Prelude.{subst, suc, sym, total, transition_after, true, unpack, up_write_after, words_after, wrap_add, ℕ, ◌%◌, ◌+◌}
+use Rattle.gate_schedules.proofs.Prelude.{◌-◌, ◌<◌, ◌==◌, ◌∙◌, ◌∷◌, ◌≡◌, ◌≤◌}
 use Rattle.cpu_words.{proofs.gate_counts.{Events.words_sum, Numbers.{ahead_none, ahead_past, ahead_step}}, specs.Sums.{ahead, lead}}
-use Rattle.percpu_rwsem.specs.{Graces.looked, SyncWords.{on_callback, on_enter}, Writers.{at_down_write, callback_step, enter_step, passed_awaited}}
-use Rattle.percpu_rwsem.specs.{Writers.{sections_awaited, sum_begun}, declared.{grace.GraceNext.GraceNext, sync_word.SyncWord.SyncWord}}
-use Rattle.freeze_levels.specs.Freezes.{after_clearing, after_closing, after_reopening, after_undoing, freeze_fails, level_closed}
+use Rattle.freeze_levels.specs.Freezes.{after_clearing, after_reopening, after_undoing, freeze_fails, level_closed}
 use Rattle.gate_world.specs.{Fits.DownWriteStepFits, Rules.LevelHoldsIn, refusals.Causes.{all_inside, moments_of_sum, was_inside, words_read}}
-use Rattle.gate_world.specs.refusals.KeptCauses.{DownWriteCause, FreezeCause}
-use Rattle.gate_schedules.proofs.{frames.{OperationLaws.IsQuiet, Words.load_same}, operations.freeze.Fits.found_cases, traces.Moments.look_skips}
-use Rattle.gate_schedules.proofs.traces.Moments.{sum_begins, sum_goes}
+use Rattle.{gate_world.specs.refusals.KeptCauses.{DownWriteCause, FreezeCause}, percpu_rwsem.specs.Graces.looked}
+use Rattle.percpu_rwsem.specs.{Writers.{callback_step, enter_step, passed_awaited, sections_awaited, sum_begun}, declared.grace.GraceNext.GraceNext}
+use Rattle.gate_schedules.proofs.{frames.{OperationLaws.IsQuiet, Words.load_same}, operations.freeze.Fits.found_cases}
+use Rattle.gate_schedules.proofs.traces.Moments.{look_skips, sum_begins, sum_goes}
 
 -- where nothing is counted at a level, a sum that begins leads by 0
 fresh_level : (c : Config) (w : World) → IsGood c w → (i : ℕ) → 1 ≤ i → i ≤ 3 → all_inside c i w ≡ 0 →

@@ -1,32 +1,28 @@
 -- The steps of a freeze on the words of a level that it closes.
-use Rattle.gate_schedules.proofs.Prelude.{Action, Bool, Clearing, Config, DownWrite, DownWriteStep, Fits, Freeze, FreezeStep, Freezing, Holdings}
-use Rattle.gate_schedules.proofs.Prelude.{Holds, HookAnswer, IsGood, IsWithin, Next, Ok, Option, Phase, Reply, Some, StageEvent, Sum, Transition}
-use Rattle.gate_schedules.proofs.Prelude.{TransitionNext, Tree, View, ViewFits, Words, World, actions_after, added_by, ap, arith, at_freeze}
-use Rattle.gate_schedules.proofs.Prelude.{cases_Bool, common_steps, down_write_after, down_write_next, eq-eqb, false, found_by, freeze_stage_role}
-use Rattle.gate_schedules.proofs.Prelude.{held_of, holder_role_of, holdings_of, holds_level, if◌then◌else◌, inl, inr, left, level_added_by}
-use Rattle.gate_schedules.proofs.Prelude.{level_taken_by, map_next, marks_of, model_limits, owns, phase_after, put, read, refl, shown, stage_role_of}
-use Rattle.gate_schedules.proofs.Prelude.{subst, sym, taken_by, total, total_at, transition_after, tree_role_of, tree_roles, true, true≢false, unpack}
-use Rattle.gate_schedules.proofs.Prelude.{update, view_with, ℕ, ◌<◌, ◌==◌, ◌∙◌, ◌≡◌, ◌≤◌}
+use Rattle.gate_schedules.proofs.Prelude.{Action, Apart, Bool, CleanBelow, Clearing, Config, DownWrite, DownWriteStep, Fits, Freeze, FreezeStep}
+use Rattle.gate_schedules.proofs.Prelude.{Freezing, Holdings, Holds, HookAnswer, IsGood, IsWithin, Next, Ok, Option, Phase, Reply, Some, StageEvent}
+use Rattle.gate_schedules.proofs.Prelude.{Sum, SyncWord, Transition, TransitionNext, Tree, View, ViewFits, Words, World, actions_after, added_by}
+use Rattle.gate_schedules.proofs.Prelude.{after_closing, ap, arith, at_down_write, at_freeze, cases_Bool, closed_to, common_steps, down_write_after}
+use Rattle.gate_schedules.proofs.Prelude.{down_write_next, eq-eqb, false, found_by, freeze_stage_role, held_of, holder_role_of, holdings_of}
+use Rattle.gate_schedules.proofs.Prelude.{holds_level, if◌then◌else◌, inl, inr, left, level_added_by, level_taken_by, map_next, marks_of}
+use Rattle.gate_schedules.proofs.Prelude.{model_limits, nat_lt, on_callback, on_enter, owns, phase_after, playing, put, read, refl, shown}
+use Rattle.gate_schedules.proofs.Prelude.{stage_role_of, state_after, subst, sym, taken_by, total, total_at, transition_after, tree_role_of}
+use Rattle.gate_schedules.proofs.Prelude.{tree_roles, true, true≢false, unpack, update, view_with, ℕ, ◌<◌, ◌==◌, ◌∙◌, ◌≡◌, ◌≤◌, ◌⊎◌}
+use Rattle.{cpu_words.specs.{Sums.sum_taking, declared.sums.Taken.Taken}, freeze_laws.proofs.stages.Facts.at_level}
+use Rattle.freeze_laws.specs.stages.Events.{Happens, Passes, SetsBlock as SetsBlockStage, Stays, action_of as stage_action_of}
+use Rattle.freeze_laws.specs.stages.Roles.{Before, Closing, HasPassed, Place, bit, has_position, owns as stage_owns}
+use Rattle.{freeze_levels.specs.Freezes.{closing_waits, level_closed}, gate_world.specs.Roles.{freeze_holder_role, place_of}}
+use Rattle.{gated_tree.specs.Roles.Out as OffTree, node_words.{proofs.ClearedMarks.directory_clean, specs.Nodes.IsNode}}
+use Rattle.percpu_rwsem.specs.{Graces.looked, Writers.{callback_step, down_write_summed, enter_step, passed_awaited, sections_awaited, sum_begun}}
+use Rattle.percpu_rwsem.specs.declared.grace.GraceNext.{GraceNext}
 use Rattle.gate_schedules.proofs.frames.{Accesses.holdings_of_after, ByPhase.freeze_owner, OperationLaws.by_bool, Stages.{IsStageEvent, stages_in}}
 use Rattle.gate_schedules.proofs.levels.DownWrite.{down_write_levels, entered_by_nobody, passes_finds_nobody, swap_finds_clear}
 use Rattle.gate_schedules.proofs.levels.LevelPositions.{HasPosition, LevelsHold, closing_position, left_world, position_after_closing}
-use Rattle.gate_schedules.proofs.operations.freeze.{Fits.freeze_goes, Stages.{FitsHere, IsHere, Keeps, freeze_stands, here_fits, here_stands}}
-use Rattle.gate_schedules.proofs.{operations.freeze.Stages.{here_tree, here_writes}, trees.worlds.Trees.shown_clean, writers.Parts.AsksWhere}
-use Rattle.gate_schedules.proofs.writers.{Parts.{LeavesRest, WriterLaw, down_write_comes, freeze_comes}, Stages.{none_leaves, still_plays}}
-use Rattle.gate_schedules.proofs.writers.Words.{down_write_adds, down_write_counts_none, down_write_words, pass_leaves, tree_begins, tree_beside}
-use Rattle.gate_schedules.proofs.writers.Words.{writer_at_level}
-use Rattle.cpu_words.specs.{Sums.sum_taking, declared.sums.Taken.Taken}
-use Rattle.freeze_levels.specs.{Freezes.{after_closing, closing_waits, level_closed}, holder_laws.Roles.Apart}
-use Rattle.gate_world.specs.Roles.{closed_to, freeze_holder_role, place_of}
-use Rattle.node_words.{proofs.ClearedMarks.directory_clean, specs.Nodes.IsNode}
-use Rattle.gated_tree.specs.Roles.{Out as OffTree}
-use Rattle.percpu_rwsem.specs.{Graces.looked, SyncWords.{on_callback, on_enter}, Writers.{at_down_write, callback_step, down_write_summed}}
-use Rattle.percpu_rwsem.specs.{Writers.{enter_step, passed_awaited, sections_awaited, sum_begun}, declared.grace.GraceNext.GraceNext}
-use Rattle.percpu_rwsem.specs.declared.sync_word.SyncWord.{SyncWord}
-use Rattle.freeze_laws.{proofs.stages.Facts.at_level, specs.stages.Events.{Happens, Passes, SetsBlock as SetsBlockStage, Stays}}
-use Rattle.freeze_laws.specs.stages.{Events.{action_of as stage_action_of, playing}, Roles.{Before, CleanBelow, Closing, HasPassed, Place, bit}}
-use Rattle.freeze_laws.specs.stages.{Roles.{has_position, owns as stage_owns}, Shown.state_after}
-use Rattle.std.proofs.Common.{nat_lt, ◌⊎◌}
+use Rattle.gate_schedules.proofs.operations.freeze.Fits.{freeze_goes}
+use Rattle.gate_schedules.proofs.operations.freeze.Stages.{FitsHere, IsHere, Keeps, freeze_stands, here_fits, here_stands, here_tree, here_writes}
+use Rattle.gate_schedules.proofs.{trees.worlds.Trees.shown_clean, writers.Parts.{AsksWhere, LeavesRest, WriterLaw, down_write_comes, freeze_comes}}
+use Rattle.gate_schedules.proofs.writers.{Stages.{none_leaves, still_plays}, Words.{down_write_adds, down_write_counts_none, down_write_words}}
+use Rattle.gate_schedules.proofs.writers.Words.{pass_leaves, tree_begins, tree_beside, writer_at_level}
 
 -- once level 2 is passed the clearing of marks begins at node 1
 abbrev clean_from : ℕ → ℕ

@@ -1,13 +1,18 @@
 -- The steps of a freeze on nodes and on the words of a level that it reopens, and all of its steps as one law.
-use Rattle.gate_schedules.proofs.Prelude.{Action, ClearMarks, Clearing, Config, Freeze, FreezeFits, FreezeStep, Freezing, Holdings, Holds, HookAnswer}
-use Rattle.gate_schedules.proofs.Prelude.{IsGood, IsWithin, Next, None, Option, Phase, Some, StepKeeps, Thaw, ThawStep, Touch, Tree, TreeState}
-use Rattle.gate_schedules.proofs.Prelude.{UpWrite, View, ViewFits, WordName, Words, World, ap, arith, at_freeze, cases_Bool, dirty_in, each_updated}
-use Rattle.gate_schedules.proofs.Prelude.{eqb_tells, false, found_by, freeze_stage_role, held_of, holder_role_of, inl, inr, ltb-false, ltb-true}
-use Rattle.gate_schedules.proofs.Prelude.{map_next, marks_of, model_limits, node_shown, opens_in, owns, phase_after, read, refl, shown, stage_role_of}
-use Rattle.gate_schedules.proofs.Prelude.{stage_roles, subst, suc, sym, tree_bounds, tree_of, true, up_write_after, up_write_next, update, update_map}
-use Rattle.gate_schedules.proofs.Prelude.{update_same, ℕ, ◌+◌, ◌<◌, ◌∙◌, ◌≡◌}
-use Rattle.gate_schedules.proofs.frames.{ByPhase.freeze_owner, Holders.holders_stay, PhaseSubstitution.{alike_of, made_keeps}, Stages.IsStageEvent}
-use Rattle.gate_schedules.proofs.{frames.Stages.stages_in, levels.LevelPositions.{HasPosition, left_world, position_after_opening}}
+use Rattle.gate_schedules.proofs.Prelude.{Action, Apart, ClearMarks, Clearing, Config, Freeze, FreezeFits, FreezeStep, Freezing, Holdings, Holds}
+use Rattle.gate_schedules.proofs.Prelude.{HookAnswer, IsGood, IsWithin, Next, None, Option, Phase, Some, StepKeeps, Thaw, ThawStep, Touch, Tree}
+use Rattle.gate_schedules.proofs.Prelude.{TreeState, UpWrite, View, ViewFits, WordName, Words, World, ap, arith, at_freeze, cases_Bool, closed_to}
+use Rattle.gate_schedules.proofs.Prelude.{dirty_in, each_updated, eqb_tells, false, found_by, freeze_stage_role, held_of, holder_role_of, inl, inr}
+use Rattle.gate_schedules.proofs.Prelude.{ltb-false, ltb-true, map_next, marks_of, model_limits, nat_lt, node_shown, opens_in, owns, phase_after}
+use Rattle.gate_schedules.proofs.Prelude.{read, refl, rephased, shown, stage_role_of, stage_roles, state_after, subst, suc, sym, tree_bounds, tree_of}
+use Rattle.gate_schedules.proofs.Prelude.{true, up_write_after, up_write_next, update, update_map, update_same, ℕ, ◌+◌, ◌<◌, ◌∙◌, ◌≡◌}
+use Rattle.{access_model.specs.{Actions.marked, States.IsFile}, freeze_laws.specs.stages.Events.{ClearsMark as ClearsMarkStage, cleaned}}
+use Rattle.{freeze_laws.specs.stages.Roles.{HasPassed, owns as stage_owns}, freeze_levels.specs.{Freezes.after_reopening, Thaws.after_opening}}
+use Rattle.gate_world.specs.{Roles.{freeze_holder_role, freeze_position, freeze_tree_role}, SameRoles.SameRoles}
+use Rattle.node_words.{proofs.ClearedMarks.{clean_stays, cleared_shown, clears_mark, without_mark}, specs.Nodes.IsNode}
+use Rattle.std.proofs.Common.{option_map}
+use Rattle.gate_schedules.proofs.frames.{ByPhase.freeze_owner, Holders.holders_stay, PhaseSubstitution.{alike_of, made_keeps}}
+use Rattle.gate_schedules.proofs.{frames.Stages.{IsStageEvent, stages_in}, levels.LevelPositions.{HasPosition, left_world, position_after_opening}}
 use Rattle.gate_schedules.proofs.{levels.PositionRoles.levels_stay, operations.freeze.{Closes.closes, Fits.freeze_goes, GivesUp.{undoes, waits}}}
 use Rattle.gate_schedules.proofs.operations.freeze.Stages.{FitsHere, IsHere, Keeps, completes_read_only, freeze_stands, gives_up, goes_to, here_fits}
 use Rattle.gate_schedules.proofs.operations.freeze.Stages.{here_knows, here_stands, here_tree, here_writes, holds, loads_holders, loads_stage}
@@ -16,12 +21,6 @@ use Rattle.gate_schedules.proofs.operations.{freeze.Stages.{sets_page_fault, set
 use Rattle.gate_schedules.proofs.{trees.worlds.Trees.{nobody_reads, tree_after}, writers.{Owner.owner_stays, Parts.{AsksWhere, IsWriter, LeavesRest}}}
 use Rattle.gate_schedules.proofs.writers.Parts.{SameAtMounts, WriterLaw, freeze_work, freezes_write, whole_writer, writer_law}
 use Rattle.gate_schedules.specs.trees.Events.{Clears, Event, Passes, with_node}
-use Rattle.access_model.specs.{Actions.marked, States.IsFile}
-use Rattle.freeze_levels.specs.{Freezes.after_reopening, Thaws.after_opening, holder_laws.Roles.Apart}
-use Rattle.gate_world.specs.{Roles.{closed_to, freeze_holder_role, freeze_position, freeze_tree_role}, SameRoles.{SameRoles, rephased}}
-use Rattle.node_words.{proofs.ClearedMarks.{clean_stays, cleared_shown, clears_mark, without_mark}, specs.Nodes.IsNode}
-use Rattle.freeze_laws.specs.stages.{Events.{ClearsMark as ClearsMarkStage, cleaned}, Roles.{HasPassed, owns as stage_owns}, Shown.state_after}
-use Rattle.std.{proofs.Common.nat_lt, specs.Prelude.option_map}
 
 -- and after each step of a reopening
 pub stands_then : (x : Freeze) (u : UpWrite) (code found : ℕ) →

@@ -1,10 +1,8 @@
 -- What fits after a step of a freeze, of the closing of a level and of its reopening.
 use Rattle.gate_schedules.proofs.Prelude.{Action, ActionFits, Config, Err, Fits, Freeze, FreezeFits, FreezeStep, GateError, Holdings, HookAnswer}
-use Rattle.gate_schedules.proofs.Prelude.{IsWithin, IsWord, Option, Phase, PhaseFits, arith, at_freeze, common_steps, false, held_after, held_by}
-use Rattle.gate_schedules.proofs.Prelude.{if◌then◌else◌, map_next, phase_after, true, ℕ, ◌≡◌}
-use Rattle.access_model.specs.declared.actions.Holders.{Holders}
-use Rattle.freeze_levels.specs.Freezes.{found_holders, freeze_after, freeze_next}
-use Rattle.gate_world.specs.Configs.{extents_of}
+use Rattle.gate_schedules.proofs.Prelude.{IsWithin, IsWord, Option, Phase, PhaseFits, arith, at_freeze, common_steps, extents_of, false, held_after}
+use Rattle.gate_schedules.proofs.Prelude.{held_by, if◌then◌else◌, map_next, phase_after, true, ℕ, ◌≡◌}
+use Rattle.{access_model.specs.declared.actions.Holders.Holders, freeze_levels.specs.Freezes.{found_holders, freeze_after, freeze_next}}
 use Rattle.gate_schedules.proofs.frames.Cases.{both}
 
 -- so it is of each step of a freeze

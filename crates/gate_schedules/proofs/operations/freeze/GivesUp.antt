@@ -1,24 +1,20 @@
 -- The steps of a freeze that waits for somebody inside a level: it sums again, or gives the level up and leaves its rcu_sync.
-use Rattle.gate_schedules.proofs.Prelude.{Action, Config, DownWrite, Err, Freeze, FreezeStep, Freezing, HookAnswer, IsGood, IsWithin, List, Next}
-use Rattle.gate_schedules.proofs.Prelude.{None, Ok, Option, Phase, Reply, Some, StepKeeps, Touch, Traced, Transition, TransitionNext, UpWrite}
-use Rattle.gate_schedules.proofs.Prelude.{UpWriteStep, View, WordName, Words, World, added_by, ap, arith, at_freeze, down_write_next, found_by}
-use Rattle.gate_schedules.proofs.Prelude.{held_of, holder_role_of, left, level_added_by, level_taken_by, map_next, on_exit, owns, phase_after, put}
-use Rattle.gate_schedules.proofs.Prelude.{read, refl, stage_role_of, subst, sym, taken_by, transition_after, tree_role_of, view_with, ℕ, ◌<◌, ◌∙◌}
-use Rattle.gate_schedules.proofs.Prelude.{◌≡◌, ◌≤◌}
-use Rattle.gate_schedules.proofs.{frames.{PhaseSubstitution.{alike_of, made_keeps}, Stages.IsStageEvent}, levels.GivenUp.summing_at}
-use Rattle.gate_schedules.proofs.levels.{GivenUp.unblocked_levels, LevelPositions.{HasPosition, position_after_opening}, PositionRoles.closing_says}
-use Rattle.gate_schedules.proofs.levels.{PositionRoles.{closing_says_none, say_back, stands_so}, UpWrite.up_write_levels}
+use Rattle.gate_schedules.proofs.Prelude.{Action, Apart, Config, DownWrite, Err, Freeze, FreezeStep, Freezing, HookAnswer, IsGood, IsWithin, List}
+use Rattle.gate_schedules.proofs.Prelude.{Next, None, Ok, Option, Phase, Reply, Some, StepKeeps, Touch, Traced, Transition, TransitionNext, UpWrite}
+use Rattle.gate_schedules.proofs.Prelude.{UpWriteStep, View, WordName, Words, World, added_by, ap, arith, at_freeze, down_write_next, down_write_role}
+use Rattle.gate_schedules.proofs.Prelude.{exit_made, found_by, held_of, holder_role_of, left, level_added_by, level_taken_by, map_next, nat_lt}
+use Rattle.gate_schedules.proofs.Prelude.{on_exit, owns, phase_after, put, read, refl, rephased, stage_role_of, subst, sym, taken_by}
+use Rattle.gate_schedules.proofs.Prelude.{transition_after, tree_role_of, view_with, ℕ, ◌<◌, ◌∙◌, ◌≡◌, ◌≤◌}
+use Rattle.freeze_laws.{proofs.stages.Facts.at_level, specs.stages.{Events.{Stays, Unblocks}, Roles.{Before, Closing, bit}}}
+use Rattle.{freeze_levels.specs.Freezes.{after_undoing, freeze_closed, freeze_undone}, gate_world.specs.Roles.{down_count_role, place_of}}
+use Rattle.{gate_world.specs.SameRoles.SameRoles, gated_tree.specs.Roles.Out as OffTree, percpu_rwsem.specs.Transitions.transition_next}
+use Rattle.gate_schedules.proofs.frames.{PhaseSubstitution.{alike_of, made_keeps}, Stages.IsStageEvent}
+use Rattle.gate_schedules.proofs.levels.{GivenUp.{summing_at, unblocked_levels}, LevelPositions.{HasPosition, position_after_opening}}
+use Rattle.gate_schedules.proofs.levels.{PositionRoles.{closing_says, closing_says_none, say_back, stands_so}, UpWrite.up_write_levels}
 use Rattle.gate_schedules.proofs.operations.freeze.{Closes.closes, Fits.freeze_goes, Stages.{FitsHere, IsHere, Keeps, freeze_stands, goes_to}}
 use Rattle.gate_schedules.proofs.{operations.freeze.Stages.{here_fits, here_stands, here_tree, here_writes, view_at}, writers.Parts.WriterLaw}
 use Rattle.gate_schedules.proofs.writers.{Parts.{freeze_comes, freeze_work, freezes_write, whole_writer}, Stages.{none_leaves, stays_there}}
 use Rattle.gate_schedules.proofs.writers.Words.{tree_beside, up_write_counts_none, up_write_words, writer_at_level}
-use Rattle.freeze_levels.specs.{Freezes.{after_undoing, freeze_closed, freeze_undone}, holder_laws.Roles.Apart}
-use Rattle.gate_world.specs.{Roles.{down_count_role, place_of}, SameRoles.{SameRoles, rephased}}
-use Rattle.gated_tree.specs.Roles.{Out as OffTree}
-use Rattle.percpu_rwsem.specs.{Transitions.transition_next, Writers.exit_made}
-use Rattle.freeze_laws.{proofs.stages.Facts.at_level, specs.{levels.Operations.down_write_role, stages.{Events.{Stays, Unblocks}, Roles.Before}}}
-use Rattle.freeze_laws.specs.stages.Roles.{Closing, bit}
-use Rattle.std.proofs.Common.{nat_lt}
 
 -- a freeze that waits stands with all conjuncts of the invariant as it did when its sum began
 waits_alike : (x : Freeze) (d : DownWrite) →

@@ -1,7 +1,6 @@
 -- All that is proved of a freeze, from the law of its steps and from what its trace tells.
-use Rattle.gate_schedules.proofs.Prelude.{Config, Fits, Fitting, Freeze, FreezeStep, IsGood, KnowsStage, Op, Phase, PhaseFits, Some, Stages, World}
-use Rattle.gate_schedules.proofs.Prelude.{after_step, freeze_stage_role, held_of, refl, stage_role_of, subst, ℕ, ◌<◌, ◌≡◌}
-use Rattle.access_model.specs.declared.actions.Holder.{Holder}
+use Rattle.gate_schedules.proofs.Prelude.{Config, Fits, Fitting, Freeze, FreezeStep, Holder, IsGood, KnowsStage, Op, Phase, PhaseFits, Some, Stages}
+use Rattle.gate_schedules.proofs.Prelude.{World, after_step, freeze_stage_role, held_of, refl, stage_role_of, subst, ℕ, ◌<◌, ◌≡◌}
 use Rattle.gate_schedules.proofs.frames.{Agreeing.none_agree, OperationLaws.{OpLaws, PhaseLaws, word_among}, Snapshots.completes_none}
 use Rattle.gate_schedules.proofs.operations.freeze.{Causes.{freeze_own, freeze_stays}, Events.freeze_keeps, Fits.{freeze_acts, freeze_goes}}
 use Rattle.gate_schedules.proofs.operations.freeze.{Fits.freeze_word, Runs.freeze_runs, Trace.{freeze_restores, freeze_traces}, Waits.freeze_waits}

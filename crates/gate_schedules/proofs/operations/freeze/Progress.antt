@@ -1,20 +1,18 @@
 -- A freeze runs out where it finds `umount` free at its locks, nobody inside a section, and nothing counted at the levels that it has to pass.
 use Rattle.gate_schedules.proofs.Prelude.{ClearMarks, Config, DownWrite, DownWriteStep, Err, Fits, Fitting, Freeze, FreezeFits, FreezeStep}
 use Rattle.gate_schedules.proofs.Prelude.{HookAnswer, IsGood, IsUnblocked, Next, Ok, Phase, PhaseEnds, PhaseFits, RankDecreases, Transition}
-use Rattle.gate_schedules.proofs.Prelude.{TransitionNext, UpWrite, UpWriteStep, Words, World, ap, arith, at_freeze, cases_Bool, clear_after}
-use Rattle.gate_schedules.proofs.Prelude.{down_write_after, down_write_next, eq-eqb, eqb_tells, found_at, found_by, held_by, held_of, holders_in, inl}
-use Rattle.gate_schedules.proofs.Prelude.{inr, nat_lt, on_exit, position_sync, rank, read, refl, subst, sync_role_of, total, transition_after}
-use Rattle.gate_schedules.proofs.Prelude.{up_write_after, up_write_next, words_after, ℕ, ◌+◌, ◌<◌, ◌∙◌, ◌≡◌, ◌≤◌}
-use Rattle.freeze_levels.specs.Freezes.{after_clearing, after_closing, after_reopening, after_undoing, freeze_after, freeze_fails, freeze_next}
+use Rattle.gate_schedules.proofs.Prelude.{TransitionNext, UpWrite, UpWriteStep, Words, World, after_closing, ap, arith, at_freeze, cases_Bool}
+use Rattle.gate_schedules.proofs.Prelude.{clear_after, down_write_after, down_write_next, down_write_role, eq-eqb, eqb_tells, exit_made, found_at}
+use Rattle.gate_schedules.proofs.Prelude.{found_by, held_by, held_of, holders_in, inl, inr, nat_lt, on_exit, position_sync, rank, read, refl, subst}
+use Rattle.gate_schedules.proofs.Prelude.{sync_role_of, total, transition_after, up_write_after, up_write_next, words_after, ℕ, ◌%◌, ◌*◌, ◌+◌, ◌-◌}
+use Rattle.gate_schedules.proofs.Prelude.{◌<◌, ◌∙◌, ◌≡◌, ◌≤◌}
+use Rattle.freeze_laws.{proofs.stages.Facts.at_level, specs.levels.Operations.up_write_role}
+use Rattle.freeze_levels.specs.Freezes.{after_clearing, after_reopening, after_undoing, freeze_after, freeze_fails, freeze_next}
+use Rattle.{gate_world.specs.Roles.{freeze_position, sync_beside}, node_words.specs.Phases.clear_next}
 use Rattle.gate_schedules.proofs.operations.{calls.Progress.clear_falls, deadlocks.RankDecreases.{after_event, falls_as}}
-use Rattle.gate_schedules.{proofs.writers.Progress.{DownFalls, down_falls, up_falls}, specs.operations.Ranks.{closed_rank, closing_rank, down_rank}}
-use Rattle.gate_schedules.specs.operations.{Ranks.{exchange_rank, freeze_rank, reopens_rank, up_rank}, Unblocked.{FreezeIsUnblocked, LevelsAreFree}}
-use Rattle.gate_schedules.specs.operations.Unblocked.{NobodyInside, NothingCounted}
-use Rattle.gate_world.specs.Roles.{freeze_position, sync_beside}
-use Rattle.node_words.specs.Phases.{clear_next}
-use Rattle.freeze_laws.{proofs.stages.Facts.at_level, specs.levels.Operations.{down_write_role, up_write_role}}
-use Rattle.percpu_rwsem.specs.Writers.{exit_made}
-use Rattle.std.specs.Prelude.{◌%◌, ◌*◌, ◌-◌}
+use Rattle.gate_schedules.proofs.writers.Progress.{DownFalls, down_falls, up_falls}
+use Rattle.gate_schedules.specs.operations.Ranks.{closed_rank, closing_rank, down_rank, exchange_rank, freeze_rank, reopens_rank, up_rank}
+use Rattle.gate_schedules.specs.operations.Unblocked.{FreezeIsUnblocked, LevelsAreFree, NobodyInside, NothingCounted}
 
 module _ (w : Words) (d : DownWrite) where
   down_sections : (s : DownWriteStep) → (after_event w (down_write_next d s)).section ≡ w.section

@@ -1,21 +1,20 @@
 -- Each step of a freeze is one of each level, or leaves it.
 use Rattle.gate_schedules.proofs.Prelude.{ClearMarks, Config, Err, Freeze, FreezeStep, GateError, HookAnswer, IsGood, IsWithin, LevelPosition, Next}
 use Rattle.gate_schedules.proofs.Prelude.{None, Ok, Option, Phase, Reply, Some, Stages, Transition, UpWriteStep, Words, World, after_step, ap, arith}
-use Rattle.gate_schedules.proofs.Prelude.{at_freeze, found_at, holders_in, if◌then◌else◌, map_next, on_exit, phase_after, refl, stage_role_of, subst}
-use Rattle.gate_schedules.proofs.Prelude.{transition_after, value_at, view_after, words_after, ℕ, ◌-◌, ◌<◌, ◌==◌, ◌≡◌}
-use Rattle.access_model.specs.Holders.{nobody}
-use Rattle.node_words.specs.{Nodes.node_after, Phases.clears_at}
+use Rattle.gate_schedules.proofs.Prelude.{at_freeze, closed_to, down_write_role, found_at, holders_in, if◌then◌else◌, map_next, node_after, on_exit}
+use Rattle.gate_schedules.proofs.Prelude.{phase_after, refl, stage_role_of, subst, transition_after, value_at, view_after, words_after, ℕ, ◌-◌, ◌<◌}
+use Rattle.gate_schedules.proofs.Prelude.{◌==◌, ◌≡◌}
+use Rattle.{access_model.specs.Holders.nobody, freeze_laws.{proofs.stages.Facts.at_level, specs.stages.Roles.{has_position, is_full}}}
 use Rattle.freeze_levels.specs.Freezes.{after_clearing, freeze_after, freeze_closes, freeze_fails, freeze_locked}
-use Rattle.freeze_laws.{proofs.stages.Facts.at_level, specs.{levels.Operations.down_write_role, stages.Roles.{has_position, is_full}}}
+use Rattle.{gate_world.specs.{Fits.DownWriteFits, Roles.{down_count_role, open_from}}, node_words.specs.Phases.clears_at}
 use Rattle.percpu_rwsem.specs.Writers.{sum_begun}
-use Rattle.gate_world.specs.{Fits.DownWriteFits, Roles.{closed_to, down_count_role, open_from}}
 use Rattle.gate_schedules.proofs.{frames.{Frames.SameLevelWords, OperationLaws.by_bool}, levels.DownWrite.entered_by_nobody}
 use Rattle.gate_schedules.proofs.levels.{FreezeCompletes.freezes_runs, GivenUp.summing_at, LevelPositions.{HasPosition, LevelsRun}}
 use Rattle.gate_schedules.proofs.levels.PositionRoles.{closing_first, closing_next, closing_says, closing_says_none, stands_so}
 use Rattle.gate_schedules.proofs.levels.Runs.{down_write_runs, levels_stay_runs, unblocked_runs, up_write_runs}
 use Rattle.gate_schedules.proofs.operations.freeze.Closes.{after_closing_stands, stands_then as stands_closing}
-use Rattle.gate_schedules.proofs.operations.freeze.{Events.stands_then as stands_reopening, Fits.found_cases, GivesUp.undone_stands, Stages.IsHere}
-use Rattle.gate_schedules.proofs.operations.freeze.Stages.{freeze_stands, here_fits, here_knows, here_stands, idle_stands}
+use Rattle.gate_schedules.proofs.operations.freeze.{Events.stands_then as stands_reopening, Fits.found_cases, GivesUp.undone_stands}
+use Rattle.gate_schedules.proofs.operations.freeze.Stages.{IsHere, freeze_stands, here_fits, here_knows, here_stands, idle_stands}
 
 -- with level 2 closed, a freeze clears another mark or asks the file system for its sync
 cleared_stands : (x : Freeze) (marks : ClearMarks) (node : Option ℕ) →

@@ -1,13 +1,11 @@
 -- What the trace of an operation says while it closes a level: which steps are added to it, and why it waits.
-use Rattle.gate_schedules.proofs.Prelude.{Action, Config, DownWrite, DownWriteStep, HookAnswer, IsWithin, List, Next, None, Option, Some, Sum, Traced}
-use Rattle.gate_schedules.proofs.Prelude.{TransitionNext, add-one, ap, arith, cases_Bool, down_write_after, down_write_next, eqb_tells, event_of}
-use Rattle.gate_schedules.proofs.Prelude.{found_by, inl, inr, ltb-false, ltb-true, nat_lt, refl, subst, suc, transition_after, true, unpack}
-use Rattle.gate_schedules.proofs.Prelude.{with_hook, wrap_add, ℕ, ◌+◌, ◌<◌, ◌∙◌, ◌∷◌, ◌≡◌}
-use Rattle.std.proofs.Common.{◌⊎◌}
-use Rattle.percpu_rwsem.specs.{SyncWords.{on_callback, on_enter}, Writers.{callback_step, enter_step, passed_awaited, sum_begun}}
-use Rattle.percpu_rwsem.specs.declared.{grace.Grace.Grace, sync_word.SyncWord.SyncWord}
+use Rattle.gate_schedules.proofs.Prelude.{Action, Config, DownWrite, DownWriteStep, HookAnswer, IsWithin, List, Next, None, Option, Some, Sum}
+use Rattle.gate_schedules.proofs.Prelude.{SyncWord, Traced, TransitionNext, add-one, ap, arith, cases_Bool, down_write_after, down_write_next}
+use Rattle.gate_schedules.proofs.Prelude.{eqb_tells, event_of, found_by, inl, inr, ltb-false, ltb-true, nat_lt, on_callback, on_enter, refl, subst}
+use Rattle.gate_schedules.proofs.Prelude.{suc, transition_after, true, unpack, with_hook, wrap_add, ℕ, ◌+◌, ◌<◌, ◌∙◌, ◌∷◌, ◌≡◌, ◌⊎◌}
 use Rattle.gate_world.specs.traces.Found.{FoundInside, IsLevelSum, cleans, finds_readers, found_complete, found_sealed, level_opened, newest}
 use Rattle.gate_world.specs.traces.Found.{stored_stage, sum_of_newest}
+use Rattle.percpu_rwsem.specs.{Writers.{callback_step, enter_step, passed_awaited, sum_begun}, declared.grace.Grace.Grace}
 
 -- the closing of this level, among the tasks and processors of a configuration, at a step
 abbrev pub closing_at : Config → ℕ → DownWriteStep → DownWrite

@@ -1,17 +1,14 @@
 -- Traces of a freeze of the superblock.
-use Rattle.gate_schedules.proofs.Prelude.{Action, Bool, ClearMarks, Config, DownWrite, DownWriteStep, Err, Freeze, FreezeStep, GateError, HookAnswer}
-use Rattle.gate_schedules.proofs.Prelude.{IsWithin, List, Next, Ok, Op, Option, Phase, Reply, Result, Touch, Traced, Transition, TransitionNext}
-use Rattle.gate_schedules.proofs.Prelude.{UpWrite, UpWriteStep, WordName, [], actions_after, ap, arith, at_freeze, cases_Bool, dirty_in}
-use Rattle.gate_schedules.proofs.Prelude.{down_write_after, eq-eqb, eqb_tells, event_of, false, found_by, has_flag, if◌then◌else◌, inl, inr, map_next}
-use Rattle.gate_schedules.proofs.Prelude.{ne_eqb, on_exit, refl, subst, suc, sym, transition_after, true, with_hook, zero, ℕ, ◌-◌, ◌==◌, ◌∙◌, ◌∷◌}
-use Rattle.gate_schedules.proofs.Prelude.{◌≡◌, ◌≤◌}
-use Rattle.std.{proofs.lemmas.Nat.Bits.and_pow, specs.Prelude.bit_and}
-use Rattle.access_model.specs.{Holders.nobody, declared.actions.Holder.Holder}
-use Rattle.node_words.specs.{Nodes.node_after, Phases.clears_at}
-use Rattle.percpu_rwsem.specs.{Transitions.transition_next, Writers.exit_made}
-use Rattle.freeze_levels.specs.Freezes.{after_clearing, after_closing, after_reopening, after_undoing, closing_waits}
+use Rattle.gate_schedules.proofs.Prelude.{Action, Bool, ClearMarks, Config, DownWrite, DownWriteStep, Err, Freeze, FreezeStep, GateError, Holder}
+use Rattle.gate_schedules.proofs.Prelude.{HookAnswer, IsWithin, List, Next, Ok, Op, Option, Phase, Reply, Result, Touch, Traced, Transition}
+use Rattle.gate_schedules.proofs.Prelude.{TransitionNext, UpWrite, UpWriteStep, WordName, [], actions_after, actions_of, after_closing, ap, arith}
+use Rattle.gate_schedules.proofs.Prelude.{at_freeze, cases_Bool, dirty_in, down_write_after, eq-eqb, eqb_tells, event_of, exit_made, false, found_by}
+use Rattle.gate_schedules.proofs.Prelude.{has_flag, if◌then◌else◌, inl, inr, map_next, ne_eqb, node_after, on_exit, refl, subst, suc, sym}
+use Rattle.gate_schedules.proofs.Prelude.{transition_after, true, with_hook, zero, ℕ, ◌-◌, ◌==◌, ◌∙◌, ◌∷◌, ◌≡◌, ◌≤◌}
+use Rattle.{access_model.specs.Holders.nobody, freeze_levels.specs.Freezes.{after_clearing, after_reopening, after_undoing, closing_waits}}
 use Rattle.gate_world.specs.{Operations.{all_levels_closed, failed_adds, two_levels_closed, word_decided}, traces.Found.{ReadAnswer, cleans}}
-use Rattle.gate_world.specs.traces.{Found.{found_complete, found_sealed, gave_up, level_opened, stored_stage}, Traces.{IsHonestAnswer, actions_of}}
+use Rattle.gate_world.specs.traces.{Found.{found_complete, found_sealed, gave_up, level_opened, stored_stage}, Traces.IsHonestAnswer}
+use Rattle.{node_words.specs.Phases.clears_at, percpu_rwsem.specs.Transitions.transition_next, std.proofs.{Common.bit_and, lemmas.Nat.Bits.and_pow}}
 use Rattle.gate_schedules.proofs.operations.freeze.Sums.{ClosingNext, ClosingSays, FoundAsBefore, closing_at, closing_event, closing_found}
 use Rattle.gate_schedules.proofs.{operations.freeze.Sums.{closing_leaves, closing_trace}, traces.Cleans.{LeaveAccesses, cleans_leave}}
 use Rattle.gate_schedules.proofs.traces.TraceInvariant.{InvariantAfter, InvariantAfterStep, IsInductive, TraceLaws, event_at, traces_tell}

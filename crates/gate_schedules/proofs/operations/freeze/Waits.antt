@@ -1,18 +1,16 @@
 -- A freeze waits only where another task has `umount`, where one is inside a read-side section, or where something was counted at the level
 -- that it closes, and is refused only for its cause.
 use Rattle.gate_schedules.proofs.Prelude.{ClearMarks, Config, DownWrite, DownWriteStep, Err, Freeze, FreezeFits, FreezeStep, GateError, HasReason}
-use Rattle.gate_schedules.proofs.Prelude.{HookAnswer, IsGood, List, Next, Ok, Phase, Sections, Some, Sum, TransitionNext, UpWrite, UpWriteStep, World}
-use Rattle.gate_schedules.proofs.Prelude.{after_of, ap, arith, at_freeze, cases_Bool, clear_after, closed, down_write_after, down_write_next, eq-eqb}
-use Rattle.gate_schedules.proofs.Prelude.{eqb_tells, found_at, found_by, inl, inr, inside, level_in, ltb-false, map_next, nat_lt, on_exit, owns, read}
-use Rattle.gate_schedules.proofs.Prelude.{refl, subst, sym, sync_role_of, transition_after, true, up_write_after, wrap_add, ℕ, ◌+◌, ◌<◌, ◌∙◌, ◌≡◌}
-use Rattle.gate_schedules.proofs.Prelude.{◌≤◌, ◌⊎◌}
-use Rattle.std.proofs.Common.{◌%◌}
-use Rattle.percpu_rwsem.specs.{Graces.{is_first, passed_on}, SyncWords.{is_passed, is_queued}, Writers.{at_down_write, sections_awaited}}
-use Rattle.percpu_rwsem.specs.declared.{grace.Grace.Grace, sync_word.GpState.GpState}
-use Rattle.freeze_levels.specs.Freezes.{after_clearing, after_closing, after_reopening, after_undoing}
-use Rattle.freeze_laws.{proofs.levels.CitedLaws.writers_find, specs.levels.{Changes.{state_found, state_found_in}, Events.SyncLevelHolds}}
-use Rattle.freeze_laws.specs.levels.{Operations.down_write_role, Roles.{Entered, entered, entering}}
+use Rattle.gate_schedules.proofs.Prelude.{HookAnswer, IsGood, List, Next, Ok, Phase, Sections, Some, Sum, SyncLevelHolds, TransitionNext, UpWrite}
+use Rattle.gate_schedules.proofs.Prelude.{UpWriteStep, World, after_closing, after_of, ap, arith, at_down_write, at_freeze, cases_Bool, clear_after}
+use Rattle.gate_schedules.proofs.Prelude.{closed, down_write_after, down_write_next, down_write_role, eq-eqb, eqb_tells, found_at, found_by, inl, inr}
+use Rattle.gate_schedules.proofs.Prelude.{inside, level_in, ltb-false, map_next, nat_lt, on_exit, owns, read, refl, subst, sym, sync_role_of}
+use Rattle.gate_schedules.proofs.Prelude.{transition_after, true, up_write_after, wrap_add, ℕ, ◌%◌, ◌+◌, ◌<◌, ◌∙◌, ◌≡◌, ◌≤◌, ◌⊎◌}
+use Rattle.freeze_laws.{proofs.levels.CitedLaws.writers_find, specs.levels.Changes.{state_found, state_found_in}}
+use Rattle.{freeze_laws.specs.levels.Roles.{Entered, entered, entering}, freeze_levels.specs.Freezes.{after_clearing, after_reopening, after_undoing}}
 use Rattle.gate_world.specs.{Fits.DownWriteStepFits, refusals.{KeptCauses.{DownWriteCause, FreezeCause}, Waits.HasCulprit}}
+use Rattle.percpu_rwsem.specs.{Graces.{is_first, passed_on}, SyncWords.{is_passed, is_queued}, Writers.sections_awaited, declared.grace.Grace.Grace}
+use Rattle.percpu_rwsem.specs.declared.sync_word.GpState.{GpState}
 use Rattle.gate_schedules.proofs.{frames.Owners.umount_taken, levels.{DownWrite.queued_passed, Worlds.level_right}}
 use Rattle.gate_schedules.proofs.operations.freeze.Causes.{level_ends}
 

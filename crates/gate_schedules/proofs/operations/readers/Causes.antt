@@ -1,16 +1,13 @@
 -- The cause of a down-read's wait or refusal, along an execution: the level was closed when it last asked. What is said here of a task that
 -- asks as a down-read does serves an operation that goes through one as a part of its own.
 use Rattle.gate_schedules.proofs.Prelude.{Bool, CauseOf, Config, Done, DownRead, DownReadStep, DownReads, Go, HookAnswer, IsGood, List, Next, Some}
-use Rattle.gate_schedules.proofs.Prelude.{SyncAt, World, ap, arith, closed, down_read_after, eqb_tells, false, found_at, if◌then◌else◌, inl, inr}
-use Rattle.gate_schedules.proofs.Prelude.{is_frozen_whole, map_next, phase_after, refl, subst, sym, sync_role_of, total, true, unpack, ℕ, ◌&&◌, ◌+◌}
-use Rattle.gate_schedules.proofs.Prelude.{◌==◌, ◌∙◌, ◌∷◌, ◌≡◌, ◌≤◌, ◌⊎◌}
-use Rattle.finite_sums.proofs.Totals.{HasPlace, total_place}
-use Rattle.access_model.specs.declared.replies.Next.TheVariants.{Wait}
-use Rattle.percpu_rwsem.specs.{Readers.{at_down_read, left_blocked}, declared.readers.DownReadStep.TheVariants.{CountsDown, LeavesBlocked}}
-use Rattle.percpu_rwsem.specs.declared.readers.DownReadStep.TheVariants.{LoadsBlock, LoadsSync}
-use Rattle.freeze_laws.specs.levels.{Operations.down_read_role, Roles.SyncRole}
-use Rattle.gate_world.specs.{Roles.sync_role_if, Rules.SyncHoldsIn, refusals.Causes.{WasClosed, asks_level, last_asked, read_asks}}
-use Rattle.gate_world.specs.refusals.KeptCauses.{ReadCause}
+use Rattle.gate_schedules.proofs.Prelude.{SyncAt, SyncHoldsIn, SyncRole, Wait, World, ap, arith, closed, down_read_after, eqb_tells, false, found_at}
+use Rattle.gate_schedules.proofs.Prelude.{if◌then◌else◌, inl, inr, is_frozen_whole, map_next, phase_after, refl, subst, sym, sync_role_if}
+use Rattle.gate_schedules.proofs.Prelude.{sync_role_of, total, true, unpack, ℕ, ◌&&◌, ◌+◌, ◌==◌, ◌∙◌, ◌∷◌, ◌≡◌, ◌≤◌, ◌⊎◌}
+use Rattle.{finite_sums.proofs.Totals.{HasPlace, total_place}, freeze_laws.specs.levels.Operations.down_read_role}
+use Rattle.gate_world.specs.refusals.{Causes.{WasClosed, asks_level, last_asked, read_asks}, KeptCauses.ReadCause}
+use Rattle.percpu_rwsem.specs.Readers.{at_down_read, left_blocked}
+use Rattle.percpu_rwsem.specs.declared.readers.DownReadStep.TheVariants.{CountsDown, LeavesBlocked, LoadsBlock, LoadsSync}
 use Rattle.gate_schedules.proofs.{frames.OperationLaws.by_bool, operations.readers.Trace.by_word}
 
 -- a task has closed a level once at most

@@ -1,12 +1,11 @@
 -- The step of an end.
-use Rattle.gate_schedules.proofs.Prelude.{Action, Config, Fits, Fitting, HookAnswer, IsGood, IsWithin, Next, Ok, Option, Phase, PhaseFits, Reply}
-use Rattle.gate_schedules.proofs.Prelude.{Some, StepKeeps, View, Words, World, ap, arith, false, held_of, holds_level, inside, level_role_of, refl}
-use Rattle.gate_schedules.proofs.Prelude.{subst, sym, sync_role_of, update, update_at, ℕ, ◌<◌, ◌≡◌}
-use Rattle.access_model.specs.declared.actions.Gate.{Gate}
+use Rattle.gate_schedules.proofs.Prelude.{Action, Config, Fits, Fitting, Gate, HookAnswer, IsGood, IsWithin, Next, Ok, Option, Phase, PhaseFits}
+use Rattle.gate_schedules.proofs.Prelude.{Reply, Some, StepKeeps, View, Words, World, ap, arith, false, held_of, holds_level, inside, level_role_of}
+use Rattle.gate_schedules.proofs.Prelude.{refl, subst, sym, sync_role_of, update, update_at, ℕ, ◌<◌, ◌≡◌}
 use Rattle.percpu_rwsem.specs.declared.readers.UpRead.{UpRead}
-use Rattle.gate_schedules.proofs.levels.{Counts.{SameElsewhere, down_beside, leaves, view_down, words_down}, Parts.{IsAtLevels, SameAtMounts}}
-use Rattle.gate_schedules.proofs.levels.Parts.{SameOffLevels, end_at_levels, level_parts, level_shown, reads_at_levels, sections_left_at}
-use Rattle.gate_schedules.proofs.levels.Parts.{sync_left_at}
+use Rattle.gate_schedules.proofs.levels.Counts.{SameElsewhere, down_beside, leaves, view_down, words_down}
+use Rattle.gate_schedules.proofs.levels.Parts.{IsAtLevels, SameAtMounts, SameOffLevels, end_at_levels, level_parts, level_shown, reads_at_levels}
+use Rattle.gate_schedules.proofs.levels.Parts.{sections_left_at, sync_left_at}
 
 module _ (c : Config) (lim : IsWithin c) (w : World) (good : IsGood c w) (t : ℕ) (lt : t < c.tasks) (hook : HookAnswer) (u : UpRead)
     (e : (w.views t).phase ≡ Some (Phase.UpReads u)) where

@@ -1,25 +1,23 @@
 -- Each step of a start.
 use Rattle.gate_schedules.proofs.Prelude.{Action, AtLevel, Bool, Config, Done, DownRead, DownReadStep, DownReads, Fits, Fitting, Go, Holdings}
-use Rattle.gate_schedules.proofs.Prelude.{HookAnswer, IsGood, IsWithin, Moves, Next, None, Ok, Option, Phase, Some, StepKeeps, Touch, View, WordName}
-use Rattle.gate_schedules.proofs.Prelude.{Words, World, after_step, ap, arith, at_level, eqb_tells, false, has_open, held_at, held_of, holds_level}
-use Rattle.gate_schedules.proofs.Prelude.{inl, inr, level_role_of, map_next, model_limits, nat_lt, phase_after, put, read, refl, shown, subst, sym}
-use Rattle.gate_schedules.proofs.Prelude.{sync_role_of, true, true≢false, unpack, update, update_at, update_same, view_with, wrap_add, ℕ, ◌&&◌, ◌+◌}
-use Rattle.gate_schedules.proofs.Prelude.{◌<◌, ◌==◌, ◌||◌, ◌∙◌, ◌≡◌, ◌≤◌}
+use Rattle.gate_schedules.proofs.Prelude.{HookAnswer, IsGood, IsWithin, Moves, Next, None, Ok, Option, Phase, Some, StepKeeps, SyncWord, Touch, View}
+use Rattle.gate_schedules.proofs.Prelude.{WordName, Words, World, after_step, ap, arith, at_level, eqb_tells, false, has_open, held_at, held_of}
+use Rattle.gate_schedules.proofs.Prelude.{holds_level, inl, inr, level_role_of, map_next, model_limits, nat_lt, not, phase_after, put, read, refl}
+use Rattle.gate_schedules.proofs.Prelude.{shown, subst, sym, sync_role_of, true, true≢false, unpack, update, update_at, update_same, view_with}
+use Rattle.gate_schedules.proofs.Prelude.{wrap_add, ℕ, ◌&&◌, ◌+◌, ◌<◌, ◌==◌, ◌||◌, ◌∙◌, ◌≡◌, ◌≤◌}
 use Rattle.access_model.specs.{Actions.IsAllowed, declared.actions.{Action.TheVariants.Grant, Gate.TheVariants.Level}}
-use Rattle.access_model.specs.declared.replies.Reply.TheVariants.{Unit as UnitReply}
-use Rattle.cpu_words.{proofs.gate_counts.LevelLaws.{is_granted, is_refused}, specs.declared.events.Touch.TheVariants.{Add, Load, Sub}}
-use Rattle.cpu_words.specs.{declared.names.WordName.TheVariants.{Block, LevelCount, Section, Sync}, gate_counts.Levels.Out as CountsNot}
+use Rattle.{access_model.specs.declared.replies.Reply.TheVariants.Unit as UnitReply, cpu_words.proofs.gate_counts.LevelLaws.{is_granted, is_refused}}
+use Rattle.cpu_words.specs.declared.{events.Touch.TheVariants.{Add, Load, Sub}, names.WordName.TheVariants.{Block, LevelCount, Section, Sync}}
+use Rattle.{cpu_words.specs.gate_counts.Levels.Out as CountsNot, freeze_laws.specs.levels.Roles.Fast}
+use Rattle.gate_world.specs.{Fits.{ReadFits, ReadStepFits}, Operations.holds_none_from, Roles.{count_role_if, read_count_role}}
+use Rattle.percpu_rwsem.specs.{Readers.{at_down_read, left_blocked, step_found}, declared.readers.DownReadStep.TheVariants.{CountsDown, CountsUpFast}}
+use Rattle.percpu_rwsem.specs.declared.readers.DownReadStep.TheVariants.{CountsUpSlow, EntersSection, LeavesAdmitted, LeavesBlocked, LoadsBlock}
+use Rattle.{percpu_rwsem.specs.declared.readers.DownReadStep.TheVariants.LoadsSync, std.proofs.lemmas.Bool.Decides.nat_tests}
 use Rattle.gate_schedules.proofs.{frames.Frames.{count_none, level_view_as}, levels.Counts.{LevelHoldsAfter, SameElsewhere, backs_off, bit_room}}
 use Rattle.gate_schedules.proofs.levels.Counts.{count_on, down_beside, enters_fast, held_bit, level_follows, seeks, up_beside, words_down, words_up}
 use Rattle.gate_schedules.proofs.levels.Parts.{IsAtLevels, SameAtMounts, SameOffLevels, beside_levels, counts_left_at, level_parts, level_shown}
 use Rattle.gate_schedules.proofs.levels.{Parts.{level_still, reads_at_levels}, Worlds.{fast_finds_open, not_passed, sync_on}}
 use Rattle.gate_schedules.proofs.operations.readers.Levels.{LevelsHold, read_levels}
-use Rattle.gate_world.specs.{Fits.{ReadFits, ReadStepFits}, Operations.holds_none_from, Roles.{count_role_if, read_count_role}}
-use Rattle.freeze_laws.specs.levels.Roles.{Fast}
-use Rattle.percpu_rwsem.specs.{Readers.{at_down_read, left_blocked, step_found}, declared.readers.DownReadStep.TheVariants.{CountsDown, CountsUpFast}}
-use Rattle.percpu_rwsem.specs.declared.readers.DownReadStep.TheVariants.{CountsUpSlow, EntersSection, LeavesAdmitted, LeavesBlocked, LoadsBlock}
-use Rattle.percpu_rwsem.specs.declared.{readers.DownReadStep.TheVariants.LoadsSync, sync_word.SyncWord.SyncWord}
-use Rattle.std.{proofs.lemmas.Bool.Decides.nat_tests, specs.Prelude.not}
 
 -- a level that isn't held, of those that are to be free
 or_left : (a b : Bool) → b ≡ false → (b || not a) ≡ true → a ≡ false

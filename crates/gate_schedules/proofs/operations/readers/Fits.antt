@@ -1,11 +1,10 @@
 -- What fits after a step of a down-read, an up-read and a callback.
 use Rattle.gate_schedules.proofs.Prelude.{ActionFits, Bool, Callback, Config, Done, DownRead, DownReadStep, DownReads, Err, Fits, Go, Holdings}
-use Rattle.gate_schedules.proofs.Prelude.{IsWithin, IsWord, Next, None, Ok, PhaseFits, arith, common_steps, down_read_after, down_read_next}
-use Rattle.gate_schedules.proofs.Prelude.{held_after, map_next, phase_after, true, ℕ, ◌<◌, ◌≡◌, ◌≤◌}
-use Rattle.access_model.specs.declared.replies.Next.TheVariants.{Wait}
-use Rattle.percpu_rwsem.specs.{Callbacks.{at_callback, callback_after, callback_next}, declared.callbacks.CallbackStep.CallbackStep}
-use Rattle.gate_world.specs.{Configs.extents_of, Fits.{GraceFits, ReadFits, ReadStepFits}, Operations.{holds_none_from, is_level_number}}
+use Rattle.gate_schedules.proofs.Prelude.{IsWithin, IsWord, Next, None, Ok, PhaseFits, Wait, arith, common_steps, down_read_after, down_read_next}
+use Rattle.gate_schedules.proofs.Prelude.{extents_of, held_after, map_next, phase_after, true, ℕ, ◌<◌, ◌≡◌, ◌≤◌}
+use Rattle.gate_world.specs.{Fits.{GraceFits, ReadFits, ReadStepFits}, Operations.{holds_none_from, is_level_number}}
 use Rattle.gate_world.specs.declared.work.Phase.TheVariants.{Callbacks}
+use Rattle.percpu_rwsem.specs.{Callbacks.{at_callback, callback_after, callback_next}, declared.callbacks.CallbackStep.CallbackStep}
 
 -- a number that is a level's
 pub level_there : (i : ℕ) → is_level_number i ≡ true → (1 ≤ i) × (i ≤ 3)

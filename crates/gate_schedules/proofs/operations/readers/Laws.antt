@@ -1,16 +1,15 @@
 -- All that is proved of a start and of an end.
 use Rattle.gate_schedules.proofs.Prelude.{Bool, Config, DownRead, DownReads, Fits, Fitting, Some, World, after_step, ap, arith, closed}
-use Rattle.gate_schedules.proofs.Prelude.{down_read_after, found_at, held_after, held_of, nat_lt, no_roles, refl, subst, sym, sync_role_of, true, ℕ}
-use Rattle.gate_schedules.proofs.Prelude.{◌&&◌, ◌+◌, ◌-◌, ◌<◌, ◌∙◌, ◌≡◌, ◌≤◌}
+use Rattle.gate_schedules.proofs.Prelude.{down_read_after, found_at, held_after, held_of, most_events, nat_lt, no_roles, refl, subst, sym}
+use Rattle.gate_schedules.proofs.Prelude.{sync_role_of, true, ℕ, ◌&&◌, ◌+◌, ◌-◌, ◌<◌, ◌∙◌, ◌≡◌, ◌≤◌}
+use Rattle.gate_world.specs.{Operations.is_level_number, declared.{operations.Op.TheVariants.{End, Start}, work.Phase.TheVariants.UpReads}}
+use Rattle.{gate_world.specs.refusals.Causes.asks_level, percpu_rwsem.specs.declared.readers.UpRead.UpRead}
 use Rattle.gate_schedules.proofs.frames.{Frames.{count_none, sync_none}, OperationLaws.{IsSmall, OpLaws, PhaseLaws, by_bool}}
 use Rattle.gate_schedules.proofs.{frames.Snapshots.completes_none, operations.readers.Causes.{asks_next, next_cause, read_not_closed, read_own}}
 use Rattle.gate_schedules.proofs.operations.readers.{Causes.read_stays, EndEvents.end_keeps, Events.read_keeps, Fits.{none_from_agree, read_acts}}
 use Rattle.gate_schedules.proofs.operations.readers.{Fits.{read_fits, read_goes, read_step_agrees, read_there}, Runs.{end_runs, read_runs}}
 use Rattle.gate_schedules.proofs.operations.readers.{Trace.{EndAt, StartAt, end_inductive, start_inductive}, Waits.{read_waits, start_waits}}
 use Rattle.gate_schedules.proofs.traces.TraceInvariant.{TraceLaws, traces_given_reads, traces_tell}
-use Rattle.gate_world.specs.{Operations.is_level_number, declared.{operations.Op.TheVariants.{End, Start}, work.Phase.TheVariants.UpReads}}
-use Rattle.gate_world.specs.{refusals.Causes.asks_level, traces.Traces.most_events}
-use Rattle.percpu_rwsem.specs.declared.readers.UpRead.{UpRead}
 
 -- of each phase of a start
 pub read_phase : (c : Config) (r : DownRead) → PhaseLaws c (DownReads r)

@@ -2,19 +2,18 @@
 use Rattle.gate_schedules.proofs.Prelude.{Callback, Config, DownRead, DownReadStep, DownReads, Fits, Fitting, HookAnswer, IsGood, Some, SyncStep}
 use Rattle.gate_schedules.proofs.Prelude.{Touch, View, WordName, World, after_step, ap, arith, common_steps, down_read_after, down_read_next}
 use Rattle.gate_schedules.proofs.Prelude.{eqb_tells, found_by, held_of, inl, inr, inside, is_frozen_whole, left, left_by, level_in, map_next}
-use Rattle.gate_schedules.proofs.Prelude.{phase_after, put, read, refl, subst, sym, sync_role_of, update, update_same, view_after, wrap_add, ℕ, ◌-◌}
-use Rattle.gate_schedules.proofs.Prelude.{◌<◌, ◌==◌, ◌∙◌, ◌≡◌, ◌≤◌}
+use Rattle.gate_schedules.proofs.Prelude.{phase_after, put, read, refl, subst, sym, sync_role_if, sync_role_of, update, update_same, view_after}
+use Rattle.gate_schedules.proofs.Prelude.{wrap_add, ℕ, ◌-◌, ◌<◌, ◌==◌, ◌∙◌, ◌≡◌, ◌≤◌}
 use Rattle.cpu_words.specs.declared.names.WordName.TheVariants.{Section}
+use Rattle.freeze_laws.specs.levels.{Events.TurnsSection, Operations.{down_read_inside, down_read_role}, Roles.{Out as IsApart, fast}}
+use Rattle.{gate_world.specs.declared.work.Phase.TheVariants.{Callbacks, UpReads}, percpu_rwsem.specs.{Callbacks.callback_next, Readers.at_down_read}}
+use Rattle.percpu_rwsem.specs.declared.readers.DownReadStep.TheVariants.{CountsDown, CountsUpFast, CountsUpSlow, EntersSection, LeavesAdmitted}
+use Rattle.percpu_rwsem.specs.declared.readers.{DownReadStep.TheVariants.{LeavesBlocked, LoadsBlock, LoadsSync}, UpRead.UpRead}
 use Rattle.gate_schedules.proofs.levels.{Steps.{level_kept, level_moved, level_stays}, Worlds.{IsEventAt, IsOfLevel, sync_off}}
 use Rattle.gate_schedules.proofs.operations.callback.Events.{event_of_level, seen_after as callback_seen, stays_apart, stays_outside}
-use Rattle.gate_schedules.proofs.operations.{callback.Events.{steps_there as callback_steps, word_of_level as callback_word}, readers.Levels.apart_if}
-use Rattle.gate_schedules.proofs.operations.readers.Levels.{blocked_apart, blocked_outside, keeps_level, role_elsewhere, seen_after, steps_there}
-use Rattle.gate_schedules.proofs.operations.readers.Levels.{word_of_level}
-use Rattle.gate_world.specs.{Roles.sync_role_if, declared.work.Phase.TheVariants.{Callbacks, UpReads}}
-use Rattle.freeze_laws.specs.levels.{Events.TurnsSection, Operations.{down_read_inside, down_read_role}, Roles.{Out as IsApart, fast}}
-use Rattle.percpu_rwsem.specs.{Callbacks.callback_next, Readers.at_down_read, declared.readers.DownReadStep.TheVariants.{CountsDown, CountsUpFast}}
-use Rattle.percpu_rwsem.specs.declared.readers.DownReadStep.TheVariants.{CountsUpSlow, EntersSection, LeavesAdmitted, LeavesBlocked, LoadsBlock}
-use Rattle.percpu_rwsem.specs.declared.readers.{DownReadStep.TheVariants.LoadsSync, UpRead.UpRead}
+use Rattle.gate_schedules.proofs.operations.callback.Events.{steps_there as callback_steps, word_of_level as callback_word}
+use Rattle.gate_schedules.proofs.operations.readers.Levels.{apart_if, blocked_apart, blocked_outside, keeps_level, role_elsewhere, seen_after}
+use Rattle.gate_schedules.proofs.operations.readers.Levels.{steps_there, word_of_level}
 
 module _ (w : World) (t : ℕ) (v : View) where
   -- a level with one of its words put, and the task's part in it, is the level of the state with these

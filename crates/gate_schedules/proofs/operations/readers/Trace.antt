@@ -1,16 +1,13 @@
 -- Traces of a start and of an end. What is said of a down-read is said of it alone, so that an operation that goes through one as a part of
 -- its own has it too, after so many steps of its own.
 use Rattle.gate_schedules.proofs.Prelude.{Action, Bool, Config, Done, DownRead, DownReadStep, DownReads, Err, Go, HookAnswer, List, Next, Ok, Option}
-use Rattle.gate_schedules.proofs.Prelude.{Phase, Traced, [], actions_after, arith, down_read_after, down_read_next, event_of, false, found_by, length}
-use Rattle.gate_schedules.proofs.Prelude.{true, with_hook, ℕ, ◌∷◌, ◌≡◌, ◌≤◌}
-use Rattle.std.specs.Prelude.{◌+◌}
+use Rattle.gate_schedules.proofs.Prelude.{Phase, SyncWord, Traced, Wait, [], actions_after, arith, down_read_after, down_read_next, event_of, false}
+use Rattle.gate_schedules.proofs.Prelude.{found_by, length, true, with_hook, ℕ, ◌+◌, ◌∷◌, ◌≡◌, ◌≤◌}
 use Rattle.access_model.specs.declared.{actions.{Action.TheVariants.Grant, Gate.TheVariants.Level}, errors.GateError.TheVariants.Again}
-use Rattle.access_model.specs.declared.replies.Next.TheVariants.{Wait}
+use Rattle.gate_world.specs.declared.{operations.Op.TheVariants.{End, Start}, work.Phase.TheVariants.UpReads}
+use Rattle.gate_world.specs.traces.{Found.{backed_off, finds_closed, found_closed, left_closed, newest}, TraceStates.WordIsValid}
 use Rattle.percpu_rwsem.specs.{Readers.step_found, declared.readers.DownReadStep.TheVariants.{CountsDown, CountsUpFast, CountsUpSlow, EntersSection}}
 use Rattle.percpu_rwsem.specs.declared.readers.DownReadStep.TheVariants.{LeavesAdmitted, LeavesBlocked, LoadsBlock, LoadsSync}
-use Rattle.percpu_rwsem.specs.declared.sync_word.SyncWord.{SyncWord}
-use Rattle.gate_world.specs.{declared.{operations.Op.TheVariants.{End, Start}, work.Phase.TheVariants.UpReads}, traces.Found.backed_off}
-use Rattle.gate_world.specs.traces.{Found.{finds_closed, found_closed, left_closed, newest}, TraceStates.WordIsValid}
 use Rattle.gate_schedules.proofs.traces.TraceInvariant.{IsInductive, IsInductiveGivenReads}
 
 -- a down-read of this level, processor, task and wait, at a step

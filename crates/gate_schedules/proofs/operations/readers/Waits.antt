@@ -1,13 +1,11 @@
 -- A down-read waits only where it found the level closed; a callback only where another task is inside a read-side section.
 use Rattle.gate_schedules.proofs.Prelude.{Callback, Config, Done, DownRead, DownReadStep, DownReads, Err, Go, HasReason, HookAnswer, IsGood, List}
-use Rattle.gate_schedules.proofs.Prelude.{Next, Ok, Sections, Some, TransitionNext, World, after_of, ap, arith, cases_Bool, down_read_after, found_at}
-use Rattle.gate_schedules.proofs.Prelude.{inl, inr, inside, map_next, nat_lt, sym, ℕ, ◌+◌, ◌<◌, ◌∙◌, ◌∷◌, ◌≡◌}
-use Rattle.access_model.specs.declared.replies.Next.TheVariants.{Wait}
-use Rattle.std.proofs.Common.{◌%◌}
-use Rattle.percpu_rwsem.specs.{Callbacks.{at_callback, callback_looked, called_back, claimed}, Graces.passed_on}
-use Rattle.percpu_rwsem.specs.declared.{callbacks.CallbackStep.{CallbackStep, TheVariants.AwaitsSections}, grace.Grace.Grace}
+use Rattle.gate_schedules.proofs.Prelude.{Next, Ok, Sections, Some, TransitionNext, Wait, World, after_of, ap, arith, cases_Bool, down_read_after}
+use Rattle.gate_schedules.proofs.Prelude.{found_at, inl, inr, inside, map_next, nat_lt, sym, ℕ, ◌%◌, ◌+◌, ◌<◌, ◌∙◌, ◌∷◌, ◌≡◌}
 use Rattle.gate_world.specs.{Fits.GraceFits, declared.work.Phase.TheVariants.Callbacks, refusals.Causes.{WasClosed, last_asked}}
 use Rattle.gate_world.specs.refusals.{KeptCauses.ReadCause, Waits.HasCulprit}
+use Rattle.percpu_rwsem.specs.{Callbacks.{at_callback, callback_looked, called_back, claimed}, Graces.passed_on}
+use Rattle.percpu_rwsem.specs.declared.{callbacks.CallbackStep.{CallbackStep, TheVariants.AwaitsSections}, grace.Grace.Grace}
 
 -- this, where a wait or a refusal comes next
 abbrev pub WhereRefused : Type 0 → Next DownRead → Type 0

@@ -1,13 +1,12 @@
 -- The causes of a remount's refusals, along an execution.
-use Rattle.gate_schedules.proofs.Prelude.{Bool, CauseOf, Config, Err, GateError, HookAnswer, IsGood, List, None, Ok, Option, Phase, Remount}
-use Rattle.gate_schedules.proofs.Prelude.{RemountStep, Reply, Result, Some, Sum, WordName, Words, World, after_of, ap, arith, cases_Bool, eqb_tells}
-use Rattle.gate_schedules.proofs.Prelude.{false, found_at, has_flag, if◌then◌else◌, inl, inr, ltb-false, nat_lt, ne_eqb, phase_after, refl, subst}
-use Rattle.gate_schedules.proofs.Prelude.{suc, sym, true, words_after, wrap_add, ℕ, ◌+◌, ◌<◌, ◌==◌, ◌∙◌, ◌∷◌, ◌≡◌}
-use Rattle.std.specs.Prelude.{not}
-use Rattle.mount_counts.specs.Remounts.{at_remount, give_up, leave_holds, let_go, past_mount, past_node, remount_from, remount_summed}
-use Rattle.mount_counts.specs.{Sets.{with_mount, without_lowest}, declared.sets.MountSet.MountSet}
-use Rattle.gate_world.specs.{Remounts.RemountFits, refusals.Causes.{AreOfMount, SomeWasCounted, all_counted, last_removed, looks_at_removed}}
-use Rattle.gate_world.specs.refusals.{Causes.{moments_of_sum, mount_summed, was_removed, words_read}, KeptCauses.{RemountAnswerCause, RemountCause}}
+use Rattle.gate_schedules.proofs.Prelude.{Bool, CauseOf, Config, Err, GateError, HookAnswer, IsGood, List, MountSet, None, Ok, Option, Phase, Remount}
+use Rattle.gate_schedules.proofs.Prelude.{RemountFits, RemountStep, Reply, Result, Some, Sum, WordName, Words, World, after_of, all_counted, ap}
+use Rattle.gate_schedules.proofs.Prelude.{arith, at_remount, cases_Bool, eqb_tells, false, found_at, give_up, has_flag, if◌then◌else◌, inl, inr}
+use Rattle.gate_schedules.proofs.Prelude.{leave_holds, let_go, ltb-false, nat_lt, ne_eqb, not, past_mount, phase_after, refl, subst, suc, sym, true}
+use Rattle.gate_schedules.proofs.Prelude.{words_after, wrap_add, ℕ, ◌+◌, ◌<◌, ◌==◌, ◌∙◌, ◌∷◌, ◌≡◌}
+use Rattle.gate_world.specs.refusals.Causes.{AreOfMount, SomeWasCounted, last_removed, looks_at_removed, moments_of_sum, mount_summed, was_removed}
+use Rattle.gate_world.specs.refusals.{Causes.words_read, KeptCauses.{RemountAnswerCause, RemountCause}}
+use Rattle.mount_counts.specs.{Remounts.{past_node, remount_from, remount_summed}, Sets.{with_mount, without_lowest}}
 use Rattle.gate_schedules.proofs.{frames.{OperationLaws.by_bool, Words.load_same}, mounts.SumCauses.{counted_stays, sum_ends, sum_starts, sum_stays}}
 use Rattle.gate_schedules.proofs.{mounts.SumCauses.sum_takes, traces.Moments.{sum_begins, sum_skips}}
 

@@ -1,13 +1,12 @@
 -- What fits after a step of a remount.
-use Rattle.gate_schedules.proofs.Prelude.{Action, ActionFits, Bool, Config, Fits, GateError, Holdings, HookAnswer, IsWithin, IsWord, Next, Phase}
-use Rattle.gate_schedules.proofs.Prelude.{PhaseFits, Remount, RemountStep, Sum, ap, arith, cases_Bool, eqb_tells, false, has_flag, held_after, inl}
-use Rattle.gate_schedules.proofs.Prelude.{inr, map_next, phase_after, refl, sym, true, true≢false, wrap_add, ℕ, ◌+◌, ◌<◌, ◌∙◌, ◌≡◌}
-use Rattle.std.proofs.Common.{Err, None, Ok, Option, Some, if◌then◌else◌, ltb-true, nat_lt, not, ◌==◌}
-use Rattle.mount_counts.proofs.laws.Sets.{joins_there, joins_within, leaves_here, leaves_there, leaves_within, lowest_held, none_held}
-use Rattle.mount_counts.specs.Remounts.{at_remount, give_up, leave_holds, let_go, past_mount, past_node, remount_after, remount_from, remount_next}
-use Rattle.mount_counts.specs.{Remounts.remount_summed, Sets.{has_mount, lowest, no_mounts, with_mount, without_lowest}}
-use Rattle.mount_counts.specs.declared.sets.MountSet.{MountSet}
-use Rattle.gate_world.specs.{Configs.extents_of, Remounts.{AllBelow, RemountFits}}
+use Rattle.gate_schedules.proofs.Prelude.{Action, ActionFits, Bool, Config, Err, Fits, GateError, Holdings, HookAnswer, IsWithin, IsWord, MountSet}
+use Rattle.gate_schedules.proofs.Prelude.{Next, None, Ok, Option, Phase, PhaseFits, Remount, RemountFits, RemountStep, Some, Sum, ap, arith}
+use Rattle.gate_schedules.proofs.Prelude.{at_remount, cases_Bool, eqb_tells, extents_of, false, give_up, has_flag, has_mount, held_after}
+use Rattle.gate_schedules.proofs.Prelude.{if◌then◌else◌, inl, inr, leave_holds, let_go, map_next, nat_lt, not, past_mount, phase_after, refl, sym}
+use Rattle.gate_schedules.proofs.Prelude.{true, true≢false, wrap_add, ℕ, ◌+◌, ◌<◌, ◌==◌, ◌∙◌, ◌≡◌}
+use Rattle.{gate_world.specs.Remounts.AllBelow, mount_counts.proofs.laws.Sets.{joins_there, joins_within, leaves_here, leaves_there, leaves_within}}
+use Rattle.mount_counts.{proofs.laws.Sets.{lowest_held, none_held}, specs.Remounts.{past_node, remount_after, remount_from, remount_next}}
+use Rattle.{mount_counts.specs.{Remounts.remount_summed, Sets.{lowest, no_mounts, with_mount, without_lowest}}, std.proofs.Common.ltb-true}
 use Rattle.gate_schedules.proofs.frames.OperationLaws.{by_bool}
 
 pub joins_below : (m : ℕ) (held : MountSet) → m < 8 → AllBelow m held → AllBelow (m + 1) (with_mount held m)

@@ -1,21 +1,19 @@
 -- Steps of a remount's loop over the mounts.
-use Rattle.gate_schedules.proofs.Prelude.{AtMount, Bool, Clearing, Config, HookAnswer, IsGood, IsWithin, MountHoldsIn, Next, Phase, PhaseFits}
-use Rattle.gate_schedules.proofs.Prelude.{Remount, RemountStep, Sum, Touch, View, WordName, World, add-one, ap, arith, cases_Bool, eqb_tells, false}
-use Rattle.gate_schedules.proofs.Prelude.{has_flag, has_hold, held_of, inl, inr, marks_of, owns, refl, role_of, subst, suc, sym, view_with, wrap_add}
-use Rattle.gate_schedules.proofs.Prelude.{ℕ, ◌+◌, ◌<◌, ◌∙◌, ◌≡◌}
-use Rattle.gate_schedules.proofs.{frames.{OperationLaws.by_bool, Owners.no_hold}, operations.remount.Fits.{give_up_fits, joins_below}}
-use Rattle.gate_schedules.proofs.operations.remount.{Fits.past_mount_fits, Parts.{Mount, NextRoleHolds, RemountKeeps, StaysAtStep, flags_change}}
-use Rattle.gate_schedules.proofs.operations.remount.Parts.{here_fits, here_knows, in_loop, load_event, mount_stays, owner_on, role_was}
-use Rattle.gate_schedules.proofs.operations.remount.Roles.{give_up_role, not_passed, passed_here, passed_there, past_mount_role, remount_seeks}
-use Rattle.gate_schedules.proofs.operations.remount.Roles.{summing_here, summing_there}
-use Rattle.gate_world.specs.{Remounts.{AllBelow, giving_role, loop_role, remount_role}, Roles.remount_stage_role}
-use Rattle.gated_tree.specs.Roles.{Out as OffTree}
-use Rattle.mount_counts.proofs.laws.{Bits.{or_hold, read_only_set}, MountLaws.{SeeksNone, is_left, is_skipped, sets_hold as mount_sets_hold, sums_on}}
-use Rattle.mount_counts.{proofs.laws.{MountLaws.{sums_to_none, sums_to_some}, Sets.{joins_here, joins_there}}, specs.Remounts.{at_remount, give_up}}
-use Rattle.mount_counts.specs.{Remounts.{leave_holds, let_go, past_mount, past_node}, Roles.{Out, Summing, hold_bit}, Sets.{has_mount, with_mount}}
-use Rattle.mount_counts.specs.declared.sets.MountSet.{MountSet}
-use Rattle.freeze_laws.specs.stages.{Events.SameDuties, Roles.{CleanBelow, Remounting}}
-use Rattle.std.proofs.Common.{None, Some, bit_or, eq-eqb, if◌then◌else◌, ltb-false, ltb-true, nat_lt, ne_eqb, ◌==◌, ◌⊎◌}
+use Rattle.gate_schedules.proofs.Prelude.{AtMount, Bool, CleanBelow, Clearing, Config, HookAnswer, IsGood, IsWithin, MountHoldsIn, MountSet, Next}
+use Rattle.gate_schedules.proofs.Prelude.{None, Phase, PhaseFits, Remount, RemountStep, SameDuties, Some, Sum, Touch, View, WordName, World, add-one}
+use Rattle.gate_schedules.proofs.Prelude.{ap, arith, at_remount, cases_Bool, eqb_tells, false, give_up, has_flag, has_hold, has_mount, held_of}
+use Rattle.gate_schedules.proofs.Prelude.{if◌then◌else◌, inl, inr, leave_holds, let_go, marks_of, nat_lt, owns, past_mount, refl, remount_stage_role}
+use Rattle.gate_schedules.proofs.Prelude.{role_of, subst, suc, sym, view_with, wrap_add, ℕ, ◌+◌, ◌<◌, ◌==◌, ◌∙◌, ◌≡◌, ◌⊎◌}
+use Rattle.{freeze_laws.specs.stages.Roles.Remounting, gate_world.specs.Remounts.{AllBelow, giving_role, loop_role, remount_role}}
+use Rattle.{gated_tree.specs.Roles.Out as OffTree, mount_counts.proofs.laws.Bits.{or_hold, read_only_set}}
+use Rattle.mount_counts.proofs.laws.MountLaws.{SeeksNone, is_left, is_skipped, sets_hold as mount_sets_hold, sums_on, sums_to_none, sums_to_some}
+use Rattle.mount_counts.{proofs.laws.Sets.{joins_here, joins_there}, specs.{Remounts.past_node, Roles.{Out, Summing, hold_bit}, Sets.with_mount}}
+use Rattle.std.proofs.Common.{bit_or, eq-eqb, ltb-false, ltb-true, ne_eqb}
+use Rattle.gate_schedules.proofs.frames.{OperationLaws.by_bool, Owners.no_hold}
+use Rattle.gate_schedules.proofs.operations.remount.Fits.{give_up_fits, joins_below, past_mount_fits}
+use Rattle.gate_schedules.proofs.operations.remount.Parts.{Mount, NextRoleHolds, RemountKeeps, StaysAtStep, flags_change, here_fits, here_knows}
+use Rattle.gate_schedules.proofs.operations.remount.{Parts.{in_loop, load_event, mount_stays, owner_on, role_was}, Roles.{give_up_role, not_passed}}
+use Rattle.gate_schedules.proofs.operations.remount.Roles.{passed_here, passed_there, past_mount_role, remount_seeks, summing_here, summing_there}
 
 -- what stays where the loop goes on, where holds are to be cleared, and where marks are
 past_mount_stays : (nodes mounts m : ℕ) (held : MountSet) → StaysAtStep nodes (past_mount mounts m held) 0 OffTree

@@ -1,26 +1,23 @@
 -- What a step of a remount may leave: each conjunct of the invariant, and the shown state.
-use Rattle.gate_schedules.proofs.Prelude.{Action, AtLevel, AtMount, Bool, Config, Files, Fits, Fitting, HasFile, Holding, Holdings, Holds, HookAnswer}
-use Rattle.gate_schedules.proofs.Prelude.{IsGood, IsWithin, Known, KnowsStage, Moves, Next, Owner, OwnerHolds, Part, Phase, PhaseFits, Remount}
-use Rattle.gate_schedules.proofs.Prelude.{RemountStep, Sections, StageEvent, StageRole, Stages, StepKeeps, SyncAt, Touch, Tree, TreeState, View}
-use Rattle.gate_schedules.proofs.Prelude.{ViewFits, WordName, Words, World, added_by, after_step, ap, arith, at_mount, cases_Bool, closing}
-use Rattle.gate_schedules.proofs.Prelude.{each_updated, eqb_tells, false, file_of, has_open, held_of, holder_role_of, holders_in, inl, inr}
-use Rattle.gate_schedules.proofs.Prelude.{is_bare_at, is_frozen_whole, level_added_by, level_taken_by, marks_of, node_shown, openers, opens_in, owns}
-use Rattle.gate_schedules.proofs.Prelude.{read, refl, remounts, ro_bit, role_of, shown, stage_role_of, subst, sym, taken_by, tree_bounds, tree_of}
-use Rattle.gate_schedules.proofs.Prelude.{tree_role_of, tree_roles, true≢false, update, update_at, update_map, update_off, update_same, view_with, ℕ}
-use Rattle.gate_schedules.proofs.Prelude.{◌<◌, ◌∙◌, ◌≡◌}
-use Rattle.freeze_levels.specs.holder_laws.Roles.{Apart}
+use Rattle.gate_schedules.proofs.Prelude.{Action, Apart, AtLevel, AtMount, Bool, CleanBelow, Config, Files, Fits, Fitting, HasFile, Holding, Holdings}
+use Rattle.gate_schedules.proofs.Prelude.{Holds, HookAnswer, IsGood, IsSteady, IsWithin, Known, KnowsStage, Moves, Next, None, Option, Owner}
+use Rattle.gate_schedules.proofs.Prelude.{OwnerHolds, Owning, Part, Phase, PhaseFits, Remount, RemountFits, RemountStep, SameDuties, Sections, Some}
+use Rattle.gate_schedules.proofs.Prelude.{StageEvent, StageRole, Stages, StepKeeps, SyncAt, Touch, Tree, TreeState, View, ViewFits, WordName, Words}
+use Rattle.gate_schedules.proofs.Prelude.{World, added_by, after_step, ap, arith, at_mount, at_remount, cases_Bool, closing, each_updated, eqb_tells}
+use Rattle.gate_schedules.proofs.Prelude.{false, file_of, has_open, held_of, holder_role_of, holders_in, inl, inr, is_bare_at, is_frozen_whole}
+use Rattle.gate_schedules.proofs.Prelude.{level_added_by, level_taken_by, marks_of, node_shown, openers, opens_in, owns, phase_action, playing, read}
+use Rattle.gate_schedules.proofs.Prelude.{refl, remount_stage_role, remounts, ro_bit, role_of, shown, stage_role_of, subst, sym, taken_by}
+use Rattle.gate_schedules.proofs.Prelude.{tree_bounds, tree_of, tree_role_of, tree_roles, true≢false, update, update_at, update_map, update_off}
+use Rattle.gate_schedules.proofs.Prelude.{update_same, view_with, ℕ, ◌<◌, ◌==◌, ◌||◌, ◌∙◌, ◌≡◌}
+use Rattle.freeze_laws.specs.stages.{Events.Recalls, Roles.{IsKnown, clean_by}}
+use Rattle.gate_world.specs.{Remounts.{remount_owns, remount_role, remount_sets}, Roles.remount_tree_role, Trees.is_sealed}
+use Rattle.{gated_tree.specs.Roles.Role as TreeRole, mount_counts.specs.Roles.{MountHolds, Role}}
 use Rattle.gate_schedules.proofs.frames.Frames.{IsOffLevels, SameLevelCounts, SameLevelWords, added_load, holds_as, left_alone, level_left}
 use Rattle.gate_schedules.proofs.frames.Frames.{opens_left, owner_same, sections_left, shown_held, shown_still, sync_left, taken_load, view_as}
 use Rattle.gate_schedules.proofs.frames.{Holders.holders_stay, Known.{IsOwnersWork, known_after}, Owners.remount_stored, Stages.IsStageEvent}
 use Rattle.gate_schedules.proofs.{frames.{Stages.{stages_after, stages_in}, Words.load_same}, mounts.{Loads.after_load, Parts.is_known_part}}
 use Rattle.gate_schedules.proofs.{mounts.Parts.{known_is, level_added_load, level_taken_load}, trees.{Each.each_event, worlds.Trees.marks_right}}
 use Rattle.gate_schedules.{proofs.trees.worlds.Trees.{tree_after, tree_holds, tree_then, tree_within}, specs.trees.Events.Event as TreeEvent}
-use Rattle.gate_world.specs.{Remounts.{RemountFits, remount_owns, remount_role, remount_sets}, Roles.{remount_stage_role, remount_tree_role}}
-use Rattle.gate_world.specs.{Rules.IsSteady, Trees.is_sealed, Worlds.phase_action}
-use Rattle.gated_tree.specs.Roles.{Role as TreeRole}
-use Rattle.mount_counts.specs.{Remounts.at_remount, Roles.{MountHolds, Role}}
-use Rattle.freeze_laws.specs.stages.{Events.{Recalls, SameDuties, playing}, Roles.{CleanBelow, IsKnown, Owning, clean_by}}
-use Rattle.std.proofs.Common.{None, Option, Some, ◌==◌, ◌||◌}
 
 remount_work : (w : World) (x : Remount) (hook : HookAnswer) → IsOwnersWork w (Phase.Remounts x) hook
 remount_work w x hook = grind arith

@@ -1,15 +1,12 @@
 -- A remount that finds `umount` free runs out.
-use Rattle.gate_schedules.proofs.Prelude.{Bool, Config, Err, Fits, Fitting, HookAnswer, IsUnblocked, IsWithin, Ok, Phase, PhaseEnds, PhaseFits}
-use Rattle.gate_schedules.proofs.Prelude.{RankDecreases, Remount, RemountStep, Sum, Words, ap, arith, cases_Bool, eqb_tells, false, found_at}
-use Rattle.gate_schedules.proofs.Prelude.{found_by, has_flag, held_of, inl, inr, ltb-true, nat_lt, rank, read, subst, suc, sym, total, total_updated}
-use Rattle.gate_schedules.proofs.Prelude.{true, update, update_at, update_off, words_after, ℕ, ◌+◌, ◌<◌, ◌==◌, ◌∙◌, ◌≡◌, ◌≤◌}
-use Rattle.std.specs.Prelude.{not, ◌%◌, ◌-◌}
-use Rattle.finite_sums.proofs.Totals.{total_bound, total_same}
-use Rattle.mount_counts.{proofs.laws.Sets.{leaves_here, leaves_there, lowest_held}, specs.Remounts.{give_up, leave_holds, let_go, past_mount}}
-use Rattle.mount_counts.specs.{Remounts.{remount_after, remount_from, remount_next}, Sets.{has_mount, lowest, with_mount, without_lowest}}
-use Rattle.mount_counts.specs.declared.sets.MountSet.{MountSet}
+use Rattle.gate_schedules.proofs.Prelude.{Bool, Config, Err, Fits, Fitting, HookAnswer, IsUnblocked, IsWithin, MountSet, Ok, Phase, PhaseEnds}
+use Rattle.gate_schedules.proofs.Prelude.{PhaseFits, RankDecreases, Remount, RemountFits, RemountStep, Sum, Words, ap, arith, cases_Bool, eqb_tells}
+use Rattle.gate_schedules.proofs.Prelude.{false, found_at, found_by, give_up, has_flag, has_mount, held_of, inl, inr, leave_holds, let_go, ltb-true}
+use Rattle.gate_schedules.proofs.Prelude.{nat_lt, not, past_mount, rank, read, subst, suc, sym, total, total_bound, total_updated, true, update}
+use Rattle.gate_schedules.proofs.Prelude.{update_at, update_off, words_after, ℕ, ◌%◌, ◌+◌, ◌-◌, ◌<◌, ◌==◌, ◌∙◌, ◌≡◌, ◌≤◌}
+use Rattle.{finite_sums.proofs.Totals.total_same, mount_counts.proofs.laws.Sets.{leaves_here, leaves_there, lowest_held}}
+use Rattle.mount_counts.specs.{Remounts.{remount_after, remount_from, remount_next}, Sets.{lowest, with_mount, without_lowest}}
 use Rattle.percpu_rwsem.specs.SyncWords.{bit}
-use Rattle.gate_world.specs.Remounts.{RemountFits}
 use Rattle.gate_schedules.{proofs.operations.deadlocks.RankDecreases.falls_as, specs.operations.Ranks.{held_size, loop_rank, mount_bit, remount_rank}}
 use Rattle.gate_schedules.specs.operations.Unblocked.{RemountIsUnblocked}
 

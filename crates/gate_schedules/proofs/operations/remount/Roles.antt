@@ -1,9 +1,8 @@
 -- The roles of a remount at each mount.
-use Rattle.gate_schedules.proofs.Prelude.{Bool, RemountStep, Sum, arith, false, refl, true, ℕ, ◌+◌, ◌<◌, ◌≡◌}
-use Rattle.std.proofs.{Common.{eq-eqb, if◌then◌else◌, nat_lt, ne_eqb, ◌==◌}, lemmas.Bool.Decides.nat_tests}
-use Rattle.mount_counts.{proofs.laws.MountLaws.SeeksNone, specs.{Remounts.{give_up, leave_holds, let_go, past_mount, past_node}, Roles.{Out, Role}}}
-use Rattle.mount_counts.specs.{Roles.Summing, Sets.has_mount, declared.sets.MountSet.MountSet}
-use Rattle.gate_world.specs.Remounts.{giving_role, held_role, loop_role, remount_role, summing_role}
+use Rattle.gate_schedules.proofs.Prelude.{Bool, MountSet, RemountStep, Sum, arith, false, give_up, has_mount, if◌then◌else◌, leave_holds, let_go}
+use Rattle.gate_schedules.proofs.Prelude.{nat_lt, past_mount, refl, true, ℕ, ◌+◌, ◌<◌, ◌==◌, ◌≡◌}
+use Rattle.{gate_world.specs.Remounts.{giving_role, held_role, loop_role, remount_role, summing_role}, mount_counts.proofs.laws.MountLaws.SeeksNone}
+use Rattle.{mount_counts.specs.{Remounts.past_node, Roles.{Out, Role, Summing}}, std.proofs.{Common.{eq-eqb, ne_eqb}, lemmas.Bool.Decides.nat_tests}}
 use Rattle.gate_schedules.proofs.frames.OperationLaws.{by_bool}
 use mathlib.Core.Bool.{true}
 

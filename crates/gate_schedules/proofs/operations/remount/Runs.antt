@@ -1,10 +1,8 @@
 -- What the steps of a remount make of each freeze level: they leave it.
-use Rattle.gate_schedules.proofs.Prelude.{Config, HookAnswer, IsGood, KnowsStage, Next, Phase, Remount, RemountStep, Some, SyncAt, SyncStep, Words}
-use Rattle.gate_schedules.proofs.Prelude.{World, after_step, arith, found_at, inside, level_in, map_next, phase_after, refl, sync_role_of}
-use Rattle.gate_schedules.proofs.Prelude.{words_after, ℕ, ◌<◌, ◌≡◌}
-use Rattle.mount_counts.specs.Remounts.{at_remount, remount_after}
-use Rattle.freeze_laws.specs.levels.Roles.{Out as IsApart}
-use Rattle.gate_world.specs.{Roles.remount_stage_role, Rules.SameWords}
+use Rattle.gate_schedules.proofs.Prelude.{Config, HookAnswer, IsGood, KnowsStage, Next, Phase, Remount, RemountStep, SameWords, Some, SyncAt}
+use Rattle.gate_schedules.proofs.Prelude.{SyncStep, Words, World, after_step, arith, at_remount, found_at, inside, level_in, map_next, phase_after}
+use Rattle.gate_schedules.proofs.Prelude.{refl, remount_stage_role, sync_role_of, words_after, ℕ, ◌<◌, ◌≡◌}
+use Rattle.{freeze_laws.specs.levels.Roles.Out as IsApart, mount_counts.specs.Remounts.remount_after}
 use Rattle.gate_schedules.proofs.{mounts.Runs.apart_run, operations.remount.Parts.here_knows}
 
 -- no step of a remount changes what a level reads of the words: the superblock's flags are stored at stage 0, where nothing is frozen

@@ -1,15 +1,13 @@
 -- Traces of a remount of the superblock.
-use Rattle.gate_schedules.proofs.Prelude.{Action, Bool, Config, Err, GateError, HookAnswer, IsWithin, List, Ok, Op, Phase, RemountStep, Reply, Result}
-use Rattle.gate_schedules.proofs.Prelude.{Sum, Touch, Traced, WordName, [], add-one, arith, cases_Bool, eq-eqb, eqb_tells, event_of, false}
-use Rattle.gate_schedules.proofs.Prelude.{if◌then◌else◌, inl, inr, ltb-false, ltb-true, nat_lt, ne_eqb, refl, subst, suc, sym, true, with_hook}
-use Rattle.gate_schedules.proofs.Prelude.{wrap_add, ℕ, ◌+◌, ◌<◌, ◌==◌, ◌∙◌, ◌∷◌, ◌≡◌, ◌≤◌}
-use Rattle.std.{proofs.lemmas.List.Sums.sum_by-cons, specs.Prelude.◌++◌}
-use Rattle.mount_counts.specs.{Remounts.{give_up, leave_holds, let_go, past_mount}, Sets.{with_mount, without_lowest}}
-use Rattle.mount_counts.specs.declared.sets.MountSet.{MountSet}
+use Rattle.gate_schedules.proofs.Prelude.{Action, Bool, Config, Err, GateError, HookAnswer, IsWithin, List, MountSet, Ok, Op, Phase, RemountStep}
+use Rattle.gate_schedules.proofs.Prelude.{Reply, Result, Sum, Touch, Traced, WordName, [], actions_of, add-one, arith, cases_Bool, eq-eqb, eqb_tells}
+use Rattle.gate_schedules.proofs.Prelude.{event_of, false, give_up, if◌then◌else◌, inl, inr, leave_holds, let_go, ltb-false, ltb-true, nat_lt, ne_eqb}
+use Rattle.gate_schedules.proofs.Prelude.{past_mount, refl, subst, suc, sym, true, with_hook, wrap_add, ℕ, ◌+◌, ◌<◌, ◌==◌, ◌∙◌, ◌∷◌, ◌≡◌, ◌≤◌}
 use Rattle.gate_world.specs.traces.Found.{IsEachCount, cleans, counts_loaded, each_event, finds_taken, found_sealed, sum_loaded}
-use Rattle.gate_world.specs.traces.Traces.{IsHonestAnswer, actions_of}
-use Rattle.gate_schedules.proofs.{frames.OperationLaws.by_bool, traces.{Cleans.{LeaveAccesses, cleans_leave}, TraceInvariant.InvariantAfterStep}}
-use Rattle.gate_schedules.proofs.traces.TraceInvariant.{IsInductive, event_at}
+use Rattle.{gate_world.specs.traces.Traces.IsHonestAnswer, mount_counts.specs.Sets.{with_mount, without_lowest}}
+use Rattle.std.proofs.{Common.◌++◌, lemmas.List.Sums.sum_by-cons}
+use Rattle.gate_schedules.proofs.{frames.OperationLaws.by_bool, traces.Cleans.{LeaveAccesses, cleans_leave}}
+use Rattle.gate_schedules.proofs.traces.TraceInvariant.{InvariantAfterStep, IsInductive, event_at}
 
 -- a remount of the superblock by a task, at this step
 abbrev remount : Config → ℕ → Bool → RemountStep → Phase

@@ -1,7 +1,6 @@
 -- A remount waits only where another task has `umount`, and is refused only for its cause.
 use Rattle.gate_schedules.proofs.Prelude.{Config, Err, GateError, HasReason, HookAnswer, IsGood, List, Ok, Phase, Remount, RemountStep, Some, World}
-use Rattle.gate_schedules.proofs.Prelude.{after_of, ap, cases_Bool, eqb_tells, found_at, has_flag, inl, inr, owns, refl, ℕ, ◌<◌, ◌≡◌}
-use Rattle.mount_counts.specs.Remounts.{at_remount}
+use Rattle.gate_schedules.proofs.Prelude.{after_of, ap, at_remount, cases_Bool, eqb_tells, found_at, has_flag, inl, inr, owns, refl, ℕ, ◌<◌, ◌≡◌}
 use Rattle.gate_world.specs.refusals.KeptCauses.{RemountCause}
 use Rattle.gate_schedules.proofs.frames.Owners.{umount_taken}
 

@@ -1,21 +1,19 @@
 -- The law of each step of a snapshot.
 use Rattle.gate_schedules.proofs.Prelude.{AtLevel, AtMount, Bool, Config, Err, Files, Fits, Fitting, GateError, Holding, Holds, HookAnswer, IsGood}
-use Rattle.gate_schedules.proofs.Prelude.{IsWithin, Known, KnowsStage, Next, None, Option, Owner, Part, Phase, PhaseFits, Reply, Result, Sections}
-use Rattle.gate_schedules.proofs.Prelude.{Snapshot, SnapshotStep, Some, StageRole, Stages, StepKeeps, SyncAt, Traced, Tree, TreePhase, View, WordName}
-use Rattle.gate_schedules.proofs.Prelude.{Words, World, after_step, ap, arith, common_steps, eqb_tells, false, found_by, held_of, if◌then◌else◌, inl}
-use Rattle.gate_schedules.proofs.Prelude.{inr, map_next, marks_of, owns, phase_after, put, read, refl, remounts, role_after, stage_role_of}
-use Rattle.gate_schedules.proofs.Prelude.{stage_roles, subst, suc, sym, tree_bounds, tree_role_of, true, update, view_with, ℕ, ◌<◌, ◌==◌, ◌∙◌, ◌≡◌}
+use Rattle.gate_schedules.proofs.Prelude.{IsWithin, Known, KnowsStage, List, Next, None, Option, Owner, Owning, Part, Phase, PhaseFits, Reply, Result}
+use Rattle.gate_schedules.proofs.Prelude.{SameDuties, Sections, Snapshot, SnapshotStep, Some, StageRole, Stages, StepKeeps, SyncAt, Traced, Tree}
+use Rattle.gate_schedules.proofs.Prelude.{TreePhase, View, WordName, Words, World, after_step, ap, arith, common_steps, eqb_tells, false, found_by}
+use Rattle.gate_schedules.proofs.Prelude.{held_of, if◌then◌else◌, inl, inr, map_next, marks_of, node_after, owns, phase_after, playing, put, read}
+use Rattle.gate_schedules.proofs.Prelude.{refl, remounts, role_after, snapshot_next, stage_role_of, stage_roles, subst, suc, sym, tree_bounds}
+use Rattle.gate_schedules.proofs.Prelude.{tree_role_of, true, update, values_noted, view_with, ℕ, ◌<◌, ◌==◌, ◌∙◌, ◌≡◌}
+use Rattle.freeze_laws.specs.stages.Events.{Locks as LocksStage, Recalls, Releases as ReleasesStage, Stages as StageMoment}
+use Rattle.{freeze_laws.specs.stages.Roles.{Aside, clean_by, owns as stage_owns}, gate_world.specs.Roles.{snapshot_stage_role, stage_at_end}}
+use Rattle.gated_tree.specs.{Calls.phase_role, Phases.{at_snapshot, kids_step, snapshot_after, snapshot_locked_out}}
 use Rattle.gate_schedules.proofs.frames.{ByPhase.snapshot_owner, Frames.left_alone, Known.{IsOwnersWork, known_after}, OperationLaws.by_bool}
 use Rattle.gate_schedules.proofs.frames.{Owners.{locks_umount, releases_umount}, Snapshots.noted_part, Stages.{alike_same, nobody_owns, owners_alike}}
 use Rattle.gate_schedules.proofs.{frames.{Stages.{stages_after, stages_in}, Words.load_same}, operations.snapshot.Noted.notes_step}
 use Rattle.gate_schedules.proofs.trees.worlds.Parts.{TreeKeeps, call_files, call_fitting, call_keeps, call_moves, call_parts, call_view}
 use Rattle.gate_schedules.specs.trees.Steps.{words_left}
-use Rattle.gate_world.specs.{Roles.{snapshot_stage_role, stage_at_end}, traces.Snapshots.values_noted}
-use Rattle.node_words.specs.Nodes.{node_after}
-use Rattle.gated_tree.specs.{Calls.phase_role, Phases.{at_snapshot, kids_step, snapshot_after, snapshot_locked_out, snapshot_next}}
-use Rattle.freeze_laws.specs.stages.Events.{Locks as LocksStage, Recalls, Releases as ReleasesStage, SameDuties, Stages as StageMoment, playing}
-use Rattle.freeze_laws.specs.stages.Roles.{Aside, Owning, clean_by, owns as stage_owns}
-use Rattle.std.proofs.Common.{List}
 
 -- the words but `umount`
 abbrev off_umount : Words → Words

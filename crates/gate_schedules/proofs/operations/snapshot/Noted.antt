@@ -1,12 +1,11 @@
 -- What the loads of a trace have noted of the tree, and what a snapshot's next load adds.
-use Rattle.gate_schedules.proofs.Prelude.{Bounds, HookAnswer, Snapshot, SnapshotStep, Traced, WordName, ap, arith, cases_Bool, common_steps}
-use Rattle.gate_schedules.proofs.Prelude.{eqb_tells, event_of, found_by, inl, inr, le-ltb, lt-ltb, node_shown, refl, subst, suc, sym, with_hook, zero}
-use Rattle.gate_schedules.proofs.Prelude.{ℕ, ◌+◌, ◌-◌, ◌<◌, ◌∙◌, ◌≡◌, ◌≤◌}
-use Rattle.std.{proofs.{Common.{List, [], get_or-set_other, get_or-set_same, length, ◌∷◌}, lemmas.List.length-replicate}, specs.Prelude.slice_index}
-use Rattle.gated_tree.specs.{Calls.SnapshotStepFits, Phases.snapshot_next, Roles.{seen_as, tree_word}, Trees.{loaded, node_at}}
-use Rattle.gated_tree.specs.declared.trees.TreeWords.{TreeWords}
+use Rattle.gate_schedules.proofs.Prelude.{Bounds, HookAnswer, List, Snapshot, SnapshotStep, Traced, WordName, [], ap, arith, cases_Bool, common_steps}
+use Rattle.gate_schedules.proofs.Prelude.{eqb_tells, event_of, found_by, inl, inr, le-ltb, length, lt-ltb, node_shown, refl, seen_as, snapshot_next}
+use Rattle.gate_schedules.proofs.Prelude.{subst, suc, sym, values_noted, with_hook, zero, ℕ, ◌+◌, ◌-◌, ◌<◌, ◌∙◌, ◌∷◌, ◌≡◌, ◌≤◌}
+use Rattle.gate_world.specs.traces.{Found.is_load, Snapshots.loads_noted}
+use Rattle.gated_tree.specs.{Calls.SnapshotStepFits, Roles.tree_word, Trees.{loaded, node_at}, declared.trees.TreeWords.TreeWords}
+use Rattle.std.proofs.{Common.{get_or-set_other, get_or-set_same, slice_index}, lemmas.List.length-replicate}
 use Rattle.gate_schedules.specs.trees.Steps.{NotesLoad, NotesOne}
-use Rattle.gate_world.specs.traces.{Found.is_load, Snapshots.{loads_noted, values_noted}}
 
 -- there is room for the words of so many nodes
 abbrev pub IsLong : ℕ → TreeWords → Type 0

@@ -1,11 +1,9 @@
 -- Traces of a snapshot.
 use Rattle.gate_schedules.proofs.Prelude.{Action, Bool, Config, IsWithin, List, Op, Phase, Snapshot, SnapshotStep, Traced, TreePhase, [], arith, true}
-use Rattle.gate_schedules.proofs.Prelude.{ℕ, ◌+◌, ◌<◌, ◌≡◌}
-use Rattle.std.proofs.Common.{◌*◌}
-use Rattle.gated_tree.specs.Phases.{at_snapshot}
+use Rattle.gate_schedules.proofs.Prelude.{ℕ, ◌*◌, ◌+◌, ◌<◌, ◌≡◌}
+use Rattle.{gate_world.specs.{Operations.first_snapshot, traces.Found.{each_event, finds_taken}}, gated_tree.specs.Phases.at_snapshot}
 use Rattle.gate_schedules.proofs.{operations.calls.Trace.CallAt, traces.TraceInvariant.{IsInductiveGivenReads, TraceLaws, traces_given_reads}}
 use Rattle.gate_schedules.specs.trees.Ends.{SnapshotKnows}
-use Rattle.gate_world.specs.{Operations.first_snapshot, traces.Found.{each_event, finds_taken}}
 
 -- before `umount` is taken, each step has found it taken; after that, the node whose words a snapshot loads is one of the tree's
 abbrev StepInvariant : Config → List Traced → SnapshotStep → Type 0

@@ -1,8 +1,7 @@
 -- The causes of a thaw's refusals, along an execution, and the counts, which a thaw leaves.
 use Rattle.gate_schedules.proofs.Prelude.{CauseOf, Config, HookAnswer, List, Option, Phase, Some, Thaw, ThawStep, World, after_of, arith, found_at}
 use Rattle.gate_schedules.proofs.Prelude.{phase_after, ℕ, ◌∷◌, ◌≡◌}
-use Rattle.freeze_levels.specs.Thaws.{at_thaw}
-use Rattle.gate_world.specs.refusals.KeptCauses.{ThawCause}
+use Rattle.{freeze_levels.specs.Thaws.at_thaw, gate_world.specs.refusals.KeptCauses.ThawCause}
 
 -- a task whose view another transition leaves alone: the cause of each step stays
 pub thaw_stays : (c : Config) (t : ℕ) (w next : World) (earlier : List World) (x : Thaw) (s : ThawStep) →

@@ -1,15 +1,23 @@
 -- The law of each step of a thaw.
-use Rattle.gate_schedules.proofs.Prelude.{Action, Config, Err, Event, Fits, Fitting, GateError, Holding, Holdings, Holds, HookAnswer, IsGood}
-use Rattle.gate_schedules.proofs.Prelude.{IsWithin, KnowsStage, List, Next, None, Ok, Option, OwnerHolds, Phase, PhaseFits, Reply, Result, Some}
-use Rattle.gate_schedules.proofs.Prelude.{StageEvent, StageRole, Stages, StepKeeps, Thaw, ThawStep, Touch, Traced, Transition, TransitionNext}
-use Rattle.gate_schedules.proofs.Prelude.{UpWrite, UpWriteStep, View, ViewFits, WordName, Words, World, actions_after, added_by, ap, arith}
-use Rattle.gate_schedules.proofs.Prelude.{common_steps, dirty_in, eqb_tells, found_by, held_by, held_of, holder_role_of, holders_in, holdings_of, inl}
-use Rattle.gate_schedules.proofs.Prelude.{inr, is_frozen_whole, left, level_added_by, level_taken_by, map_next, marks_of, model_limits, on_exit, owns}
-use Rattle.gate_schedules.proofs.Prelude.{phase_after, put, read, refl, shown, stage_role_of, stage_roles, subst, suc, sym, taken_by, total}
-use Rattle.gate_schedules.proofs.Prelude.{transition_after, tree_role_of, up_write_after, up_write_next, update, view_with, zero, ℕ, ◌+◌, ◌-◌, ◌<◌}
-use Rattle.gate_schedules.proofs.Prelude.{◌∙◌, ◌∷◌, ◌≡◌, ◌≤◌}
+use Rattle.gate_schedules.proofs.Prelude.{Action, Apart, CleanBelow, Config, Err, Event, Fits, Fitting, GateError, Holding, Holdings, Holds}
+use Rattle.gate_schedules.proofs.Prelude.{HookAnswer, IsGood, IsWithin, KnowsStage, List, Next, None, Ok, Option, OwnerHolds, Owning, Phase}
+use Rattle.gate_schedules.proofs.Prelude.{PhaseFits, Reply, Result, SameDuties, Some, StageEvent, StageRole, Stages, StepKeeps, Thaw, ThawStep, Touch}
+use Rattle.gate_schedules.proofs.Prelude.{Traced, Transition, TransitionNext, UpWrite, UpWriteStep, View, ViewFits, WordName, Words, World}
+use Rattle.gate_schedules.proofs.Prelude.{actions_after, added_by, ap, arith, common_steps, dirty_in, eqb_tells, exit_made, false, found_by, held_by}
+use Rattle.gate_schedules.proofs.Prelude.{held_of, holder_role_of, holders_in, holdings_of, inl, inr, is_frozen_whole, left, level_added_by}
+use Rattle.gate_schedules.proofs.Prelude.{level_taken_by, map_next, marks_of, model_limits, on_exit, owns, phase_after, playing, put, read, refl}
+use Rattle.gate_schedules.proofs.Prelude.{shown, stage_role_of, stage_roles, state_after, subst, suc, sym, taken_by, total, transition_after}
+use Rattle.gate_schedules.proofs.Prelude.{tree_role_of, true, up_write_after, up_write_next, update, view_with, zero, ℕ, ◌+◌, ◌-◌, ◌<◌, ◌∙◌, ◌∷◌, ◌≡◌}
+use Rattle.gate_schedules.proofs.Prelude.{◌≤◌}
+use Rattle.access_model.specs.{Holders.{is_unheld, nobody, with_holder}, declared.actions.Holders.Holders}
+use Rattle.freeze_laws.specs.stages.Events.{ClearsBlock as ClearsBlockOf, LeavesOne, Locks as LocksStage, Recalls, Releases as ReleasesStage, Stays}
+use Rattle.freeze_laws.specs.stages.Events.{Thaws as StoresThaw, ThawsAtOnce, action_of as stage_action_of}
+use Rattle.{freeze_laws.specs.stages.Roles.{Reopening, clean_by, is_full, owns as stage_owns}, freeze_levels.proofs.holder_laws.HolderLaws.roles_tell}
+use Rattle.freeze_levels.{proofs.holder_laws.Words.{holds_alone, holds_own, leaves_none, unpack_pack}, specs.{Holders.word_of, Levels.reopening}}
+use Rattle.freeze_levels.specs.{Thaws.{after_opening, at_thaw}, holder_laws.Events.{Finds, Leaves as LeavesOthers, LeavesLast as LeavesNobody}}
+use Rattle.freeze_levels.specs.holder_laws.{Events.{LetsGo as LetsHoldersGo, Thaws as ThawsHolders}, Roles.{Empties, Found, between, minds}}
 use Rattle.gate_world.specs.{Fits.ThawFits, Levels.{level_added_after, level_taken_after}, Roles.{thaw_holder_role, thaw_owns, thaw_position}}
-use Rattle.gate_world.specs.{Roles.thaw_stage_role, Rules.holder_roles, Views.{added_after, taken_after}}
+use Rattle.{gate_world.specs.{Roles.thaw_stage_role, Rules.holder_roles, Views.{added_after, taken_after}}, gated_tree.specs.Roles.Out as OffTree}
 use Rattle.gate_schedules.proofs.frames.{ByPhase.thaw_owner, Frames.{added_load, taken_load}, Holders.{holders_after, holders_at, holders_stay}}
 use Rattle.gate_schedules.proofs.frames.{Holders.nobody_minds, Stages.{IsStageEvent, nobody_owns, owners_alike, stages_in}}
 use Rattle.gate_schedules.proofs.levels.{FreezeCompletes.thaws_all, LevelPositions.{HasPosition, LevelsHold, left_world, position_after_opening}}
@@ -18,17 +26,6 @@ use Rattle.gate_schedules.proofs.writers.{Owner.{lock_given, lock_taken, owner_s
 use Rattle.gate_schedules.proofs.writers.{Parts.{WriterLaw, idle_writes, thaw_comes, thaw_work, thaws_write, whole_writer}, Stages.SameStageWords}
 use Rattle.gate_schedules.proofs.writers.Stages.{none_leaves, opened_tree, stays_there, stored_levels, writer_beside, writer_holds, writer_stores}
 use Rattle.gate_schedules.proofs.writers.Words.{reopen_leaves, tree_beside, up_write_adds, up_write_counts_none, up_write_words, writer_at_level}
-use Rattle.access_model.specs.{Holders.{is_unheld, nobody, with_holder}, declared.actions.Holders.Holders}
-use Rattle.freeze_levels.{proofs.holder_laws.{HolderLaws.roles_tell, Words.{holds_alone, holds_own, leaves_none, unpack_pack}}, specs.Holders.word_of}
-use Rattle.freeze_levels.specs.{Levels.reopening, Thaws.{after_opening, at_thaw}, holder_laws.Events.{Finds, Leaves as LeavesOthers}}
-use Rattle.freeze_levels.specs.holder_laws.{Events.{LeavesLast as LeavesNobody, LetsGo as LetsHoldersGo, Thaws as ThawsHolders}, Roles.Apart}
-use Rattle.freeze_levels.specs.holder_laws.Roles.{Empties, Found, between, minds}
-use Rattle.gated_tree.specs.Roles.{Out as OffTree}
-use Rattle.percpu_rwsem.specs.Writers.{exit_made}
-use Rattle.freeze_laws.specs.stages.Events.{ClearsBlock as ClearsBlockOf, LeavesOne, Locks as LocksStage, Recalls, Releases as ReleasesStage}
-use Rattle.freeze_laws.specs.stages.Events.{SameDuties, Stays, Thaws as StoresThaw, ThawsAtOnce, action_of as stage_action_of, playing}
-use Rattle.freeze_laws.specs.stages.{Roles.{CleanBelow, Owning, Reopening, clean_by, is_full, owns as stage_owns}, Shown.state_after}
-use Rattle.std.specs.Prelude.{false, true}
 
 none_below : (dirty : ℕ → ℕ) → CleanBelow 0 dirty
 none_below dirty n below = absurd (omega (arith, below))

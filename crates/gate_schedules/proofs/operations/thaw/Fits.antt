@@ -1,9 +1,8 @@
 -- What fits after a step of a thaw.
 use Rattle.gate_schedules.proofs.Prelude.{ActionFits, Config, Err, Fits, GateError, Holdings, HookAnswer, IsWord, Phase, PhaseFits, Thaw, ThawStep}
-use Rattle.gate_schedules.proofs.Prelude.{arith, false, held_after, held_by, map_next, phase_after, true, ℕ, ◌≡◌}
+use Rattle.gate_schedules.proofs.Prelude.{arith, extents_of, false, held_after, held_by, map_next, phase_after, true, ℕ, ◌≡◌}
 use Rattle.access_model.specs.{Holders.{is_unheld, with_holder}, declared.actions.Holders.Holders}
-use Rattle.freeze_levels.specs.Thaws.{at_thaw, thaw_after, thaw_finds, thaw_next}
-use Rattle.gate_world.specs.{Configs.extents_of, Fits.ThawFits, Operations.holds_none}
+use Rattle.{freeze_levels.specs.Thaws.{at_thaw, thaw_after, thaw_finds, thaw_next}, gate_world.specs.{Fits.ThawFits, Operations.holds_none}}
 
 -- What comes after a look at who holds a freeze: a refusal, where its own holder doesn't; the superblock's flag, where it alone does; or
 -- else the store without it.

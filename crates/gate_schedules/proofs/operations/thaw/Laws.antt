@@ -1,10 +1,9 @@
 -- All that is proved of a thaw.
-use Rattle.gate_schedules.proofs.Prelude.{Config, Op, Phase, Thaw, after_step, arith, refl}
+use Rattle.gate_schedules.proofs.Prelude.{Config, Holder, Op, Phase, Thaw, after_step, arith, refl}
 use Rattle.gate_schedules.proofs.frames.{Agreeing.none_agree, OperationLaws.{OpLaws, PhaseLaws, word_among}, Snapshots.completes_none}
 use Rattle.gate_schedules.proofs.operations.thaw.{Causes.{thaw_own, thaw_stays}, Events.thaw_keeps, Fits.{thaw_acts, thaw_goes, thaw_there}}
-use Rattle.gate_schedules.proofs.{operations.thaw.{Runs.thaw_runs, Trace.{ThawAt, thaw_inductive}, Waits.thaw_waits}, traces.TraceInvariant.TraceLaws}
-use Rattle.gate_schedules.proofs.traces.TraceInvariant.{traces_tell}
-use Rattle.access_model.specs.declared.actions.Holder.{Holder}
+use Rattle.gate_schedules.proofs.operations.thaw.{Runs.thaw_runs, Trace.{ThawAt, thaw_inductive}, Waits.thaw_waits}
+use Rattle.gate_schedules.proofs.traces.TraceInvariant.{TraceLaws, traces_tell}
 
 pub thaw_phase : (c : Config) (x : Thaw) → PhaseLaws c (Phase.Thaws x)
 thaw_phase c x = record {

@@ -2,14 +2,11 @@
 use Rattle.gate_schedules.proofs.Prelude.{Config, Err, Fits, Fitting, HookAnswer, IsGood, IsUnblocked, Next, Ok, Phase, PhaseEnds, PhaseFits}
 use Rattle.gate_schedules.proofs.Prelude.{RankDecreases, Thaw, ThawStep, UpWrite, Words, World, ap, arith, cases_Bool, eq-eqb, eqb_tells, false}
 use Rattle.gate_schedules.proofs.Prelude.{found_at, found_by, held_by, held_of, holders_in, inl, inr, nat_lt, position_sync, rank, read, refl, subst}
-use Rattle.gate_schedules.proofs.Prelude.{sync_role_of, up_write_after, up_write_next, words_after, ℕ, ◌+◌, ◌<◌, ◌∙◌, ◌≡◌}
-use Rattle.access_model.specs.Holders.{is_unheld, with_holder}
-use Rattle.freeze_levels.specs.Thaws.{after_opening, thaw_after, thaw_next}
-use Rattle.gate_world.specs.{Fits.ThawFits, Roles.{sync_beside, thaw_position}}
-use Rattle.freeze_laws.specs.levels.Operations.{up_write_role}
+use Rattle.gate_schedules.proofs.Prelude.{sync_role_of, up_write_after, up_write_next, words_after, ℕ, ◌*◌, ◌+◌, ◌-◌, ◌<◌, ◌∙◌, ◌≡◌}
+use Rattle.{access_model.specs.Holders.{is_unheld, with_holder}, freeze_laws.specs.levels.Operations.up_write_role}
+use Rattle.{freeze_levels.specs.Thaws.{after_opening, thaw_after, thaw_next}, gate_world.specs.{Fits.ThawFits, Roles.{sync_beside, thaw_position}}}
 use Rattle.gate_schedules.proofs.{operations.deadlocks.RankDecreases.{after_event, falls_as}, writers.Progress.up_falls}
 use Rattle.gate_schedules.specs.operations.{Ranks.{reopens_rank, thaw_rank, up_rank}, Unblocked.ThawIsUnblocked}
-use Rattle.std.specs.Prelude.{◌*◌, ◌-◌}
 
 -- after a step of the reopening of a level: those below it are still to be reopened
 opens_falls : (after : Words) (x : Thaw) (level r : ℕ) (next : Next UpWrite) →

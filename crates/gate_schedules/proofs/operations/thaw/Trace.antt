@@ -1,9 +1,7 @@
 -- Traces of a thaw.
-use Rattle.gate_schedules.proofs.Prelude.{Action, Config, GateError, List, Op, Phase, Reply, Result, Thaw, ThawStep, Traced, UpWriteStep, [], arith}
-use Rattle.gate_schedules.proofs.Prelude.{false, suc, true, zero, ℕ, ◌∷◌, ◌≡◌, ◌≤◌}
-use Rattle.std.specs.Prelude.{◌-◌}
-use Rattle.access_model.specs.declared.actions.Holder.{Holder}
-use Rattle.gate_world.specs.traces.{Found.{each_event, finds_taken, found_sealed, found_shared}, Traces.{IsHonestAnswer, actions_of}}
+use Rattle.gate_schedules.proofs.Prelude.{Action, Config, GateError, Holder, List, Op, Phase, Reply, Result, Thaw, ThawStep, Traced, UpWriteStep, []}
+use Rattle.gate_schedules.proofs.Prelude.{actions_of, arith, false, suc, true, zero, ℕ, ◌-◌, ◌∷◌, ◌≡◌, ◌≤◌}
+use Rattle.gate_world.specs.traces.{Found.{each_event, finds_taken, found_sealed, found_shared}, Traces.IsHonestAnswer}
 use Rattle.gate_schedules.proofs.traces.TraceInvariant.{IsInductive}
 
 -- a thaw by a task, at this step

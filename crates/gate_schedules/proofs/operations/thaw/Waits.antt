@@ -1,8 +1,7 @@
 -- A thaw waits only where another task has `umount`, and is refused only for its cause.
 use Rattle.gate_schedules.proofs.Prelude.{Config, HasReason, HookAnswer, IsGood, List, Phase, Some, Thaw, ThawStep, UpWrite, UpWriteStep, World}
 use Rattle.gate_schedules.proofs.Prelude.{after_of, arith, found_at, map_next, owns, up_write_after, ℕ, ◌<◌, ◌≡◌}
-use Rattle.freeze_levels.specs.Thaws.{after_opening, at_thaw}
-use Rattle.gate_world.specs.refusals.KeptCauses.{ThawCause}
+use Rattle.{freeze_levels.specs.Thaws.{after_opening, at_thaw}, gate_world.specs.refusals.KeptCauses.ThawCause}
 use Rattle.gate_schedules.proofs.frames.Owners.{umount_taken}
 
 module _ (c : Config) (w : World) (earlier : List World) (t : ℕ) where

@@ -1,12 +1,10 @@
 -- Steps of a want or a drop on a count word.
-use Rattle.gate_schedules.proofs.Prelude.{Action, AtMount, Bool, Config, Err, GateError, HookAnswer, IsGood, IsWithin, MountPhase, Next, None, Ok}
-use Rattle.gate_schedules.proofs.Prelude.{Option, Phase, Reply, Result, Some, Touch, View, WantStep, WordName, Words, World, added_by, ap, arith}
-use Rattle.gate_schedules.proofs.Prelude.{at_mount, has_open, held_at, refl, role_of, shown, sym, taken_by, update, update_at, update_off}
-use Rattle.gate_schedules.proofs.Prelude.{update_same, view_with, wrap_add, ℕ, ◌+◌, ◌-◌, ◌<◌, ◌∙◌, ◌≡◌}
-use Rattle.access_model.specs.{Actions.after_action, declared.actions.Gate.Gate}
-use Rattle.cpu_words.specs.Touches.{wrap_sub}
+use Rattle.gate_schedules.proofs.Prelude.{Action, AtMount, Bool, Config, Err, Gate, GateError, GateStepKeeps, GatesHold, HookAnswer, IsGood, IsSteady}
+use Rattle.gate_schedules.proofs.Prelude.{IsWithin, MountPhase, Next, None, Ok, Option, Phase, Reply, Result, Some, Touch, View, WantStep, WordName}
+use Rattle.gate_schedules.proofs.Prelude.{Words, World, added_by, ap, arith, at_mount, has_open, held_at, refl, role_of, shown, sym, taken_by, update}
+use Rattle.gate_schedules.proofs.Prelude.{update_at, update_off, update_same, view_with, wrap_add, ℕ, ◌+◌, ◌-◌, ◌<◌, ◌∙◌, ◌≡◌}
+use Rattle.{access_model.specs.Actions.after_action, cpu_words.specs.Touches.wrap_sub}
 use Rattle.mount_counts.{proofs.laws.MountLaws.{adds, backs_off, returns}, specs.Roles.{Asking, Out}}
-use Rattle.gate_world.specs.Rules.{GateStepKeeps, GatesHold, IsSteady}
 use Rattle.gate_schedules.proofs.frames.Frames.{MountHoldsAfter, gates_after, holds_as, owner_same, role_off, role_on, shown_as, shown_still, view_as}
 use Rattle.gate_schedules.proofs.{mounts.Loads.{as_owner, fits_now}, operations.want.Loads.{want, want_here, want_off}}
 

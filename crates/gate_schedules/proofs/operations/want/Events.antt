@@ -1,9 +1,8 @@
 -- Each step of a want and of a drop, as one law.
-use Rattle.gate_schedules.proofs.Prelude.{Bool, Config, HookAnswer, IsGood, IsWithin, MountPhase, Phase, Some, StepKeeps, WantStep, World, ℕ, ◌<◌}
-use Rattle.gate_schedules.proofs.Prelude.{◌≡◌}
-use Rattle.gate_world.specs.Rules.{GateStepKeeps}
-use Rattle.gate_schedules.proofs.{mounts.Parts.whole_step, operations.want.{Counts.{counts_down, counts_up, drops}, Loads.loads_hold}}
-use Rattle.gate_schedules.proofs.operations.want.Loads.{loads_read_only, loads_remount, loads_superblock, want}
+use Rattle.gate_schedules.proofs.Prelude.{Bool, Config, GateStepKeeps, HookAnswer, IsGood, IsWithin, MountPhase, Phase, Some, StepKeeps, WantStep}
+use Rattle.gate_schedules.proofs.Prelude.{World, ℕ, ◌<◌, ◌≡◌}
+use Rattle.gate_schedules.proofs.{mounts.Parts.whole_step, operations.want.Counts.{counts_down, counts_up, drops}}
+use Rattle.gate_schedules.proofs.operations.want.Loads.{loads_hold, loads_read_only, loads_remount, loads_superblock, want}
 
 want_gates : (c : Config) → IsWithin c → (w : World) → IsGood c w → (t : ℕ) → t < c.tasks → (hook : HookAnswer) →
     (m p : ℕ) (wait : Bool) (s : WantStep) →

@@ -1,8 +1,7 @@
 -- What fits after a step of a want.
-use Rattle.gate_schedules.proofs.Prelude.{ActionFits, Config, Fits, Holdings, IsWithin, IsWord, MountPhase, Phase, Want, WantStep, arith, held_after}
-use Rattle.gate_schedules.proofs.Prelude.{map_next, phase_after, ℕ, ◌<◌}
-use Rattle.mount_counts.specs.Phases.{want_after, want_next}
-use Rattle.gate_world.specs.{Configs.extents_of, Fits.MountFits}
+use Rattle.gate_schedules.proofs.Prelude.{ActionFits, Config, Fits, Holdings, IsWithin, IsWord, MountPhase, Phase, Want, WantStep, arith, extents_of}
+use Rattle.gate_schedules.proofs.Prelude.{held_after, map_next, phase_after, want_after, ℕ, ◌<◌}
+use Rattle.{gate_world.specs.Fits.MountFits, mount_counts.specs.Phases.want_next}
 
 -- the word of each step of a want is there
 pub want_there : (c : Config) (w : Want) (step : WantStep) → w.mount < c.mounts → w.cpu < c.processors → IsWord (extents_of c) (want_next w step).0

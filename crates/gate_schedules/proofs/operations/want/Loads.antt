@@ -1,16 +1,15 @@
 -- Loads of a want: for HOLD, and the three of the read-only question.
-use Rattle.gate_schedules.proofs.Prelude.{Action, AtMount, Bool, Config, Fits, GateError, HookAnswer, IsGood, MountHoldsIn, MountPhase, Next, None}
-use Rattle.gate_schedules.proofs.Prelude.{Ok, Option, Phase, Reply, Some, Touch, View, WantStep, WordName, World, ap, arith, at_mount, cases_Bool}
-use Rattle.gate_schedules.proofs.Prelude.{closing, eqb_tells, false, has_flag, has_hold, has_open, held_at, held_of, inl, inr, ne_eqb, owns}
-use Rattle.gate_schedules.proofs.Prelude.{phase_after, refl, remounts, ro_bit, role_of, shown, subst, suc, sym, total_at, true, update, update_at}
-use Rattle.gate_schedules.proofs.Prelude.{update_off, update_same, view_with, ℕ, ◌+◌, ◌<◌, ◌∙◌, ◌≡◌, ◌⊎◌}
-use Rattle.access_model.specs.{Actions.after_action, declared.actions.Gate.Gate}
+use Rattle.gate_schedules.proofs.Prelude.{Action, AtMount, Bool, Config, Fits, Gate, GateError, GateStepKeeps, GatesHold, HookAnswer, IsGood}
+use Rattle.gate_schedules.proofs.Prelude.{IsSteady, MountHoldsIn, MountPhase, Next, None, Ok, Option, Phase, Reply, Some, Touch, View, WantStep}
+use Rattle.gate_schedules.proofs.Prelude.{WordName, World, ap, arith, at_mount, cases_Bool, closing, eqb_tells, false, has_flag, has_hold, has_open}
+use Rattle.gate_schedules.proofs.Prelude.{held_at, held_of, inl, inr, ne_eqb, owns, phase_after, refl, remounts, ro_bit, role_of, shown, subst, suc}
+use Rattle.gate_schedules.proofs.Prelude.{sym, total_at, true, update, update_at, update_off, update_same, view_with, ℕ, ◌+◌, ◌<◌, ◌∙◌, ◌≡◌, ◌⊎◌}
+use Rattle.{access_model.specs.Actions.after_action, gate_world.specs.Roles.want_role}
+use Rattle.mount_counts.proofs.laws.{Bits.{hold_clear, read_only_clear}, MountLaws.{closed, finds_hold_clear, finds_no_remount, finds_writable}}
+use Rattle.mount_counts.proofs.laws.MountLaws.{is_granted, is_refused, remounting, waits_on}
+use Rattle.mount_counts.specs.Roles.{Out, PastFlags, passed_hold, past_flags, past_remount, processor_of, questions_of}
 use Rattle.gate_schedules.proofs.frames.Frames.{MountHoldsAfter, gates_after, holds_as, owner_same, role_off, role_on, shown_as, view_as}
 use Rattle.gate_schedules.proofs.mounts.Loads.{after_load, as_owner, fits_now, load_law}
-use Rattle.gate_world.specs.{Roles.want_role, Rules.{GateStepKeeps, GatesHold, IsSteady}}
-use Rattle.mount_counts.proofs.laws.{Bits.{hold_clear, read_only_clear}, MountLaws.{closed, finds_hold_clear, finds_no_remount, finds_writable}}
-use Rattle.mount_counts.{proofs.laws.MountLaws.{is_granted, is_refused, remounting, waits_on}, specs.Roles.{Out, PastFlags, passed_hold, past_flags}}
-use Rattle.mount_counts.specs.Roles.{past_remount, processor_of, questions_of}
 
 abbrev pub want : ℕ → ℕ → Bool → WantStep → MountPhase
 want m p wait step = MountPhase.Want (record { mount = m; cpu = p; wait = wait; step = step })

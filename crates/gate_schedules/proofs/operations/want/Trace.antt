@@ -1,12 +1,9 @@
 -- Traces of a want and of a drop. A want may stand in a longer operation, which has done something before it.
-use Rattle.gate_schedules.proofs.Prelude.{Action, Bool, Config, Err, GateError, HookAnswer, List, MountPhase, Next, Ok, Op, Phase, Traced, Want}
+use Rattle.gate_schedules.proofs.Prelude.{Action, Bool, Config, Err, Gate, GateError, HookAnswer, List, MountPhase, Next, Ok, Op, Phase, Traced, Want}
 use Rattle.gate_schedules.proofs.Prelude.{WantStep, [], actions_after, arith, eq-eqb, event_of, false, found_by, has_flag, inl, inr, length, map_next}
-use Rattle.gate_schedules.proofs.Prelude.{refl, subst, sym, true, with_hook, ℕ, ◌&&◌, ◌||◌, ◌∷◌, ◌≡◌, ◌≤◌, ◌⊎◌}
-use Rattle.std.specs.Prelude.{◌+◌}
-use Rattle.access_model.specs.declared.actions.Gate.{Gate}
-use Rattle.mount_counts.specs.Phases.{want_after, want_next}
+use Rattle.gate_schedules.proofs.Prelude.{most_events, refl, subst, sym, true, want_after, with_hook, ℕ, ◌&&◌, ◌+◌, ◌||◌, ◌∷◌, ◌≡◌, ◌≤◌, ◌⊎◌}
 use Rattle.gate_world.specs.traces.{Found.{adds_to, each_but_first, finds_hold, holds_since, looks_again, newest}, Traces.{IsHonest, IsShort}}
-use Rattle.gate_world.specs.traces.Traces.{most_events}
+use Rattle.mount_counts.specs.Phases.{want_next}
 use Rattle.gate_schedules.proofs.traces.TraceInvariant.{InvariantAfter, InvariantAfterStep, IsInductive, event_at}
 
 or_other : (a b : Bool) → b ≡ true → (a || b) ≡ true

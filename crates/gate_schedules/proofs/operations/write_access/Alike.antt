@@ -1,8 +1,7 @@
 -- Each phase of a write access is alike to the phase of its gate, before a step and after it; and what fits then, and what is said of
 -- causes and of waits.
 use Rattle.gate_schedules.proofs.Prelude.{DownRead, MountPhase, Next, Phase, Some, Want, WritePhase, arith, map_next, phase_after, ℕ}
-use Rattle.gate_world.specs.{SameRoles.SameRoles, Work.inner_phase}
-use Rattle.composite_ops.specs.write_access.Phases.{then_gives_back, then_wants}
+use Rattle.{composite_ops.specs.write_access.Phases.{then_gives_back, then_wants}, gate_world.specs.{SameRoles.SameRoles, Work.inner_phase}}
 
 pub alike_plain : (x : WritePhase) → SameRoles (Some (Phase.Writes x)) (Some (inner_phase x))
 alike_plain x = grind arith

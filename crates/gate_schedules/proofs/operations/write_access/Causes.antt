@@ -1,8 +1,7 @@
 -- The causes and the waits of a write access: those of its gate, whichever it is at.
 use Rattle.gate_schedules.proofs.Prelude.{CauseOf, Config, DownRead, HasReason, IsGood, List, Next, Phase, Want, World, WritePhase, arith, map_next}
 use Rattle.gate_schedules.proofs.Prelude.{phase_after, ℕ, ◌<◌, ◌∷◌, ◌≡◌}
-use Rattle.composite_ops.specs.write_access.Phases.{then_gives_back, then_wants}
-use Rattle.gate_world.specs.refusals.Causes.{WasClosed, asks, last_asked}
+use Rattle.{composite_ops.specs.write_access.Phases.{then_gives_back, then_wants}, gate_world.specs.refusals.Causes.{WasClosed, asks, last_asked}}
 use Rattle.gate_schedules.proofs.operations.{readers.{Causes.{AsksNext, HasNextCause}, Waits.WhereRefused}, want.Causes.{NextCause, next_asks}}
 use Rattle.gate_schedules.proofs.operations.want.Waits.{NextWaits}
 

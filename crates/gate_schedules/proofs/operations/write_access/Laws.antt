@@ -2,21 +2,18 @@
 use Rattle.gate_schedules.proofs.Prelude.{Bool, Config, DownRead, Err, Fits, GateError, Holdings, HookAnswer, IsGood, IsWithin, MountPhase, Next, Ok}
 use Rattle.gate_schedules.proofs.Prelude.{Op, Phase, Reply, Some, StepKeeps, SyncStep, Want, WantStep, World, WritePhase, after_step, ap, arith}
 use Rattle.gate_schedules.proofs.Prelude.{closed, down_read_after, false, found_at, held_after, held_of, holdings_of, level_in, ltb-true, map_next}
-use Rattle.gate_schedules.proofs.Prelude.{nat_lt, no_roles, phase_after, refl, role_of, sym, sync_role_of, true, true≢false, update, update_same, ℕ}
-use Rattle.gate_schedules.proofs.Prelude.{◌&&◌, ◌<◌, ◌∙◌, ◌∷◌, ◌≡◌, ◌≤◌}
+use Rattle.gate_schedules.proofs.Prelude.{nat_lt, no_roles, not, phase_after, refl, role_of, sym, sync_role_of, true, true≢false, update, update_same}
+use Rattle.gate_schedules.proofs.Prelude.{want_after, ℕ, ◌&&◌, ◌<◌, ◌∙◌, ◌∷◌, ◌≡◌, ◌≤◌}
+use Rattle.{access_model.specs.Histories.levels_of, composite_ops.specs.write_access.Phases.{leaves_on, then_gives_back, then_wants}}
+use Rattle.gate_world.specs.{Fits.WriteFits, refusals.Causes.{asks, asks_level}}
 use Rattle.gate_schedules.proofs.frames.{Agreeing.none_agree, Frames.{count_none, role_on, sync_none}, OperationLaws.{OpLaws, PhaseLaws}}
-use Rattle.gate_schedules.proofs.{frames.{SameRolesOffTree.update_twice, Snapshots.completes_none}, operations.readers.Causes.read_not_closed}
-use Rattle.gate_schedules.proofs.operations.readers.{Causes.{read_own, read_stays}, Laws.{end_phase, read_phase}, Waits.read_waits}
+use Rattle.gate_schedules.proofs.frames.{SameRolesOffTree.update_twice, Snapshots.completes_none}
+use Rattle.gate_schedules.proofs.operations.readers.{Causes.{read_not_closed, read_own, read_stays}, Laws.{end_phase, read_phase}, Waits.read_waits}
 use Rattle.gate_schedules.proofs.operations.want.{Causes.{want_cause_stays, want_own}, Laws.{drop_phase, want_phase}, Waits.want_waits}
 use Rattle.gate_schedules.proofs.operations.write_access.{Alike.{alike_takes, alike_wants}, Causes.{takes_asks, takes_cause, takes_waits}}
 use Rattle.gate_schedules.proofs.operations.write_access.{Causes.{wants_asked, wants_cause, wants_waits}, Events.{first_world, write_fits_now}}
 use Rattle.gate_schedules.proofs.operations.write_access.{Events.{write_runs, write_step}, Trace.{DropAt, WriteAt, drop_inductive, write_inductive}}
 use Rattle.gate_schedules.proofs.{traces.TraceInvariant.{TraceLaws, traces_given_reads, traces_tell}, trees.worlds.Holders.both_true}
-use Rattle.access_model.specs.Histories.{levels_of}
-use Rattle.gate_world.specs.{Fits.WriteFits, refusals.Causes.{asks, asks_level}}
-use Rattle.mount_counts.specs.Phases.{want_after}
-use Rattle.std.specs.Prelude.{not}
-use Rattle.composite_ops.specs.write_access.Phases.{leaves_on, then_gives_back, then_wants}
 
 -- what fits after a step at level 1, with the mount to come
 takes_fits : (c : Config) (t : ℕ) (held : Holdings) (m : ℕ) (r : DownRead) (found : ℕ) →

@@ -1,14 +1,13 @@
 -- Traces of a taking and of a return of write access: those of their gates, one after the other.
-use Rattle.gate_schedules.proofs.Prelude.{Action, Config, DownRead, DownReadStep, Err, GateError, HookAnswer, List, Next, Ok, Op, Phase, Traced, Want}
-use Rattle.gate_schedules.proofs.Prelude.{WantStep, WritePhase, [], actions_after, ap, arith, down_read_after, down_read_next, event_of, found_by}
-use Rattle.gate_schedules.proofs.Prelude.{inl, length, map_next, next_of, refl, subst, sym, true, with_hook, ℕ, ◌∷◌, ◌≡◌, ◌≤◌}
-use Rattle.access_model.specs.declared.actions.Gate.{Gate}
-use Rattle.mount_counts.specs.Phases.{want_after, want_next}
+use Rattle.gate_schedules.proofs.Prelude.{Action, Config, DownRead, DownReadStep, Err, Gate, GateError, HookAnswer, List, Next, Ok, Op, Phase}
+use Rattle.gate_schedules.proofs.Prelude.{ReadIsValid, Traced, Want, WantStep, WritePhase, [], actions_after, ap, arith, down_read_after}
+use Rattle.gate_schedules.proofs.Prelude.{down_read_next, event_of, found_by, inl, length, map_next, next_of, refl, subst, sym, true, want_after}
+use Rattle.gate_schedules.proofs.Prelude.{with_hook, ℕ, ◌∷◌, ◌≡◌, ◌≤◌}
 use Rattle.composite_ops.specs.write_access.Phases.{next as write_next, then_gives_back, then_wants}
-use Rattle.gate_world.specs.traces.{TraceStates.{ReadIsValid, WordIsValid}, Traces.IsHonest}
-use Rattle.gate_schedules.proofs.operations.{readers.Trace.{ReadNext, ReadSays, read_at, read_event}, want.Trace.{WantNext, WantSays, want_at}}
-use Rattle.gate_schedules.proofs.{operations.want.Trace.want_event, traces.TraceInvariant.{InvariantAfter, InvariantAfterStep, IsInductive}}
-use Rattle.gate_schedules.proofs.traces.TraceInvariant.{IsInductiveGivenReads, event_at}
+use Rattle.{gate_world.specs.traces.{TraceStates.WordIsValid, Traces.IsHonest}, mount_counts.specs.Phases.want_next}
+use Rattle.gate_schedules.proofs.operations.readers.Trace.{ReadNext, ReadSays, read_at, read_event}
+use Rattle.gate_schedules.proofs.operations.want.Trace.{WantNext, WantSays, want_at, want_event}
+use Rattle.gate_schedules.proofs.traces.TraceInvariant.{InvariantAfter, InvariantAfterStep, IsInductive, IsInductiveGivenReads, event_at}
 
 -- what stands of the actions while the mount is wanted
 abbrev level_taken : List Action

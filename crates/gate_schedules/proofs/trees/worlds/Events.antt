@@ -2,14 +2,12 @@
 use Rattle.gate_schedules.proofs.Prelude.{Config, Files, Fitting, Holds, HookAnswer, IsGood, IsWithin, Known, List, Next, Option, Owner, Part, Phase}
 use Rattle.gate_schedules.proofs.Prelude.{Some, Stages, StepKeeps, SyncAt, SyncStep, Traced, Tree, TreePhase, WordName, Words, World, after_of}
 use Rattle.gate_schedules.proofs.Prelude.{after_step, ap, arith, false, found_at, left, level_in, map_next, next_of, owns, phase_after, put, read}
-use Rattle.gate_schedules.proofs.Prelude.{refl, role_after, stage_role_of, sym, tree_role_of, true, words_after, ℕ, ◌<◌, ◌∙◌, ◌≡◌}
-use Rattle.gated_tree.specs.{Calls.phase_role, Phases.after}
+use Rattle.gate_schedules.proofs.Prelude.{refl, role_after, stage_role_of, sym, tree_role_of, true, values_noted, words_after, ℕ, ◌<◌, ◌∙◌, ◌≡◌}
+use Rattle.{freeze_laws.specs.stages.Roles.Aside, gate_world.specs.Roles.nodes_noted, gated_tree.specs.{Calls.phase_role, Phases.after}}
 use Rattle.gate_schedules.proofs.{frames.{Frames.{left_alone, unwritten}, Known.{IsOwnersWork, known_after}}, mounts.Runs.apart_run}
 use Rattle.gate_schedules.proofs.trees.worlds.Parts.{IsAtTree, IsBesideTree, TreeKeeps, beside_then, call_at, call_files, call_fitting, call_found}
 use Rattle.gate_schedules.proofs.trees.worlds.Parts.{call_keeps, call_moves, call_next, call_view, gate_parts, gate_words, is_node_word, is_snapshot}
 use Rattle.gate_schedules.{proofs.trees.worlds.Parts.{node_word, roles_still, touch_beside, view_then, words_then}, specs.trees.Steps.Notes}
-use Rattle.freeze_laws.specs.stages.Roles.{Aside}
-use Rattle.gate_world.specs.{Roles.nodes_noted, traces.Snapshots.values_noted}
 
 -- a phase that owns nothing, has to do with no stage, and of which nothing is noted
 pub record IsPlain (p : Option Phase) : Type 0 where

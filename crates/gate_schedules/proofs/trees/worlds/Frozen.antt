@@ -1,11 +1,10 @@
 -- Where the file system is frozen nobody has charged anything, so the tree is sound and clean. It is sound, too, where nobody is at work.
-use Rattle.gate_schedules.proofs.Prelude.{Config, Fits, Fitting, Holdings, IsGood, IsWithin, List, None, Option, Phase, Traced, Tree, World, arith}
-use Rattle.gate_schedules.proofs.Prelude.{held_of, refl, removal, subst, sym, tree_bounds, tree_of, tree_role_of, tree_roles, ℕ, ◌<◌, ◌≡◌}
+use Rattle.gate_schedules.proofs.Prelude.{Config, Fits, Fitting, HasNoCharge, Holdings, IsGood, IsWithin, List, None, Option, Phase, Traced, Tree}
+use Rattle.gate_schedules.proofs.Prelude.{World, arith, held_of, refl, removal, subst, sym, tree_bounds, tree_of, tree_role_of, tree_roles, true, ℕ}
+use Rattle.gate_schedules.proofs.Prelude.{◌<◌, ◌≡◌}
+use Rattle.gate_world.specs.{Headline.{FrozenTreeIsWhole, TreeIsSound}, Operations.is_writer}
 use Rattle.gate_schedules.proofs.{operations.close.Events.{closer_thawed, removal_counted}, trees.{Clearings.exact, worlds.Holders.writer_not_frozen}}
 use Rattle.gate_schedules.proofs.trees.worlds.Trees.{sealed_frozen}
-use Rattle.gate_world.specs.{Headline.{FrozenTreeIsWhole, TreeIsSound}, Operations.is_writer}
-use Rattle.gated_tree.specs.Roles.{HasNoCharge}
-use Rattle.std.specs.Prelude.{true}
 
 -- so only a writer, or a close inside level 3, has charged anything
 phase_charges_none : (c : Config) (trace : List Traced) (t : ℕ) (held : Holdings) (p : Option Phase) →

@@ -1,15 +1,14 @@
 -- Who is at a level with an access at some mount: nobody has shut what it came through.
-use Rattle.gate_schedules.proofs.Prelude.{AtLevel, AtMount, Bool, Config, DownWriteStep, FreezeStep, Freezing, IsGood, MountHoldsIn, Option, Owner}
-use Rattle.gate_schedules.proofs.Prelude.{Phase, Some, Stages, World, ap, arith, at_level, at_mount, cases_Bool, cases_lt, false, freeze_stage_role}
-use Rattle.gate_schedules.proofs.Prelude.{held_at, held_of, holds_level, inl, inr, is_frozen_whole, level_role_of, ltb-true, nat_lt, refl, ro_bit}
-use Rattle.gate_schedules.proofs.Prelude.{stage_role_of, stage_roles, suc, sym, total, total_at, true, true≢false, zero, ℕ, ◌&&◌, ◌-◌, ◌<◌, ◌==◌, ◌≡◌}
-use Rattle.gate_schedules.proofs.Prelude.{◌≤◌}
-use Rattle.cpu_words.{proofs.gate_counts.LevelLaws.{none_frozen, none_passed}, specs.gate_counts.{Gates.past, Levels.{LevelRole, Passed}}}
-use Rattle.gate_world.specs.{Operations.{is_writer, some_mount}, Roles.{count_beside, freeze_position, place_of, position_count}}
-use Rattle.gate_schedules.proofs.frames.Stages.{stages_in, stages_right}
-use Rattle.mount_counts.specs.Roles.{mount_as_gate}
+use Rattle.gate_schedules.proofs.Prelude.{AtLevel, AtMount, Bool, Config, DownWriteStep, FreezeStep, Freezing, IsGood, LevelRole, MountHoldsIn}
+use Rattle.gate_schedules.proofs.Prelude.{Option, Owner, Phase, Some, Stages, World, ap, arith, at_level, at_mount, cases_Bool, cases_lt, false}
+use Rattle.gate_schedules.proofs.Prelude.{freeze_stage_role, held_at, held_of, holds_level, inl, inr, is_frozen_whole, level_role_of, ltb-true}
+use Rattle.gate_schedules.proofs.Prelude.{nat_lt, refl, ro_bit, stage_role_of, stage_roles, suc, sym, total, total_at, true, true≢false, zero, ℕ}
+use Rattle.gate_schedules.proofs.Prelude.{◌&&◌, ◌-◌, ◌<◌, ◌==◌, ◌≡◌, ◌≤◌, ◌⊎◌}
+use Rattle.cpu_words.{proofs.gate_counts.LevelLaws.{none_frozen, none_passed}, specs.gate_counts.{Gates.past, Levels.Passed}}
 use Rattle.freeze_laws.{proofs.stages.CitedLaws.freeze_is_under_way, specs.stages.Roles.{Place, passed_at, passed_by}}
-use Rattle.std.proofs.Common.{◌⊎◌}
+use Rattle.gate_world.specs.{Operations.{is_writer, some_mount}, Roles.{count_beside, freeze_position, place_of, position_count}}
+use Rattle.mount_counts.specs.Roles.{mount_as_gate}
+use Rattle.gate_schedules.proofs.frames.Stages.{stages_in, stages_right}
 
 pub both_true : (a b : Bool) → (a && b) ≡ true → (a ≡ true) × (b ≡ true)
 both_true true b h = (refl, h)

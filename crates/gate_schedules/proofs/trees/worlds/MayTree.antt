@@ -1,21 +1,19 @@
 -- What a call at the tree may do: nobody else is in its way, and the model gives it leave.
 use Rattle.gate_schedules.proofs.Prelude.{Action, AtMount, Bool, Config, Create, CreateStep, Files, Fits, Fitting, Grow, GrowStep, HasFile, Holdings}
-use Rattle.gate_schedules.proofs.Prelude.{HookAnswer, IsGood, List, Mark, MarkStep, MoveStep, MoveTo, None, OpenFile, OpenStep, Option, Owner, Phase}
-use Rattle.gate_schedules.proofs.Prelude.{PhaseFits, RemountStep, Remove, RemoveStep, Snapshot, SnapshotStep, Some, Traced, TreePhase, World, ap}
-use Rattle.gate_schedules.proofs.Prelude.{arith, at_mount, eqb_tells, false, file_of, has_open, held_at, held_of, holds_level, if◌then◌else◌, inl}
-use Rattle.gate_schedules.proofs.Prelude.{inr, is_bare_at, mark_after, model_limits, refl, remounts, role_of, shown, stage_role_of, subst, total}
-use Rattle.gate_schedules.proofs.Prelude.{total_at, total_none, tree_bounds, tree_of, tree_role_of, tree_roles, true, word_of, ℕ, ◌<◌, ◌==◌, ◌≡◌, ◌≤◌}
-use Rattle.access_model.specs.Actions.{IsWriter}
-use Rattle.cpu_words.specs.gate_counts.Gates.{BarringHolds, admitted, unread}
+use Rattle.gate_schedules.proofs.Prelude.{HookAnswer, IsGood, List, Mark, MarkStep, MoveStep, MoveTo, NobodyReads, None, OpenFile, OpenStep, Option}
+use Rattle.gate_schedules.proofs.Prelude.{Owner, Phase, PhaseFits, RemountStep, Remove, RemoveStep, Snapshot, SnapshotStep, Some, Traced, TreePhase}
+use Rattle.gate_schedules.proofs.Prelude.{World, ap, arith, at_mount, create_after, eqb_tells, false, file_of, grow_after, has_mount, has_open}
+use Rattle.gate_schedules.proofs.Prelude.{held_at, held_of, holds_level, if◌then◌else◌, inl, inr, is_bare_at, mark_after, model_limits, move_after}
+use Rattle.gate_schedules.proofs.Prelude.{open_after, refl, remounts, remove_after, role_of, shown, stage_role_of, subst, total, total_at, total_none}
+use Rattle.gate_schedules.proofs.Prelude.{tree_bounds, tree_of, tree_role_of, tree_roles, true, word_of, ℕ, ◌<◌, ◌==◌, ◌≡◌, ◌≤◌}
+use Rattle.{access_model.specs.Actions.IsWriter, cpu_words.specs.gate_counts.Gates.{BarringHolds, admitted, unread}}
+use Rattle.{freeze_laws.specs.stages.Roles.passed_by, gate_world.specs.{Fits.TreeAccess, Operations.{is_faulter, is_writer, may_mark, some_mount}}}
+use Rattle.{gate_world.specs.{Remounts.{loop_role, remount_role}, Roles.remount_tree_role}, gated_tree.specs.Calls.phase_role}
+use Rattle.gated_tree.specs.{Phases.{after, mark_done, snapshot_after}, Roles.{MayDirty, MayRemove, bare_by, cleared, is_bare, sealed_by}}
+use Rattle.mount_counts.specs.Roles.{barring_of, mount_as_gate, skips}
 use Rattle.gate_schedules.proofs.trees.worlds.{Holders.{IsOpen, both_true, mount_there, none_past, writer_apart}, Roles.{close_apart, freeze_apart}}
-use Rattle.gate_schedules.{proofs.trees.worlds.Trees.{nobody_reads, sealed_frozen}, specs.trees.{Events.{HasLeave, MayClean}, Steps.MayMark}}
-use Rattle.gate_schedules.specs.trees.Steps.{TreeAllowsStep}
-use Rattle.gate_world.specs.{Fits.TreeAccess, Operations.{is_faulter, is_writer, may_mark, some_mount}, Remounts.{loop_role, remount_role}}
-use Rattle.gate_world.specs.Roles.{remount_tree_role}
-use Rattle.gated_tree.specs.{Calls.phase_role, Phases.{after, create_after, grow_after, mark_done, move_after, open_after, remove_after}}
-use Rattle.gated_tree.specs.{Phases.snapshot_after, Roles.{MayDirty, MayRemove, NobodyReads, bare_by, cleared, is_bare, sealed_by}}
-use Rattle.mount_counts.specs.{Roles.{barring_of, mount_as_gate, skips}, Sets.has_mount}
-use Rattle.freeze_laws.specs.stages.Roles.{passed_by}
+use Rattle.gate_schedules.{proofs.trees.worlds.Trees.{nobody_reads, sealed_frozen}, specs.trees.Events.{HasLeave, MayClean}}
+use Rattle.gate_schedules.specs.trees.Steps.{MayMark, TreeAllowsStep}
 
 pub open_unsealed : (sb stage : ℕ) → sb ≡ 0 → stage < 3 → sealed_by sb stage ≡ 0
 open_unsealed sb stage writable low = grind arith

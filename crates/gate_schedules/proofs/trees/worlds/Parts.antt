@@ -1,24 +1,22 @@
 -- A step of a call at the tree: it leaves the mounts, the levels and the sections alone, and all of the shown state but the tree. A
 -- snapshot is such a call, too.
 use Rattle.gate_schedules.proofs.Prelude.{Action, AtLevel, AtMount, Bool, Config, Files, Fits, Fitting, HasFile, Holding, Holdings, Holds, HookAnswer}
-use Rattle.gate_schedules.proofs.Prelude.{IsGood, IsWithin, Mark, MarkStep, Next, None, Option, Part, Phase, Role, Sections, Some, SyncAt, Touch}
-use Rattle.gate_schedules.proofs.Prelude.{Tree, TreeHolds, TreePhase, View, ViewFits, WordName, Words, World, added_by, after_of, after_step, ap}
-use Rattle.gate_schedules.proofs.Prelude.{arith, closing, common_steps, each_updated, false, file_of, found_at, has_open, held_after, held_at}
-use Rattle.gate_schedules.proofs.Prelude.{held_of, holders_in, holds_level, if◌then◌else◌, is_bare_at, left, level_added_by, level_taken_by, map_next}
-use Rattle.gate_schedules.proofs.Prelude.{mark_after, model_limits, next_of, no_roles, node_shown, openers, phase_after, put, read, refl, ro_bit}
-use Rattle.gate_schedules.proofs.Prelude.{role_after, roles_of, shown, subst, sym, taken_by, tree_bounds, tree_role_of, tree_roles, true, true≢false}
-use Rattle.gate_schedules.proofs.Prelude.{update, update_map, update_same, value_at, view_after, words_after, ℕ, ◌<◌, ◌==◌, ◌||◌, ◌∙◌, ◌≡◌}
+use Rattle.gate_schedules.proofs.Prelude.{IsGood, IsWithin, Mark, MarkStep, Next, None, Option, Part, Phase, Role, Roles, SameWords, Sections, Some}
+use Rattle.gate_schedules.proofs.Prelude.{SyncAt, Touch, Tree, TreeHolds, TreePhase, View, ViewFits, WordName, Words, World, added_by, after_of}
+use Rattle.gate_schedules.proofs.Prelude.{after_step, ap, arith, closing, common_steps, each_updated, false, file_of, found_at, has_open, held_after}
+use Rattle.gate_schedules.proofs.Prelude.{held_at, held_of, holders_in, holds_level, if◌then◌else◌, is_bare_at, left, level_added_by, level_taken_by}
+use Rattle.gate_schedules.proofs.Prelude.{map_next, mark_after, model_limits, next_of, no_roles, node_shown, openers, phase_after, put, read, refl}
+use Rattle.gate_schedules.proofs.Prelude.{ro_bit, role_after, roles_of, shown, subst, sym, taken_by, tree_bounds, tree_role_of, tree_roles, true}
+use Rattle.gate_schedules.proofs.Prelude.{true≢false, update, update_map, update_same, value_at, values_noted, view_after, words_after, ℕ, ◌<◌, ◌==◌}
+use Rattle.gate_schedules.proofs.Prelude.{◌||◌, ◌∙◌, ◌≡◌, ◌⊎◌}
+use Rattle.{freeze_laws.specs.stages.Roles.Aside, gate_world.specs.{Fits.TreeAccess, Levels.{level_added_after, level_taken_after}}}
+use Rattle.gate_world.specs.{Roles.nodes_noted, Rules.{Moves as ModelMoves, SameView}, Trees.is_sealed, Views.{added_after, taken_after}}
+use Rattle.{gate_world.specs.traces.Found.is_load, gated_tree.specs.{Calls.{NextFits, TreePhaseFits, phase_role}, Phases.{after, next}}}
 use Rattle.gate_schedules.proofs.frames.{Accesses.holdings_of_after, Agreeing.access_agrees, Frames.{left_alone, level_view_as, shown_as, view_as}}
 use Rattle.gate_schedules.proofs.{frames.Openers.most_tasks_is, trees.{Allowed.{may_do, tree_alone}, Fitting.fits_after, Phases.each_phase}}
 use Rattle.gate_schedules.proofs.trees.worlds.{MayTree.{LeaveFor, call_fits, leave, may_step}, OpenFiles.{file_then, files_counted, same_counts}}
-use Rattle.gate_schedules.{proofs.trees.worlds.Trees.{tree_holds, tree_within}, specs.trees.{Events.{MovesBy, opens_shown}, Steps.{Notes, StepKeeps}}}
-use Rattle.gate_schedules.specs.trees.Steps.{tree_in}
-use Rattle.std.proofs.Common.{◌⊎◌}
-use Rattle.gate_world.specs.{Fits.TreeAccess, Levels.{level_added_after, level_taken_after}, Roles.nodes_noted, Rules.{Moves as ModelMoves, SameView}}
-use Rattle.gate_world.specs.{Rules.SameWords, SameRoles.Roles, Trees.is_sealed, Views.{added_after, taken_after}, traces.Found.is_load}
-use Rattle.gate_world.specs.traces.Snapshots.{values_noted}
-use Rattle.gated_tree.specs.{Calls.{NextFits, TreePhaseFits, phase_role}, Phases.{after, next}}
-use Rattle.freeze_laws.specs.stages.Roles.{Aside}
+use Rattle.gate_schedules.{proofs.trees.worlds.Trees.{tree_holds, tree_within}, specs.trees.Events.{MovesBy, opens_shown}}
+use Rattle.gate_schedules.specs.trees.Steps.{Notes, StepKeeps, tree_in}
 
 -- the words of the tree
 abbrev pub is_node_word : WordName → Bool

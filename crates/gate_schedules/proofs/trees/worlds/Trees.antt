@@ -1,18 +1,15 @@
 -- The tree of a state, as the laws of the tree have it: what a step of a task leaves of it, and what it shows.
-use Rattle.gate_schedules.proofs.Prelude.{Action, AreWithin, Bool, Clearing, Config, DownWriteStep, Fits, Fitting, FreezeFits, FreezeStep, Freezing}
-use Rattle.gate_schedules.proofs.Prelude.{Holds, IsGood, IsWithin, KnowsStage, List, None, Option, Phase, PhaseFits, RemountStep, RoleHolds, Some}
-use Rattle.gate_schedules.proofs.Prelude.{Stages, ThawStep, Traced, Tree, TreeHolds, TreePhase, TreeState, UpWriteStep, View, Words, World, ap, arith}
-use Rattle.gate_schedules.proofs.Prelude.{dirty_in, eqb_tells, freeze_stage_role, held_of, inl, inr, is_bare_at, marks_of, nat_lt, node_shown, refl}
-use Rattle.gate_schedules.proofs.Prelude.{stage_role_of, stage_roles, subst, sym, total_none, tree_bounds, tree_of, tree_role_of, tree_roles, update}
-use Rattle.gate_schedules.proofs.Prelude.{ℕ, ◌<◌, ◌≡◌, ◌≤◌}
-use Rattle.access_model.specs.{States.{IsDirectory, is_dirty}, declared.actions.Holder.Holder}
+use Rattle.gate_schedules.proofs.Prelude.{Action, AreWithin, Bool, CleanBelow, Clearing, Config, DownWriteStep, Fits, Fitting, FreezeFits, FreezeStep}
+use Rattle.gate_schedules.proofs.Prelude.{Freezing, Holder, Holds, IsGood, IsWithin, KnowsStage, List, NobodyReads, None, Option, Phase, PhaseFits}
+use Rattle.gate_schedules.proofs.Prelude.{RemountFits, RemountStep, RoleHolds, Some, Stages, ThawStep, Traced, Tree, TreeHolds, TreePhase, TreeState}
+use Rattle.gate_schedules.proofs.Prelude.{UpWriteStep, View, Words, World, ap, arith, dirty_in, eqb_tells, false, freeze_stage_role, held_of, inl}
+use Rattle.gate_schedules.proofs.Prelude.{inr, is_bare_at, marks_of, nat_lt, node_shown, refl, remount_stage_role, stage_role_of, stage_roles, subst}
+use Rattle.gate_schedules.proofs.Prelude.{sym, total_none, tree_bounds, tree_of, tree_role_of, tree_roles, true, update, ℕ, ◌<◌, ◌≡◌, ◌≤◌}
+use Rattle.{access_model.specs.States.{IsDirectory, is_dirty}, freeze_laws.specs.stages.Roles.{MarksHold, clean_by}}
 use Rattle.freeze_levels.specs.declared.freezes.FreezeStep.TheVariants.{Closes}
-use Rattle.gate_world.specs.{Remounts.RemountFits, Roles.{freeze_tree_role, place_of, remount_stage_role, remount_tree_role, reopening_role}}
-use Rattle.gate_world.specs.{Roles.{thaw_stage_role, tree_stage_role}, Trees.is_sealed, declared.work.Phase.TheVariants.Closes}
-use Rattle.node_words.specs.Nodes.{kind_in}
-use Rattle.gated_tree.specs.Roles.{NobodyReads, sealed_by, words_read}
-use Rattle.freeze_laws.specs.stages.Roles.{CleanBelow, MarksHold, clean_by}
-use Rattle.std.{proofs.lemmas.Bool.le-leb, specs.Prelude.{false, true}}
+use Rattle.gate_world.specs.{Roles.{freeze_tree_role, place_of, remount_tree_role, reopening_role, thaw_stage_role, tree_stage_role}, Trees.is_sealed}
+use Rattle.{gate_world.specs.declared.work.Phase.TheVariants.Closes, gated_tree.specs.Roles.{sealed_by, words_read}, node_words.specs.Nodes.kind_in}
+use Rattle.std.proofs.lemmas.Bool.{le-leb}
 use Rattle.gate_schedules.{proofs.trees.Each.each_event, specs.trees.Events.Event}
 
 pub tree_within : (c : Config) → IsWithin c → AreWithin (tree_bounds c)
