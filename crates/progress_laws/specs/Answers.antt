@@ -1,9 +1,7 @@
 -- What `keep_waiting` answers: a freeze that finds somebody counted at a level that it closes asks whether to wait on.
-use Rattle.std.specs.Prelude.{◌≡◌, ℕ, Some, Ok, Err, List, [], ◌∷◌}
-use Rattle.cpu_words.specs.Hooks.{HookAnswer}
-use Rattle.freeze_levels.specs.declared.hooks.HookKind.TheVariants.{KeepWaiting}
-use Rattle.gate_world.specs.{Work.hook_of, Worlds.{World, happens, run}}
-use Rattle.gate_world.specs.declared.{config.Config.Config, entries.Entry.{Entry, TheVariants.{Begins, Steps}}, work.Phase.Phase}
+use Rattle.{cpu_words.specs.Hooks.HookAnswer, freeze_levels.specs.declared.hooks.HookKind.TheVariants.KeepWaiting, gate_world.specs.Work.hook_of}
+use Rattle.gate_world.specs.{Worlds.{World, happens, run}, declared.{config.Config.Config, entries.Entry.{Entry, TheVariants.{Begins, Steps}}}}
+use Rattle.{gate_world.specs.declared.work.Phase.Phase, std.specs.Prelude.{Err, List, Ok, Some, [], ℕ, ◌∷◌, ◌≡◌}}
 
 -- a transition that asks it brings such an answer to this task; of all other transitions nothing is said
 abbrev pub AnswersSo : (ℕ → HookAnswer → Type 0) → World → Entry → Type 0

@@ -1,8 +1,7 @@
 -- Wait-freedom: an operation that waits for nobody has its reply within so many steps of its own, whatever all others do or leave undone.
-use Rattle.std.specs.Prelude.{◌≡◌, ℕ, suc, ◌<◌, ◌≤◌, ◌⊎◌, ◌==◌, Some, List, [], ◌∷◌, if◌then◌else◌}
-use Rattle.gate_world.specs.{Headline.world_after, Worlds.{World, happens}, traces.Traces.most_events}
+use Rattle.{gate_schedules.specs.operations.Progress.HasReply, gate_world.specs.{Headline.world_after, Worlds.{World, happens}}}
 use Rattle.gate_world.specs.declared.{config.Config.Config, entries.Entry.{Entry, TheVariants.{Begins, Steps}}, operations.Op.Op}
-use Rattle.gate_schedules.specs.operations.Progress.{HasReply}
+use Rattle.{gate_world.specs.traces.Traces.most_events, std.specs.Prelude.{List, Some, [], if◌then◌else◌, suc, ℕ, ◌<◌, ◌==◌, ◌∷◌, ◌≡◌, ◌≤◌, ◌⊎◌}}
 
 -- how many steps a task takes among these transitions
 abbrev pub steps_by : ℕ → List Entry → ℕ

@@ -1,15 +1,13 @@
 -- When the next step of a phase has to wait: what it waits for isn't there, so that it looks again.
-use Rattle.std.specs.Prelude.{ℕ, ◌%◌, ◌==◌, ◌&&◌, Bool, false, not, Option, None, Some}
-use Rattle.finite_sums.specs.Sums.{total}
-use Rattle.cpu_words.specs.{Sums.lead, Words.Words, declared.sums.Sum.Sum}
+use Rattle.composite_ops.specs.declared.{file_closes.phases.ClosePhase.ClosePhase, write_access.phases.WritePhase.WritePhase}
+use Rattle.{cpu_words.specs.{Sums.lead, Words.Words, declared.sums.Sum.Sum}, finite_sums.specs.Sums.total}
+use Rattle.{freeze_levels.specs.declared.{freezes.FreezeStep.FreezeStep, thaws.ThawStep.ThawStep}, gate_world.specs.declared.work.Phase.Phase}
 use Rattle.gated_tree.specs.declared.{phases.TreePhase.TreePhase, snapshots.SnapshotStep.SnapshotStep}
 use Rattle.mount_counts.specs.{Phases.has_flag, declared.phases.{ChangeStep.ChangeStep, MountPhase.MountPhase, Want.Want, WantStep.WantStep}}
 use Rattle.mount_counts.specs.declared.remounts.RemountStep.{RemountStep}
-use Rattle.percpu_rwsem.specs.declared.{callbacks.CallbackStep.CallbackStep, grace.Grace.Grace, readers.{DownRead.DownRead, DownReadStep.DownReadStep}}
-use Rattle.percpu_rwsem.specs.declared.writers.{DownWrite.DownWrite, DownWriteStep.DownWriteStep}
-use Rattle.freeze_levels.specs.declared.{freezes.FreezeStep.FreezeStep, thaws.ThawStep.ThawStep}
-use Rattle.composite_ops.specs.declared.{file_closes.phases.ClosePhase.ClosePhase, write_access.phases.WritePhase.WritePhase}
-use Rattle.gate_world.specs.declared.work.Phase.{Phase}
+use Rattle.percpu_rwsem.specs.declared.{callbacks.CallbackStep.CallbackStep, grace.Grace.Grace, readers.DownRead.DownRead}
+use Rattle.percpu_rwsem.specs.declared.{readers.DownReadStep.DownReadStep, writers.{DownWrite.DownWrite, DownWriteStep.DownWriteStep}}
+use Rattle.std.specs.Prelude.{Bool, None, Option, Some, false, not, ℕ, ◌%◌, ◌&&◌, ◌==◌}
 
 -- `umount` is taken
 abbrev pub lock_taken : Words → Bool

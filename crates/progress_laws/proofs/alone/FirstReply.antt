@@ -5,19 +5,18 @@ use Rattle.progress_laws.proofs.Prelude.{after_step, ap, arith, at_freeze, cases
 use Rattle.progress_laws.proofs.Prelude.{freeze_left, freeze_tries, freeze_waits, happens, held_of, if◌then◌else◌, inl, inr, map_next, must_wait, not}
 use Rattle.progress_laws.proofs.Prelude.{phase_after, refl, stands_after, subst, suc, sym, total_at, true, true≢false, words_after, zero, ℕ, ◌*◌, ◌+◌}
 use Rattle.progress_laws.proofs.Prelude.{◌<◌, ◌==◌, ◌∙◌, ◌≡◌, ◌≤◌, ◌⊎◌}
-use Rattle.std.{proofs.{Math.Nat.le-max_right, lemmas.Bool.ne_eqb}, specs.Prelude.Result}
 use Rattle.access_model.specs.declared.replies.Reply.{Reply}
 use Rattle.freeze_laws.{proofs.stages.Facts.other_zero, specs.stages.Roles.{KnowsStage, freezes, under_way}}
-use Rattle.gate_world.specs.{Roles.{freeze_stage_role, reopening_role}, Rules.{Stages, stage_role_of, stage_roles}}
-use Rattle.gate_schedules.specs.operations.{Progress.is_first_lock, Ranks.most_alone}
+use Rattle.{gate_schedules.specs.operations.{Progress.is_first_lock, Ranks.most_alone}, gate_world.specs.Roles.{freeze_stage_role, reopening_role}}
+use Rattle.{gate_world.specs.Rules.{Stages, stage_role_of, stage_roles}, std.proofs.{Common.Result, Math.Nat.le-max_right, lemmas.Bool.ne_eqb}}
 use Rattle.progress_laws.proofs.alone.{Alone.HasRoom, FreezeAlone.{ahead_falls, ahead_small, freeze_ahead, freeze_room, tries_in_room}}
 use Rattle.progress_laws.proofs.alone.{RunAlone.{Makes, NoneGoes, Stopped, and_then, no_nearer, runs, some_or_none, step_to}, Sweeps.AllBelow}
 use Rattle.progress_laws.proofs.alone.{Sweeps.{Falls, WaitsBelow, below_kept, falls_alone, first_kinds}, WaitKinds.{FreezeGoes, NeverWaits, NextIs}}
 use Rattle.progress_laws.proofs.alone.WaitKinds.{callback_kind, fails_now, freeze_goes, freeze_keeps, graces_kept, is_failing, kind, never_next}
-use Rattle.progress_laws.proofs.{blocked.{LostStays.same_entry, OneFreeze.{few_freeze, freezing_at, under_le}}, nearer.AllNearer.freeze_steps}
-use Rattle.progress_laws.proofs.nearer.{AllNearer.{phase_comes, steps_small, thaw_steps, tries_small}, Calls.lock_free, Changes.thaw_few}
-use Rattle.progress_laws.{proofs.{nearer.Nearer.{ComesNearer, goes_on}, rounds.Settling.{others_same, step_good}}, specs.Alone.alone_left}
-use Rattle.progress_laws.specs.{FirstReply.{RepliesOrWaits, ReplyOr, most_of_kinds, most_to_reply}, StepsLeft.most_steps}
+use Rattle.progress_laws.proofs.blocked.{LostStays.same_entry, OneFreeze.{few_freeze, freezing_at, under_le}}
+use Rattle.progress_laws.proofs.nearer.{AllNearer.{freeze_steps, phase_comes, steps_small, thaw_steps, tries_small}, Calls.lock_free}
+use Rattle.progress_laws.proofs.{nearer.{Changes.thaw_few, Nearer.{ComesNearer, goes_on}}, rounds.Settling.{others_same, step_good}}
+use Rattle.progress_laws.specs.{Alone.alone_left, FirstReply.{RepliesOrWaits, ReplyOr, most_of_kinds, most_to_reply}, StepsLeft.most_steps}
 
 -- need not wait
 abbrev is_free : Words → Phase → Bool

@@ -4,17 +4,15 @@ use Rattle.progress_laws.proofs.Prelude.{Config, DownRead, DownReadStep, DownWri
 use Rattle.progress_laws.proofs.Prelude.{FreezeIsBlockedBy, FreezeStep, Grace, IsGood, MountPhase, None, Option, Phase, PhaseFits, RemountStep}
 use Rattle.progress_laws.proofs.Prelude.{SnapshotStep, Some, SyncAt, SyncHoldsIn, ThawStep, TreePhase, Want, WantStep, Words, World, WritePhase, ap}
 use Rattle.progress_laws.proofs.Prelude.{arith, at_level, callback_waits, cases_Bool, closed, closing_waits, eqb_tells, false, fits_at, freeze_waits}
-use Rattle.progress_laws.proofs.Prelude.{grace_waits, has_flag, held_of, inl, inr, level_as_gate, must_wait, not, owns, refl, start_waits, sym}
-use Rattle.progress_laws.proofs.Prelude.{sync_role_of, thaw_waits, total, true, true≢false, ℕ, ◌&&◌, ◌<◌, ◌==◌, ◌∙◌, ◌≡◌, ◌≤◌, ◌⊎◌}
-use Rattle.std.specs.Prelude.{◌%◌}
-use Rattle.cpu_words.{proofs.gate_counts.Events.words_sum, specs.gate_counts.Gates.counted}
-use Rattle.finite_sums.proofs.Totals.{HasPlace, total_place}
-use Rattle.mount_counts.{proofs.laws.Bits.hold_set, specs.Roles.has_hold}
+use Rattle.progress_laws.proofs.Prelude.{has_flag, held_of, inl, inr, level_as_gate, must_wait, not, owns, refl, start_waits, sym, sync_role_of}
+use Rattle.progress_laws.proofs.Prelude.{thaw_waits, total, true, true≢false, ℕ, ◌&&◌, ◌<◌, ◌==◌, ◌∙◌, ◌≡◌, ◌≤◌, ◌⊎◌}
+use Rattle.{cpu_words.{proofs.gate_counts.Events.words_sum, specs.gate_counts.Gates.counted}, finite_sums.proofs.Totals.{HasPlace, total_place}}
 use Rattle.freeze_laws.specs.levels.Roles.{SyncRole}
-use Rattle.gate_world.specs.{Fits.GraceFits, Levels.inside, Rules.{AtMount, LevelHoldsIn, Sections, role_of}}
 use Rattle.gate_schedules.proofs.{frames.Owners.{hold_owns, owns_le, who_holds}, operations.deadlocks.WhoCanStep.{HasOwner, has_owner}}
+use Rattle.gate_world.specs.{Fits.GraceFits, Levels.inside, Rules.{AtMount, LevelHoldsIn, Sections, role_of}}
+use Rattle.{mount_counts.{proofs.laws.Bits.hold_set, specs.Roles.has_hold}, std.proofs.Common.◌%◌}
 use Rattle.progress_laws.specs.LostTasks.{CountIsStuck, EachIsBlockedBy, HoldIsLost, IsBlockedBy, IsStuck, LevelIsStuck, LockIsStuck, SectionIsLost}
-use Rattle.progress_laws.specs.Waiting.{change_waits, lock_taken, remount_waits, snapshot_waits, want_waits}
+use Rattle.progress_laws.specs.Waiting.{change_waits, grace_waits, lock_taken, remount_waits, snapshot_waits, want_waits}
 
 -- an owner of `umount` that has to wait is a freeze
 pub owner_goes : (w : Words) (phase : Phase) → owns (Some phase) ≡ 1 → (must_wait w phase ≡ false) ⊎ ((x : Freeze) × (phase ≡ Phase.Freezes x))

@@ -3,11 +3,9 @@ use Rattle.progress_laws.proofs.Prelude.{AtLevel, Bool, Config, Entry, GateError
 use Rattle.progress_laws.proofs.Prelude.{SyncAt, SyncHoldsIn, View, World, [], ap, arith, at_level, closed, happens, has_flag, level_as_gate, owns}
 use Rattle.progress_laws.proofs.Prelude.{refl, run, subst, sym, sync_role_of, total_at, true, true≢false, update_off, value_at, view_after, ℕ, ◌<◌}
 use Rattle.progress_laws.proofs.Prelude.{◌∙◌, ◌∷◌, ◌≡◌, ◌≤◌}
-use Rattle.cpu_words.specs.gate_counts.Gates.{counted as counted_of}
-use Rattle.gate_world.specs.{Levels.inside, Rules.{AtMount, LevelHoldsIn, MountHoldsIn, Owner, Sections, at_mount, role_of}, Worlds.begin_of}
-use Rattle.gate_world.specs.Worlds.{step_of, task_of}
-use Rattle.gate_schedules.proofs.schedules.Schedule.{gate_sums, happens_keeps}
-use Rattle.mount_counts.{proofs.laws.Bits.below4, specs.Roles.{counted, has_hold, hold_bit}}
+use Rattle.{cpu_words.specs.gate_counts.Gates.counted as counted_of, gate_schedules.proofs.schedules.Schedule.{gate_sums, happens_keeps}}
+use Rattle.gate_world.specs.{Levels.inside, Rules.{AtMount, LevelHoldsIn, MountHoldsIn, Owner, Sections, at_mount, role_of}}
+use Rattle.{gate_world.specs.Worlds.{begin_of, step_of, task_of}, mount_counts.{proofs.laws.Bits.below4, specs.Roles.{counted, has_hold, hold_bit}}}
 use Rattle.progress_laws.specs.LostForEver.{AreOfOthers, RemainsForEver, WordsTellFor}
 
 hold_is_set : (f : ℕ) → f < 4 → 1 ≤ hold_bit f → has_flag f 2 ≡ true

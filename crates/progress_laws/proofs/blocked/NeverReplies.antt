@@ -1,32 +1,31 @@
 -- An operation that meets what a lost task has left never has its reply.
 use Rattle.progress_laws.proofs.Prelude.{AtLevel, Begins, Bool, Callback, CallbackStep, ChangeStep, ClosePhase, Config, DownRead, DownWrite}
 use Rattle.progress_laws.proofs.Prelude.{DownWriteStep, DownWriteStepFits, Entry, Err, Freeze, FreezeFits, FreezeStep, GateError, Grace, GraceNext}
-use Rattle.progress_laws.proofs.Prelude.{Holdings, HookAnswer, IsGood, IsWithin, KeepWaiting, List, MountPhase, Next, Ok, Op, Phase, PhaseFits}
-use Rattle.progress_laws.proofs.Prelude.{RemountStep, SnapshotStep, Some, Steps, SyncAt, SyncHoldsIn, ThawStep, TreePhase, View, Want, WantStep}
-use Rattle.progress_laws.proofs.Prelude.{Words, World, WritePhase, [], after_closing, after_of, after_step, ap, arith, at_level, callback_after}
-use Rattle.progress_laws.proofs.Prelude.{callback_next, cases_Bool, closed, down_read_after, down_read_next, down_write_after, down_write_next}
-use Rattle.progress_laws.proofs.Prelude.{eq-eqb, eqb_tells, false, fits_at, found_at, found_by, freeze_after, freeze_next, happens, happens_is}
-use Rattle.progress_laws.proofs.Prelude.{has_flag, held_of, hook_of, if◌then◌else◌, inl, inr, is_frozen_whole, level_as_gate, looked, nat_lt, owns}
-use Rattle.progress_laws.proofs.Prelude.{phase_after, read, refl, run, sections_awaited, stands_after, subst, suc, sym, sync_role_of, thaw_after}
-use Rattle.progress_laws.proofs.Prelude.{total, total_at, true, true≢false, words_after, wrap_add, ℕ, ◌&&◌, ◌<◌, ◌==◌, ◌∙◌, ◌∷◌, ◌≡◌, ◌≤◌, ◌⊎◌}
-use Rattle.std.{proofs.{Common.{None, Option}, lemmas.Bool.{cases_lt, ltb-false, ne_eqb}}, specs.Prelude.{◌%◌, ◌+◌, is_some}}
-use Rattle.cpu_words.specs.{Sums.lead, gate_counts.{Gates.{Barring, BarringHolds, admitted, unread}, Levels.barring_of}}
-use Rattle.percpu_rwsem.specs.{Callbacks.callback_looked, Graces.{is_first, passed_on}, Readers.step_found}
-use Rattle.gate_world.specs.{Beginnings.refusal, Levels.{inside, level_role_of}, Roles.{count_beside, down_count_role, freeze_position}}
-use Rattle.gate_world.specs.{Roles.position_count, Rules.{LevelHoldsIn, Sections, role_of}, Views.holds_level, Worlds.{begin_of, begin_refusal}}
-use Rattle.gate_world.specs.Worlds.{task_of}
-use Rattle.gate_schedules.proofs.{levels.{Counts.held_bit, Facts.blocked_slow}, operations.deadlocks.BlockedStarts.{StaysKept, start_stays}}
-use Rattle.gate_schedules.{proofs.schedules.Schedule.happens_keeps, specs.operations.Progress.is_admitted}
+use Rattle.progress_laws.proofs.Prelude.{Holdings, HookAnswer, IsGood, IsWithin, KeepWaiting, List, MountPhase, Next, None, Ok, Op, Option, Phase}
+use Rattle.progress_laws.proofs.Prelude.{PhaseFits, RemountStep, SnapshotStep, Some, Steps, SyncAt, SyncHoldsIn, ThawStep, TreePhase, View, Want}
+use Rattle.progress_laws.proofs.Prelude.{WantStep, Words, World, WritePhase, [], after_closing, after_of, after_step, ap, arith, at_level}
+use Rattle.progress_laws.proofs.Prelude.{callback_after, callback_next, cases_Bool, closed, down_read_after, down_read_next, down_write_after}
+use Rattle.progress_laws.proofs.Prelude.{down_write_next, eq-eqb, eqb_tells, false, fits_at, found_at, found_by, freeze_after, freeze_next, happens}
+use Rattle.progress_laws.proofs.Prelude.{happens_is, has_flag, held_of, hook_of, if◌then◌else◌, inl, inr, is_frozen_whole, level_as_gate, looked}
+use Rattle.progress_laws.proofs.Prelude.{nat_lt, owns, phase_after, read, refl, run, sections_awaited, stands_after, subst, suc, sym, sync_role_of}
+use Rattle.progress_laws.proofs.Prelude.{thaw_after, total, total_at, true, true≢false, words_after, ℕ, ◌&&◌, ◌+◌, ◌<◌, ◌==◌, ◌∙◌, ◌∷◌, ◌≡◌, ◌≤◌, ◌⊎◌}
 use Rattle.composite_ops.specs.{file_closes.Phases.then_frees, write_access.Phases.{then_gives_back, then_wants}}
+use Rattle.cpu_words.specs.{Sums.lead, Touches.wrap_add, gate_counts.{Gates.{Barring, BarringHolds, admitted, unread}, Levels.barring_of}}
 use Rattle.freeze_levels.specs.{Freezes.freeze_hook, Thaws.thaw_next, declared.thaws.Thaw.Thaw}
+use Rattle.gate_schedules.proofs.{levels.{Counts.held_bit, Facts.blocked_slow}, operations.deadlocks.BlockedStarts.{StaysKept, start_stays}}
+use Rattle.{gate_schedules.{proofs.schedules.Schedule.happens_keeps, specs.operations.Progress.is_admitted}, gate_world.specs.Beginnings.refusal}
+use Rattle.gate_world.specs.{Levels.{inside, level_role_of}, Roles.{count_beside, down_count_role, freeze_position, position_count}}
+use Rattle.gate_world.specs.{Rules.{LevelHoldsIn, Sections, role_of}, Views.holds_level, Worlds.{begin_of, begin_refusal, task_of}}
 use Rattle.gated_tree.specs.{Phases.{snapshot_after, snapshot_locked_out, snapshot_next}, declared.snapshots.Snapshot.Snapshot}
-use Rattle.mount_counts.specs.{Phases.{change_after, change_next, hold_found, lock_failed, want_after, want_next}, Remounts.remount_after}
-use Rattle.mount_counts.specs.{Remounts.remount_next, Roles.has_hold, declared.{phases.Change.Change, remounts.Remount.Remount}}
-use Rattle.progress_laws.proofs.blocked.{BarredStarts.start_section, LostStays.{same_entry, words_tell}, NobodyReplies.{GoesOnKept, goes_as}}
-use Rattle.progress_laws.proofs.{blocked.NobodyReplies.not_patient, nearer.{Levels.lead_last, Nearer.by_wait}, rounds.Measured.{absent_is, idle_is}}
-use Rattle.progress_laws.specs.{Answers.{AllAnswerSo, AnswersSo, IsPatientWith}, LostForEver.{AreOfOthers, LevelIsLost, LockIsLost, MeetsAtCallback}}
-use Rattle.progress_laws.specs.LostForEver.{MeetsAtClosing, MeetsAtFreeze, MeetsHold, MeetsLevel, MeetsLost, MeetsSection, NeverReplies}
-use Rattle.progress_laws.specs.LostTasks.{HoldIsLost}
+use Rattle.mount_counts.specs.Phases.{change_after, change_next, hold_found, lock_failed, want_after, want_next}
+use Rattle.mount_counts.specs.{Remounts.{remount_after, remount_next}, Roles.has_hold, declared.{phases.Change.Change, remounts.Remount.Remount}}
+use Rattle.percpu_rwsem.specs.{Callbacks.callback_looked, Graces.{is_first, passed_on}, Readers.step_found}
+use Rattle.std.proofs.{Common.{is_some, ◌%◌}, lemmas.Bool.{cases_lt, ltb-false, ne_eqb}}
+use Rattle.progress_laws.proofs.blocked.{BarredStarts.start_section, LostStays.{same_entry, words_tell}}
+use Rattle.progress_laws.proofs.{blocked.NobodyReplies.{GoesOnKept, goes_as, not_patient}, nearer.{Levels.lead_last, Nearer.by_wait}}
+use Rattle.progress_laws.{proofs.rounds.Measured.{absent_is, idle_is}, specs.Answers.{AllAnswerSo, AnswersSo, IsPatientWith}}
+use Rattle.progress_laws.specs.LostForEver.{AreOfOthers, LevelIsLost, LockIsLost, MeetsAtCallback, MeetsAtClosing, MeetsAtFreeze, MeetsHold}
+use Rattle.progress_laws.specs.{LostForEver.{MeetsLevel, MeetsLost, MeetsSection, NeverReplies}, LostTasks.HoldIsLost}
 
 abbrev is_start : Phase → Bool
 is_start (Phase.DownReads r) = true

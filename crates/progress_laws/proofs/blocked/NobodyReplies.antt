@@ -1,36 +1,33 @@
 -- Where all have to wait, no steps of theirs are a reply, not even those of starts that count themselves again at a closed level.
 use Rattle.progress_laws.proofs.Prelude.{AllWait, AtLevel, Begins, Bool, Callback, CallbackIsBlockedBy, CallbackStep, ClosePhase, ClosingIsBlockedBy}
 use Rattle.progress_laws.proofs.Prelude.{Config, DownRead, DownReadStep, DownWrite, DownWriteStep, DownWriteStepFits, Entry, Err, Freeze, FreezeFits}
-use Rattle.progress_laws.proofs.Prelude.{FreezeIsBlockedBy, FreezeStep, Grace, GraceNext, HookAnswer, IsGood, IsWithin, KeepWaiting, Next, None, Ok}
-use Rattle.progress_laws.proofs.Prelude.{Option, Phase, PhaseFits, Some, Steps, Sum, SyncAt, SyncHoldsIn, View, Words, World, WritePhase}
+use Rattle.progress_laws.proofs.Prelude.{FreezeIsBlockedBy, FreezeStep, Grace, GraceNext, HookAnswer, IsGood, IsWithin, KeepWaiting, List, Next, None}
+use Rattle.progress_laws.proofs.Prelude.{Ok, Option, Phase, PhaseFits, Some, Steps, Sum, SyncAt, SyncHoldsIn, View, Words, World, WritePhase, []}
 use Rattle.progress_laws.proofs.Prelude.{after_closing, after_event, after_of, after_step, ap, arith, at_level, callback_after, callback_next}
 use Rattle.progress_laws.proofs.Prelude.{callback_waits, cases_Bool, closing_waits, down_read_after, down_read_next, down_write_after}
 use Rattle.progress_laws.proofs.Prelude.{down_write_next, eq-eqb, eqb_tells, false, fits_at, found_at, found_by, freeze_after, freeze_next}
-use Rattle.progress_laws.proofs.Prelude.{freeze_waits, grace_waits, happens, happens_is, held_of, hook_of, if◌then◌else◌, inl, inr, is_frozen_whole}
-use Rattle.progress_laws.proofs.Prelude.{is_outside, level_as_gate, looked, map_next, must_wait, nat_lt, not, phase_after, read, refl, run}
-use Rattle.progress_laws.proofs.Prelude.{sections_awaited, stands_after, start_steps, steps_left, subst, suc, sym, sync_role_of, thaw_after, total}
-use Rattle.progress_laws.proofs.Prelude.{total_at, total_le, tries_left, true, true≢false, unpack, update_at, update_off, value_at, view_after}
-use Rattle.progress_laws.proofs.Prelude.{wrap_add, zero, ℕ, ◌&&◌, ◌*◌, ◌+◌, ◌<◌, ◌==◌, ◌∙◌, ◌≡◌, ◌≤◌}
-use Rattle.std.{proofs.{Common.add-one, Math.Path.fun_ext, lemmas.Bool.{cases_lt, ltb-true, ltb-false, ne_eqb}}, specs.Prelude.{◌%◌, List, [], ◌∷◌}}
-use Rattle.finite_sums.proofs.Totals.{total_add, total_bound, total_none, total_same}
-use Rattle.access_model.specs.Histories.{levels_of}
-use Rattle.cpu_words.{proofs.gate_counts.{Events.words_sum, Numbers.{below_le, below_step}}, specs.{Sums.lead, gate_counts.Gates.Barring}}
-use Rattle.cpu_words.specs.gate_counts.{Gates.{BarringHolds, GateView, admitted, below, counted, unread}, Levels.{LevelRole, barring_of}}
-use Rattle.cpu_words.specs.gate_counts.Levels.{processor_of}
-use Rattle.composite_ops.specs.{file_closes.Phases.then_frees, write_access.Phases.{after as write_after, then_wants}}
-use Rattle.gated_tree.specs.Phases.{after as tree_after}
-use Rattle.mount_counts.specs.{Phases.after as mount_after, Remounts.remount_after}
-use Rattle.freeze_levels.specs.Freezes.{freeze_hook}
-use Rattle.percpu_rwsem.specs.{Callbacks.callback_looked, Readers.{at_down_read, step_found}}
+use Rattle.progress_laws.proofs.Prelude.{freeze_waits, happens, happens_is, held_of, hook_of, if◌then◌else◌, inl, inr, is_frozen_whole, is_outside}
+use Rattle.progress_laws.proofs.Prelude.{level_as_gate, looked, map_next, must_wait, nat_lt, not, phase_after, read, refl, run, sections_awaited}
+use Rattle.progress_laws.proofs.Prelude.{stands_after, start_steps, steps_left, subst, suc, sym, sync_role_of, thaw_after, total, total_at, total_le}
+use Rattle.progress_laws.proofs.Prelude.{tries_left, true, true≢false, update_at, update_off, value_at, view_after, zero, ℕ, ◌&&◌, ◌*◌, ◌+◌, ◌<◌}
+use Rattle.progress_laws.proofs.Prelude.{◌==◌, ◌∙◌, ◌∷◌, ◌≡◌, ◌≤◌}
+use Rattle.{access_model.specs.Histories.levels_of, composite_ops.specs.{file_closes.Phases.then_frees, write_access.Phases.after as write_after}}
+use Rattle.{composite_ops.specs.write_access.Phases.then_wants, cpu_words.proofs.gate_counts.{Events.words_sum, Numbers.{below_le, below_step}}}
+use Rattle.cpu_words.specs.{Sums.lead, Touches.wrap_add, gate_counts.Gates.{Barring, BarringHolds, GateView, admitted, below, counted, unread}}
+use Rattle.cpu_words.specs.gate_counts.Levels.{LevelRole, barring_of, processor_of}
+use Rattle.{finite_sums.proofs.Totals.{total_add, total_bound, total_none, total_same}, freeze_levels.specs.Freezes.freeze_hook}
+use Rattle.gate_schedules.{proofs.levels.{Counts.held_bit, Facts.blocked_slow}, specs.operations.Progress.{IsUnderWay, is_admitted}}
 use Rattle.gate_world.specs.{Fits.ReadFits, Levels.level_role_of, Roles.{count_beside, count_role_if, down_count_role, freeze_position}}
 use Rattle.gate_world.specs.{Roles.{position_count, read_count_role, read_level_role}, Rules.LevelHoldsIn, Views.{actions_after, holds_level}}
-use Rattle.gate_schedules.{proofs.levels.{Counts.held_bit, Facts.blocked_slow}, specs.operations.Progress.{IsUnderWay, is_admitted}}
+use Rattle.{gated_tree.specs.Phases.after as tree_after, mount_counts.specs.{Phases.after as mount_after, Remounts.remount_after}}
+use Rattle.percpu_rwsem.specs.{Callbacks.callback_looked, Readers.{at_down_read, step_found}, SyncWords.unpack}
+use Rattle.std.proofs.{Common.{add-one, ◌%◌}, Math.Path.fun_ext, lemmas.Bool.{cases_lt, ltb-false, ltb-true, ne_eqb}}
 use Rattle.progress_laws.proofs.blocked.BarredStarts.{ComesTo, barred_next, sought_by, start_elsewhere, start_lead, start_next, start_out}
 use Rattle.progress_laws.proofs.blocked.{BarredStarts.{start_section, start_words}, Blame.{both, each_is_blocked, nonzero, not_zero}}
 use Rattle.progress_laws.proofs.nearer.{AllNearer.phase_comes, Calls.lock_found, Levels.{LookStays, begun_lead, lead_last, lead_on, look_stays}}
 use Rattle.progress_laws.proofs.{nearer.Nearer.{StaysBy, StaysWaiting, by_wait, patient_waits}, rounds.FairlyBlocked.{start_wait, waits_out}}
 use Rattle.progress_laws.{proofs.rounds.Measured.{absent_is, after_good, idle_is}, specs.Answers.{AllAnswerSo, AnswersSo, IsPatient}}
-use Rattle.progress_laws.specs.{LostTasks.{AreLiveSteps, IsBlockedBy, NobodyReplies}, Waiting.{lock_taken, was_found}}
+use Rattle.progress_laws.specs.{LostTasks.{AreLiveSteps, IsBlockedBy, NobodyReplies}, Waiting.{grace_waits, lock_taken, was_found}}
 
 -- a sum with one term changed
 total_shift : (n t : ℕ) (f g : ℕ → ℕ) → t < n → ((x : ℕ) → (x ≡ t → ⊥) → g x ≡ f x) → total n g + f t ≡ total n f + g t

@@ -1,7 +1,6 @@
 -- One freeze at most is at a stage of its own: one that waits is, but for its first lock.
-use Rattle.progress_laws.proofs.Prelude.{Config, Freeze, FreezeStep, IsGood, Phase, Words, World, ap, arith, eqb_tells, false, freeze_owns}
+use Rattle.progress_laws.proofs.Prelude.{Config, Freeze, FreezeStep, IsGood, Phase, Some, Words, World, ap, arith, eqb_tells, false, freeze_owns}
 use Rattle.progress_laws.proofs.Prelude.{freeze_waits, inl, inr, total, true, ℕ, ◌<◌, ◌∙◌, ◌≡◌, ◌≤◌}
-use Rattle.std.proofs.Common.{Some}
 use Rattle.freeze_laws.{proofs.stages.Facts.other_zero, specs.stages.Roles.{freezes, under_way}}
 use Rattle.gate_schedules.specs.operations.Progress.{is_first_lock}
 use Rattle.gate_world.specs.{Roles.freeze_stage_role, Rules.{Stages, stage_role_of, stage_roles}}

@@ -3,30 +3,26 @@ use Rattle.progress_laws.proofs.Prelude.{Bool, Callback, CallbackStep, ChangeSte
 use Rattle.progress_laws.proofs.Prelude.{HookAnswer, IsGood, MountPhase, Next, None, Phase, PhaseFits, RemountStep, SnapshotStep, SyncAt, SyncHoldsIn}
 use Rattle.progress_laws.proofs.Prelude.{Transition, TransitionNext, TreePhase, Want, WantStep, WordName, Words, World, WritePhase, after_event, ap}
 use Rattle.progress_laws.proofs.Prelude.{arith, callback_after, callback_next, callback_waits, common_steps, down_read_after, down_read_next, eq-eqb}
-use Rattle.progress_laws.proofs.Prelude.{exchange_rank, false, found_at, found_by, grace_waits, held_of, inl, is_frozen_whole, is_outside, load_same}
-use Rattle.progress_laws.proofs.Prelude.{looked, map_next, must_wait, read, refl, start_left, start_steps, steps_left, subst, sym, sync_role_of}
-use Rattle.progress_laws.proofs.Prelude.{transition_after, tries_left, true, true≢false, update_at, words_after, ℕ, ◌&&◌, ◌*◌, ◌+◌, ◌<◌, ◌==◌, ◌∙◌}
-use Rattle.progress_laws.proofs.Prelude.{◌≡◌, ◌≤◌}
-use Rattle.cpu_words.specs.Touches.{left}
-use Rattle.composite_ops.specs.{file_closes.Phases.{next as close_next, after as close_after, then_frees}, write_access.Phases.next as write_next}
-use Rattle.composite_ops.specs.write_access.Phases.{after as write_after, then_wants, then_gives_back}
+use Rattle.progress_laws.proofs.Prelude.{exchange_rank, false, found_at, found_by, held_of, inl, is_frozen_whole, is_outside, load_same, looked}
+use Rattle.progress_laws.proofs.Prelude.{map_next, must_wait, read, refl, start_steps, steps_left, subst, sym, sync_role_of, transition_after}
+use Rattle.progress_laws.proofs.Prelude.{tries_left, true, true≢false, update_at, words_after, ℕ, ◌&&◌, ◌*◌, ◌+◌, ◌<◌, ◌==◌, ◌∙◌, ◌≡◌, ◌≤◌}
+use Rattle.composite_ops.specs.{file_closes.Phases.{after as close_after, next as close_next, then_frees}, write_access.Phases.after as write_after}
+use Rattle.{composite_ops.specs.write_access.Phases.{next as write_next, then_gives_back, then_wants}, cpu_words.specs.Touches.left}
+use Rattle.{freeze_laws.specs.levels.{Operations.callback_role, Roles.claimed as has_claimed}, gate_schedules.proofs.frames.ValidWords.events_may_be}
+use Rattle.gate_schedules.proofs.{levels.Facts.{ExchangeFalls, callback_called, defined_falls, exchange_falls}, mounts.Progress.change_ends}
+use Rattle.gate_schedules.{proofs.operations.{calls.Progress.tree_ends, remount.Progress.remount_ends}, specs.operations.Ranks.{rank, remount_rank}}
+use Rattle.gate_schedules.specs.operations.Unblocked.{ChangeIsUnblocked, IsUnblocked, RemountIsUnblocked, TreeIsUnblocked}
+use Rattle.gate_world.specs.{Fits.{Fits, GraceFits}, Roles.sync_role_if, Rules.Fitting, traces.TraceStates.{CloseReadIsValid, WordIsValid}}
 use Rattle.gated_tree.specs.{Phases.{after as tree_after, next as tree_next, snapshot_after, snapshot_next}, Ranks.{snapshot_rank, tree_rank}}
 use Rattle.gated_tree.specs.declared.snapshots.Snapshot.{Snapshot}
-use Rattle.mount_counts.specs.{Phases.{change_after, change_next, want_after, want_next}, Ranks.{change_rank, want_rank}, Remounts.remount_after}
-use Rattle.mount_counts.specs.{Remounts.remount_next, declared.{phases.Change.Change, remounts.Remount.Remount}}
-use Rattle.node_words.specs.declared.nodes.NodeWord.{NodeWord}
-use Rattle.percpu_rwsem.specs.{Callbacks.{callback_looked, called_back, claimed}, SyncWords.{on_callback, on_claim}, Transitions.transition_next}
-use Rattle.percpu_rwsem.specs.declared.readers.UpRead.{UpRead}
-use Rattle.freeze_laws.specs.levels.{Operations.callback_role, Roles.claimed as has_claimed}
-use Rattle.gate_world.specs.{Fits.{Fits, GraceFits}, Roles.sync_role_if, Rules.Fitting, traces.TraceStates.{CloseReadIsValid, WordIsValid}}
-use Rattle.gate_schedules.proofs.{frames.ValidWords.events_may_be, levels.Facts.{ExchangeFalls, callback_called, defined_falls, exchange_falls}}
-use Rattle.gate_schedules.proofs.{mounts.Progress.change_ends, operations.{calls.Progress.tree_ends, remount.Progress.remount_ends}}
-use Rattle.gate_schedules.specs.operations.{Ranks.{rank, remount_rank}, Unblocked.{ChangeIsUnblocked, IsUnblocked, RemountIsUnblocked}}
-use Rattle.gate_schedules.specs.operations.Unblocked.{TreeIsUnblocked}
-use Rattle.progress_laws.proofs.nearer.{Levels.{IfMore, LookNears, LookStays, look_nears, look_stays, more_same, start_nears}, Nearer.FewerLeft}
-use Rattle.progress_laws.proofs.nearer.Nearer.{NearsBy, NearsPhase, StaysBy, phase_falls, phase_fewer, phase_nears, phase_stays}
-use Rattle.progress_laws.specs.{StepsLeft.{callback_left, callback_tries, close_left, grace_left, write_left}, Waiting.{change_waits, lock_taken}}
-use Rattle.progress_laws.specs.Waiting.{remount_waits, snapshot_waits, tree_waits, want_waits}
+use Rattle.mount_counts.specs.{Phases.{change_after, change_next, want_after, want_next}, Ranks.{change_rank, want_rank}}
+use Rattle.mount_counts.specs.{Remounts.{remount_after, remount_next}, declared.{phases.Change.Change, remounts.Remount.Remount}}
+use Rattle.{node_words.specs.declared.nodes.NodeWord.NodeWord, percpu_rwsem.specs.Callbacks.{callback_looked, called_back, claimed}}
+use Rattle.percpu_rwsem.specs.{SyncWords.{on_callback, on_claim}, Transitions.transition_next, declared.readers.UpRead.UpRead}
+use Rattle.progress_laws.proofs.nearer.Levels.{IfMore, LookNears, LookStays, look_nears, look_stays, more_same, start_nears}
+use Rattle.progress_laws.proofs.nearer.Nearer.{FewerLeft, NearsBy, NearsPhase, StaysBy, phase_falls, phase_fewer, phase_nears, phase_stays}
+use Rattle.progress_laws.specs.StepsLeft.{callback_left, callback_tries, close_left, grace_left, start_left, write_left}
+use Rattle.progress_laws.specs.Waiting.{change_waits, grace_waits, lock_taken, remount_waits, snapshot_waits, tree_waits, want_waits}
 
 -- a lock that is taken is found so, and left so
 pub lock_found : (w : Words) → lock_taken w ≡ true → (w.umount == 0) ≡ false

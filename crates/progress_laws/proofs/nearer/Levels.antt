@@ -3,20 +3,19 @@ use Rattle.progress_laws.proofs.Prelude.{Bool, Config, DownRead, DownReadStep, D
 use Rattle.progress_laws.proofs.Prelude.{Next, None, Option, Some, Sum, SyncAt, SyncHoldsIn, Transition, TransitionNext, UpWrite, UpWriteStep}
 use Rattle.progress_laws.proofs.Prelude.{WordName, Words, World, after_event, ap, arith, cases_Bool, closed, closing_left, closing_tries}
 use Rattle.progress_laws.proofs.Prelude.{closing_waits, down_read_after, down_read_next, down_write_after, down_write_next, eq-eqb, eqb_tells}
-use Rattle.progress_laws.proofs.Prelude.{exchange_rank, false, found_by, grace_waits, inl, inr, is_frozen_whole, load_same, looked, nat_lt, not}
-use Rattle.progress_laws.proofs.Prelude.{opening_left, opening_tries, read, refl, sections_awaited, start_left, start_waits, subst, suc, sym}
-use Rattle.progress_laws.proofs.Prelude.{sync_role_of, total, transition_after, true, true≢false, unpack, update_at, wrap_add, ℕ, ◌&&◌, ◌+◌, ◌<◌}
-use Rattle.progress_laws.proofs.Prelude.{◌==◌, ◌≡◌, ◌≤◌, ◌⊎◌}
-use Rattle.std.{proofs.{Common.add-one, lemmas.Bool.{ltb-true, ltb-false}}, specs.Prelude.{◌*◌, ◌%◌}}
-use Rattle.cpu_words.{proofs.gate_counts.Numbers.{ahead_past, ahead_step}, specs.{Sums.{ahead, lead, sum_taking}, Touches.left}}
-use Rattle.percpu_rwsem.specs.{SyncWords.{is_passed, on_enter, on_exit, on_callback}, Transitions.transition_next, Writers.down_write_summed}
-use Rattle.percpu_rwsem.specs.Writers.{at_down_write, enter_step, entered_from, callback_step, up_write_next, up_write_after, exit_made}
-use Rattle.percpu_rwsem.specs.declared.sync_word.{GpState.GpState, SyncWord.SyncWord}
+use Rattle.progress_laws.proofs.Prelude.{exchange_rank, false, found_by, inl, inr, is_frozen_whole, load_same, looked, nat_lt, not, opening_left}
+use Rattle.progress_laws.proofs.Prelude.{opening_tries, read, refl, sections_awaited, start_waits, subst, suc, sym, sync_role_of, total}
+use Rattle.progress_laws.proofs.Prelude.{transition_after, true, true≢false, update_at, ℕ, ◌&&◌, ◌*◌, ◌+◌, ◌<◌, ◌==◌, ◌≡◌, ◌≤◌, ◌⊎◌}
+use Rattle.cpu_words.{proofs.gate_counts.Numbers.{ahead_past, ahead_step}, specs.{Sums.{ahead, lead, sum_taking}, Touches.{left, wrap_add}}}
 use Rattle.freeze_laws.specs.levels.{Operations.{down_write_role, up_write_role}, Roles.{SyncRole, entered, entering}}
-use Rattle.gate_world.specs.traces.TraceStates.{WordIsValid}
-use Rattle.gate_schedules.proofs.levels.Facts.{ExchangeFalls, exchange_falls, defined_falls, enter_defined, writer_passed, writer_called}
-use Rattle.gate_schedules.proofs.levels.Facts.{exit_defined, block_clear}
-use Rattle.progress_laws.{proofs.nearer.Nearer.{FewerLeft, NearsBy, StaysBy}, specs.{StepsLeft.grace_left, Waiting.{sum_waits, was_found}}}
+use Rattle.gate_schedules.proofs.levels.Facts.{ExchangeFalls, block_clear, defined_falls, enter_defined, exchange_falls, exit_defined, writer_called}
+use Rattle.{gate_schedules.proofs.levels.Facts.writer_passed, gate_world.specs.traces.TraceStates.WordIsValid}
+use Rattle.percpu_rwsem.specs.{SyncWords.{is_passed, on_callback, on_enter, on_exit, unpack}, Transitions.transition_next, Writers.at_down_write}
+use Rattle.percpu_rwsem.specs.Writers.{callback_step, down_write_summed, enter_step, entered_from, exit_made, up_write_after, up_write_next}
+use Rattle.percpu_rwsem.specs.declared.sync_word.{GpState.GpState, SyncWord.SyncWord}
+use Rattle.std.proofs.{Common.{add-one, ◌%◌}, lemmas.Bool.{ltb-false, ltb-true}}
+use Rattle.progress_laws.{proofs.nearer.Nearer.{FewerLeft, NearsBy, StaysBy}, specs.StepsLeft.{grace_left, start_left}}
+use Rattle.progress_laws.specs.Waiting.{grace_waits, sum_waits, was_found}
 
 -- each step of a start that doesn't stand outside a closed level
 pub start_nears : (w : Words) (r : DownRead) (s : DownReadStep) → WordIsValid (down_read_next r s).0 (read w (down_read_next r s).0) →

@@ -1,11 +1,9 @@
 -- What a step that doesn't wait leaves: fewer steps that nobody can undo; or those of a start, with each `block` as it was; or those of an exchange or
 -- a sum, with all words as they were.
-use Rattle.progress_laws.proofs.Prelude.{Config, DownWrite, DownWriteStep, Err, FreezeStep, HookAnswer, IsGood, IsWithin, KeepWaiting, Next, Ok}
+use Rattle.progress_laws.proofs.Prelude.{Bool, Config, DownWrite, DownWriteStep, Err, FreezeStep, HookAnswer, IsGood, IsWithin, KeepWaiting, Next, Ok}
 use Rattle.progress_laws.proofs.Prelude.{Phase, Some, Words, World, after_of, ap, arith, false, found_at, freeze_waits, hook_of, is_outside, map_next}
 use Rattle.progress_laws.proofs.Prelude.{must_wait, refl, start_steps, steps_left, tries_left, true, words_after, ℕ, ◌<◌, ◌∙◌, ◌≡◌, ◌≤◌, ◌⊎◌}
-use Rattle.std.specs.Prelude.{Bool}
-use Rattle.gate_schedules.specs.operations.Unblocked.{RankDecreases}
-use Rattle.freeze_levels.specs.Freezes.{closing_waits, freeze_hook}
+use Rattle.{freeze_levels.specs.Freezes.{closing_waits, freeze_hook}, gate_schedules.specs.operations.Unblocked.RankDecreases}
 
 -- a freeze that has to wait does so with this answer: with an error it gives its level up
 abbrev pub freeze_waits_on : Words → FreezeStep → HookAnswer → Bool

@@ -1,29 +1,25 @@
 -- Where `keep_waiting` says to give up, the loads of a sum run out: so no freeze is left at one, and only a thaw or a lost task is waited for.
 use Rattle.progress_laws.proofs.Prelude.{AllWait, Bool, CallbackIsBlockedBy, CallbackStep, ClosePhase, ClosingIsBlockedBy, Config, DownWrite}
 use Rattle.progress_laws.proofs.Prelude.{DownWriteStep, DownWriteStepFits, Entry, Freeze, FreezeFits, FreezeIsBlockedBy, FreezeStep, Grace, GraceNext}
-use Rattle.progress_laws.proofs.Prelude.{Holdings, HookAnswer, IsGood, IsWithin, KeepWaiting, MountPhase, Next, None, Option, Phase, PhaseFits, Some}
-use Rattle.progress_laws.proofs.Prelude.{Sum, TreePhase, Words, World, WritePhase, after_closing, after_of, after_step, ap, arith, at_freeze}
+use Rattle.progress_laws.proofs.Prelude.{Holdings, HookAnswer, IsGood, IsWithin, KeepWaiting, List, MountPhase, Next, None, Option, Phase, PhaseFits}
+use Rattle.progress_laws.proofs.Prelude.{Some, Sum, TreePhase, Words, World, WritePhase, after_closing, after_of, after_step, ap, arith, at_freeze}
 use Rattle.progress_laws.proofs.Prelude.{cases_Bool, closing_waits, down_write_after, eq-eqb, eqb_tells, false, fits_at, found_at, freeze_after}
 use Rattle.progress_laws.proofs.Prelude.{freeze_owns, freeze_waits, held_of, hook_of, if◌then◌else◌, inl, inr, is_frozen_whole, is_outside}
 use Rattle.progress_laws.proofs.Prelude.{level_closed, map_next, must_wait, nat_lt, not, owns, phase_after, refl, sections_awaited, stands_after}
-use Rattle.progress_laws.proofs.Prelude.{subst, sym, total, total_le, true, true≢false, turns_left, wrap_add, ℕ, ◌&&◌, ◌*◌, ◌+◌, ◌-◌, ◌<◌, ◌∙◌, ◌≡◌}
-use Rattle.progress_laws.proofs.Prelude.{◌≤◌, ◌⊎◌}
-use Rattle.std.{proofs.{Common.add-one, Math.Nat.suc-mul, lemmas.Bool.ltb-true}, specs.Prelude.{List, length}}
-use Rattle.finite_sums.proofs.Totals.{total_bound, total_same}
-use Rattle.cpu_words.specs.Sums.{sum_taking}
-use Rattle.freeze_levels.specs.Freezes.{freeze_hook}
-use Rattle.percpu_rwsem.specs.Writers.{down_write_summed}
-use Rattle.gate_world.specs.Shown.{freeze_closing, is_summing}
-use Rattle.gate_schedules.specs.operations.Progress.{HasReply, IsUnderWay}
+use Rattle.progress_laws.proofs.Prelude.{subst, sym, total, total_le, true, true≢false, turns_left, ℕ, ◌&&◌, ◌*◌, ◌+◌, ◌-◌, ◌<◌, ◌∙◌, ◌≡◌, ◌≤◌, ◌⊎◌}
+use Rattle.{cpu_words.specs.{Sums.sum_taking, Touches.wrap_add}, finite_sums.proofs.Totals.{total_bound, total_same}}
+use Rattle.{freeze_levels.specs.Freezes.freeze_hook, gate_schedules.specs.operations.Progress.{HasReply, IsUnderWay}}
+use Rattle.{gate_world.specs.Shown.{freeze_closing, is_summing}, percpu_rwsem.specs.Writers.down_write_summed}
+use Rattle.std.proofs.{Common.{add-one, length}, Math.Nat.suc-mul, lemmas.Bool.ltb-true}
 use Rattle.progress_laws.proofs.blocked.{Blame.{both, each_is_blocked, owner_goes}, NobodyReplies.is_error, Remaining.waits_for_remains}
-use Rattle.progress_laws.proofs.{nearer.{AllNearer.outside_waits, Nearer.{freeze_waits_on, on_waits, waits_on}}, rounds.Measured.{AllSo, IsStep}}
-use Rattle.progress_laws.proofs.rounds.{Measured.{Keeps, Leaves, Measures, rounds_good, rounds_settle}, Potentials.{mul_comm, mul_le, total_lower}}
-use Rattle.progress_laws.proofs.rounds.{Potentials.unit_falls, Settling.{IsRoomy, next_roomy, others_same, step_falls, step_good, step_stays}}
-use Rattle.progress_laws.{proofs.rounds.Settling.{turns_few, waits_at, waits_of}, specs.{Answers.{IsImpatient, RoundsAnswerSo}, FairRounds.AreRounds}}
-use Rattle.progress_laws.specs.{FairRounds.{nobody, rests_at, run_all}, GivingUp.{NoFreezeSums, RemainsUnpassed, RepliesOrWaitsForThaw}}
-use Rattle.progress_laws.specs.GivingUp.{SettlesImpatiently, WaitsForThaw, load_room, load_room_of, most_turns_to_give_up, turns_to_give_up}
-use Rattle.progress_laws.specs.{LostTasks.{FreezeSums, IsBlockedBy, LockIsStuck, Remains, SectionIsLost}, StepsLeft.{most_turns, potential}}
-use Rattle.progress_laws.specs.StepsLeft.{start_room, try_room}
+use Rattle.progress_laws.proofs.nearer.{AllNearer.outside_waits, Nearer.{freeze_waits_on, on_waits, waits_on}}
+use Rattle.progress_laws.proofs.rounds.Measured.{AllSo, IsStep, Keeps, Leaves, Measures, rounds_good, rounds_settle}
+use Rattle.progress_laws.proofs.rounds.Potentials.{mul_comm, mul_le, total_lower, unit_falls}
+use Rattle.progress_laws.proofs.rounds.Settling.{IsRoomy, next_roomy, others_same, step_falls, step_good, step_stays, turns_few, waits_at, waits_of}
+use Rattle.progress_laws.specs.{Answers.{IsImpatient, RoundsAnswerSo}, FairRounds.{AreRounds, nobody, rests_at, run_all}}
+use Rattle.progress_laws.specs.GivingUp.{NoFreezeSums, RemainsUnpassed, RepliesOrWaitsForThaw, SettlesImpatiently, WaitsForThaw, load_room}
+use Rattle.progress_laws.specs.{GivingUp.{load_room_of, most_turns_to_give_up, turns_to_give_up}, LostTasks.{FreezeSums, IsBlockedBy, LockIsStuck}}
+use Rattle.progress_laws.specs.{LostTasks.{Remains, SectionIsLost}, StepsLeft.{most_turns, potential, start_room, try_room}}
 
 -- a freeze sums the counts of a level, or is asked there whether to wait on
 abbrev closing_sums : DownWriteStep → Bool

@@ -1,12 +1,11 @@
 -- Rounds by a number that falls with each step that doesn't wait: after enough of them all wait.
-use Rattle.progress_laws.proofs.Prelude.{Begins, Bool, Config, Entry, HookAnswer, IsGood, IsWithin, KeepWaiting, None, Option, Phase, Some, Steps}
-use Rattle.progress_laws.proofs.Prelude.{World, after_step, ap, arith, false, happens, happens_is, hook_of, inl, inr, is_outside, refl, run, subst}
-use Rattle.progress_laws.proofs.Prelude.{sym, true, ℕ, ◌<◌, ◌∙◌, ◌≡◌, ◌≤◌, ◌⊎◌}
-use Rattle.std.{proofs.lemmas.Bool.{cases_lt, le-ltb, lt-ltb}, specs.Prelude.{◌++◌, List, [], ◌∷◌, length}}
-use Rattle.gate_world.specs.Worlds.{step_of, task_of}
-use Rattle.gate_schedules.proofs.schedules.Schedule.{happens_keeps}
-use Rattle.progress_laws.specs.{Answers.{AllAnswerSo, AnswersSo, RoundsAnswerSo}, FairRounds.{AreRounds, IsRound, IsServed, MayAllStep, MayStep}}
-use Rattle.progress_laws.specs.FairRounds.{rests_at, run_all}
+use Rattle.progress_laws.proofs.Prelude.{Begins, Bool, Config, Entry, HookAnswer, IsGood, IsWithin, KeepWaiting, List, None, Option, Phase, Some}
+use Rattle.progress_laws.proofs.Prelude.{Steps, World, [], after_step, ap, arith, false, happens, happens_is, hook_of, inl, inr, is_outside, refl}
+use Rattle.progress_laws.proofs.Prelude.{run, subst, sym, true, ℕ, ◌<◌, ◌∙◌, ◌∷◌, ◌≡◌, ◌≤◌, ◌⊎◌}
+use Rattle.{gate_schedules.proofs.schedules.Schedule.happens_keeps, gate_world.specs.Worlds.{step_of, task_of}}
+use Rattle.std.proofs.{Common.{length, ◌++◌}, lemmas.Bool.{cases_lt, le-ltb, lt-ltb}}
+use Rattle.progress_laws.specs.Answers.{AllAnswerSo, AnswersSo, RoundsAnswerSo}
+use Rattle.progress_laws.specs.FairRounds.{AreRounds, IsRound, IsServed, MayAllStep, MayStep, rests_at, run_all}
 
 module _ (c : Config) (lim : IsWithin c) (lost : ℕ → Bool) where
   pub after_good : (w : World) → IsGood c w → (e : Entry) → IsGood c (happens c w e)

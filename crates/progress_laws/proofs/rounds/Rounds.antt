@@ -1,12 +1,11 @@
 -- In each round the potential falls, or all have to wait; and then they do so in each further round.
-use Rattle.progress_laws.proofs.Prelude.{AllWait, Begins, Bool, Config, Entry, HookAnswer, IsGood, IsWithin, None, Option, Phase, Some, Steps, Words}
-use Rattle.progress_laws.proofs.Prelude.{World, after_step, ap, arith, cases_Bool, eqb_tells, false, happens, inl, inr, is_outside, refl, run, subst}
-use Rattle.progress_laws.proofs.Prelude.{suc, sym, true, true≢false, turns_left, zero, ℕ, ◌<◌, ◌∙◌, ◌≡◌, ◌⊎◌}
-use Rattle.std.specs.Prelude.{◌++◌, List, [], ◌∷◌}
-use Rattle.gate_schedules.specs.operations.Progress.{IsUnderWay}
-use Rattle.progress_laws.proofs.{nearer.{AllNearer.outside_waits, Nearer.{on_waits, patient_waits, waits_on}}, rounds.Measured.{IsStep, Keeps}}
-use Rattle.progress_laws.proofs.rounds.{Measured.{Measures, after_good, by_entry, rounds_once, rounds_settle, run_keeps}, Settling.IsRoomy}
-use Rattle.progress_laws.proofs.rounds.Settling.{next_roomy, others_same, step_falls, step_same, step_stays, waits_at, waits_of}
+use Rattle.progress_laws.proofs.Prelude.{AllWait, Begins, Bool, Config, Entry, HookAnswer, IsGood, IsWithin, List, None, Option, Phase, Some, Steps}
+use Rattle.progress_laws.proofs.Prelude.{Words, World, [], after_step, ap, arith, cases_Bool, eqb_tells, false, happens, inl, inr, is_outside, refl}
+use Rattle.progress_laws.proofs.Prelude.{run, subst, suc, sym, true, true≢false, turns_left, zero, ℕ, ◌<◌, ◌∙◌, ◌∷◌, ◌≡◌, ◌⊎◌}
+use Rattle.{gate_schedules.specs.operations.Progress.IsUnderWay, std.proofs.Common.◌++◌}
+use Rattle.progress_laws.proofs.nearer.{AllNearer.outside_waits, Nearer.{on_waits, patient_waits, waits_on}}
+use Rattle.progress_laws.proofs.rounds.Measured.{IsStep, Keeps, Measures, after_good, by_entry, rounds_once, rounds_settle, run_keeps}
+use Rattle.progress_laws.proofs.rounds.Settling.{IsRoomy, next_roomy, others_same, step_falls, step_same, step_stays, waits_at, waits_of}
 use Rattle.progress_laws.specs.{Answers.{AllAnswerSo, AnswersSo, IsPatient, RoundsAnswerSo}, FairRounds.{IsServed, MayAllStep, MayStep, RoundsExist}}
 use Rattle.progress_laws.specs.{FairRounds.{SettlesFairly, SettlesOnce, StaysSettled, rests_at, run_all}, StepsLeft.{potential, start_room, try_room}}
 

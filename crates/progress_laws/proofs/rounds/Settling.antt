@@ -5,16 +5,15 @@ use Rattle.progress_laws.proofs.Prelude.{cases_Bool, closing_tries, eqb_tells, e
 use Rattle.progress_laws.proofs.Prelude.{held_of, inl, inr, is_outside, must_wait, opening_tries, phase_after, refl, stands_after, start_steps}
 use Rattle.progress_laws.proofs.Prelude.{steps_left, subst, suc, sym, total, total_le, tries_left, true, true≢false, turns_left, update_off, value_at}
 use Rattle.progress_laws.proofs.Prelude.{view_after, zero, ℕ, ◌*◌, ◌+◌, ◌<◌, ◌∙◌, ◌≡◌, ◌≤◌, ◌⊎◌}
-use Rattle.finite_sums.proofs.Totals.{total_add, total_bound, total_same}
-use Rattle.gate_schedules.proofs.operations.{AllOperations.phase_keeps, deadlocks.FreezeProgress.{not_none, search_below}}
-use Rattle.gate_schedules.specs.operations.Progress.{IsUnderWay}
-use Rattle.progress_laws.proofs.nearer.{AllNearer.{RoomFalls, phase_comes, room_falls, starts_small, steps_small, tries_small}, Changes.CountsChanges}
-use Rattle.progress_laws.proofs.nearer.{Changes.{EndsBy, KeepsBy, SameLevels, changes_count, changes_small, waits_keep}, Nearer.ComesNearer}
-use Rattle.progress_laws.proofs.{nearer.Nearer.{StaysWaiting, goes_on, on_waits, waits_on}, rounds.Potentials.{as_one_small, moves_fall, steps_fall}}
-use Rattle.progress_laws.{proofs.rounds.Potentials.{total_lower_by, tries_fall}, specs.{LostTasks.SettlesAmong, StepsLeft.all_changes}}
-use Rattle.progress_laws.specs.StepsLeft.{all_start_steps, all_steps, all_tries, as_one, changes_left, changes_of, most_changes, most_steps}
-use Rattle.progress_laws.specs.StepsLeft.{most_turns, potential, start_room, start_room_of, start_steps_of, steps_of, thaw_tries, tries_of, try_room}
-use Rattle.progress_laws.specs.StepsLeft.{try_room_of}
+use Rattle.{finite_sums.proofs.Totals.{total_add, total_bound, total_same}, gate_schedules.proofs.operations.AllOperations.phase_keeps}
+use Rattle.gate_schedules.{proofs.operations.deadlocks.FreezeProgress.{not_none, search_below}, specs.operations.Progress.IsUnderWay}
+use Rattle.progress_laws.proofs.nearer.AllNearer.{RoomFalls, phase_comes, room_falls, starts_small, steps_small, tries_small}
+use Rattle.progress_laws.proofs.nearer.Changes.{CountsChanges, EndsBy, KeepsBy, SameLevels, changes_count, changes_small, waits_keep}
+use Rattle.progress_laws.proofs.nearer.Nearer.{ComesNearer, StaysWaiting, goes_on, on_waits, waits_on}
+use Rattle.progress_laws.{proofs.rounds.Potentials.{as_one_small, moves_fall, steps_fall, total_lower_by, tries_fall}, specs.LostTasks.SettlesAmong}
+use Rattle.progress_laws.specs.StepsLeft.{all_changes, all_start_steps, all_steps, all_tries, as_one, changes_left, changes_of, most_changes}
+use Rattle.progress_laws.specs.StepsLeft.{most_steps, most_turns, potential, start_room, start_room_of, start_steps_of, steps_of, thaw_tries}
+use Rattle.progress_laws.specs.StepsLeft.{tries_of, try_room, try_room_of}
 
 -- a start reads nothing but `block`
 starts_same : (w after : Words) → after.block ≡ w.block → (p : Option Phase) → start_steps_of after p ≡ start_steps_of w p
