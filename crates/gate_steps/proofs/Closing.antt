@@ -1,9 +1,7 @@
 -- The table as it is closed.
-use Rattle.gate_steps.proofs.Prelude.{Config, Knowledge, List, get_elem?, some, subst, ℕ, ◌≡◌}
-use Rattle.std.proofs.Common.{map}
-use Rattle.atomic_table.{proofs.Lists.at_map, specs.Table.{Final, Seen}}
-use Rattle.gate_steps.{proofs.{Dealing.known_here, TableSimulation.holds}, specs.{Rules.{Ruled, TableInvariantHolds}, Seating.items_of}}
-use Rattle.gate_steps.specs.Tables.{IsClosing}
+use Rattle.gate_steps.proofs.Prelude.{Config, Knowledge, List, TableInvariantHolds, at_map, get_elem?, items_of, map, some, subst, ℕ, ◌≡◌}
+use Rattle.atomic_table.specs.Table.{Final, Seen}
+use Rattle.gate_steps.{proofs.{Dealing.known_here, TableSimulation.holds}, specs.{Rules.Ruled, Tables.IsClosing}}
 
 -- what the last state of a table says of its words and of a seat
 pub closes : (c : Config) (id : ℕ) (k : Knowledge) (ws : List ℕ) (slots : List (Unit {0})) → Final (Seen (holds c) id k) ws slots →

@@ -1,11 +1,10 @@
 -- The numbers stay dealt to the seats.
-use Rattle.gate_steps.proofs.Prelude.{DealtNumbers, List, Numbered, View, [], ap, arith, get_elem?, numbered, refl, some, some-injective}
-use Rattle.gate_steps.proofs.Prelude.{some-ne-none, subst, suc, sym, zero, ℕ, ◌++◌, ◌<◌, ◌∙◌, ◌∷◌, ◌≡◌, ◌≤◌}
-use Rattle.std.proofs.Common.{eq-eqb, eqb, ne_eqb, set, ⊎_elim, ◌+◌, ◌≢◌}
-use mathlib.Core.Logic.{dite}
+use Rattle.gate_steps.proofs.Prelude.{Dealt, DealtNumbers, HaveViews, List, Numbered, View, [], ap, arith, at_set, dite, get_elem?, numbered, refl}
+use Rattle.gate_steps.proofs.Prelude.{set, some, some-injective, some-ne-none, subst, suc, sym, times, zero, ℕ, ⊎_elim, ◌++◌, ◌+◌, ◌<◌, ◌∙◌, ◌∷◌, ◌≡◌}
+use Rattle.gate_steps.proofs.Prelude.{◌≤◌}
+use Rattle.std.proofs.Common.{eq-eqb, eqb, ne_eqb, ◌≢◌}
+use Rattle.gate_steps.specs.Seating.{one_if, times_all}
 use native.Mathlib.Decide.{dec_lt}
-use Rattle.atomic_table.proofs.Lists.{at_set}
-use Rattle.gate_steps.specs.Seating.{Dealt, HaveViews, one_if, times, times_all}
 
 pub one_if-same : (n : ℕ) → one_if (eqb n n) ≡ 1
 one_if-same n = ap one_if (eq-eqb n n refl)

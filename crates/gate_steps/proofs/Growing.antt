@@ -1,11 +1,10 @@
 -- The schedule goes on from what each seat has seen.
-use Rattle.gate_steps.proofs.Prelude.{DealtNumbers, Entry, HookAnswer, Knowledge, List, None, Numbered, Op, Option, Some, View, [], arith, get_elem?}
-use Rattle.gate_steps.proofs.Prelude.{knows, refl, some, some-injective, some-ne-none, subst, suc, sym, zero, ℕ, ◌++◌, ◌∙◌, ◌∷◌, ◌≡◌, ◌≤◌}
-use Rattle.std.proofs.{Common.{map, set, ⊎_elim}, lemmas.{Grind.common_steps, List.{append-nil, append_assoc}}}
-use Rattle.atomic_table.proofs.Lists.{at_map, at_set}
-use Rattle.gate_world.specs.declared.entries.Entry.TheVariants.{Begins, Steps}
-use Rattle.gate_steps.{proofs.Dealing.{known, times-at, times_all-two}, specs.{Histories.{then_begins, then_steps}, Seating.{Dealt, HaveSeen}}}
-use Rattle.gate_steps.specs.Seating.{IsPrefix, NoneOf, items_of, times}
+use Rattle.gate_steps.proofs.Prelude.{Begins, Dealt, DealtNumbers, Entry, HaveSeen, HookAnswer, IsPrefix, Knowledge, List, None, NoneOf, Numbered, Op}
+use Rattle.gate_steps.proofs.Prelude.{Option, Some, Steps, View, [], append-nil, append_assoc, arith, at_map, at_set, get_elem?, items_of, knows, map}
+use Rattle.gate_steps.proofs.Prelude.{refl, set, some, some-injective, some-ne-none, subst, suc, sym, times, zero, ℕ, ⊎_elim, ◌++◌, ◌∙◌, ◌∷◌, ◌≡◌}
+use Rattle.gate_steps.proofs.Prelude.{◌≤◌}
+use Rattle.std.proofs.lemmas.Grind.{common_steps}
+use Rattle.gate_steps.{proofs.Dealing.{known, times-at, times_all-two}, specs.Histories.{then_begins, then_steps}}
 
 none_append : (n : ℕ) (a b : List Entry) → NoneOf n a → NoneOf n b → NoneOf n (a ++ b)
 none_append n [] b na nb = nb

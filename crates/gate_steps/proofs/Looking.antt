@@ -1,13 +1,11 @@
 -- A seat that looks at the table, and one whose numbers are divided.
-use Rattle.gate_steps.proofs.Prelude.{Config, DealtNumbers, Entry, Knowledge, List, View, World, [], ap, arith, get_elem?, knows, refl, some, subst}
-use Rattle.gate_steps.proofs.Prelude.{sym, ℕ, ◌++◌, ◌<◌, ◌∙◌, ◌∷◌, ◌≡◌, ◌≤◌}
-use Rattle.std.proofs.{Common.{map, set, ⊎_elim}, lemmas.List.{map-append, map-set, set-get_or}}
-use mathlib.Core.Logic.{dite}
-use native.Mathlib.Decide.{dec_le}
-use Rattle.atomic_table.{proofs.Lists.{at_longer, at_map, at_set, at_snoc, set_again}, specs.Table.{Allows, Splits, keeps}}
+use Rattle.gate_steps.proofs.Prelude.{Config, Dealt, DealtNumbers, Entry, HaveSeen, Knowledge, List, View, World, [], ap, arith, at_map, at_set, dite}
+use Rattle.gate_steps.proofs.Prelude.{get_elem?, items_of, knows, map, refl, set, some, subst, sym, times, ℕ, ⊎_elim, ◌++◌, ◌<◌, ◌∙◌, ◌∷◌, ◌≡◌, ◌≤◌}
+use Rattle.atomic_table.{proofs.Lists.{at_longer, at_snoc, set_again}, specs.Table.{Allows, Splits, keeps}}
+use Rattle.std.proofs.lemmas.List.{map-append, map-set, set-get_or}
 use Rattle.gate_steps.proofs.{Dealing.{known, times-append, times_all-one, times_all-set, times_all-snoc}, Giving.{at_behind, fewer_seen}}
-use Rattle.gate_steps.{proofs.{Growing.seen_now, TableSimulation.{Carried, holds}}, specs.{Meetings.looked, Rules.Ruled, Seating.{Dealt, HaveSeen}}}
-use Rattle.gate_steps.specs.Seating.{items_of, times, times_all}
+use Rattle.gate_steps.{proofs.{Growing.seen_now, TableSimulation.{Carried, holds}}, specs.{Meetings.looked, Rules.Ruled, Seating.times_all}}
+use native.Mathlib.Decide.{dec_le}
 
 -- of a list in two parts each number stands in one of them
 module _ (tasks : ℕ) (views : ℕ → View) (seats : List DealtNumbers) (dealt : Dealt tasks views seats) (id : ℕ) (mine others : DealtNumbers)

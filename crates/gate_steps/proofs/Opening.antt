@@ -1,15 +1,13 @@
 -- The table as it begins: the words of an opening, and one seat with all numbers.
-use Rattle.gate_steps.proofs.Prelude.{Config, DealtNumbers, IsWithin, Knowledge, List, Numbered, [], ap, arith, get_elem?, knows, numbered, refl}
-use Rattle.gate_steps.proofs.Prelude.{some, some-injective, some-ne-none, subst, suc, sym, zero, ℕ, ◌<◌, ◌∙◌, ◌∷◌, ◌≡◌, ◌≤◌}
-use Rattle.std.proofs.Common.{eqb, ◌+◌}
-use mathlib.Core.Logic.{dite}
-use native.Mathlib.Decide.{ℕ_discrete}
+use Rattle.gate_steps.proofs.Prelude.{Config, DealtNumbers, HaveSeen, HaveViews, IsWithin, Knowledge, List, Numbered, TableInvariantHolds, [], ap}
+use Rattle.gate_steps.proofs.Prelude.{arith, dite, get_elem?, knows, numbered, opening, refl, some, some-injective, some-ne-none, subst, suc, sym}
+use Rattle.gate_steps.proofs.Prelude.{table_index, table_length, times, zero, ℕ, ◌+◌, ◌<◌, ◌∙◌, ◌∷◌, ◌≡◌, ◌≤◌}
 use Rattle.cpu_words.{proofs.Places.opening_listed, specs.{Lists.AreOpening, Words.opening_words}}
-use Rattle.gate_world.specs.{Configs.extents_kept, Views.opening_view, Worlds.opening}
 use Rattle.gate_schedules.proofs.{frames.Places.are_few, schedules.Schedule.{opening_good, opening_shown}}
+use Rattle.{gate_world.specs.{Configs.extents_kept, Views.opening_view}, std.proofs.Common.eqb}
 use Rattle.gate_steps.proofs.{Dealing.{one_if-other, one_if-same}, Growing.seen_now, Reaching.opening_reached, TableWords.apart}
-use Rattle.gate_steps.specs.{Rules.{TableInvariantHolds, TableShows, first_items, first_known, table_index, table_length}, Seating.HaveSeen}
-use Rattle.gate_steps.specs.Seating.{HaveViews, deal, one_if, times}
+use Rattle.gate_steps.specs.{Rules.{TableShows, first_items, first_known}, Seating.{deal, one_if}}
+use native.Mathlib.Decide.{ℕ_discrete}
 
 -- numbers below those that are dealt stand nowhere
 pub times-deal_below : (m from k : ℕ) → m < from → times m (deal from k) ≡ 0

@@ -1,12 +1,11 @@
 -- The invariant of the table.
-use Rattle.std.specs.Prelude.{◌≡◌, ℕ, ◌*◌, ◌<◌, List, [], ◌∷◌, map, length}
-use mathlib.Core.Option.{some}
+use Rattle.cpu_words.specs.{Lists.ListShows, Names.{stride, words_in_all}, Words.{Words, opening_words}}
+use Rattle.gate_world.specs.{Configs.{IsWithin, extents_kept}, Rules.IsGood, Worlds.World, declared.{config.Config.Config, views.View.View}}
+use Rattle.std.specs.Prelude.{List, [], length, map, ℕ, ◌*◌, ◌<◌, ◌∷◌, ◌≡◌}
+use Rattle.gate_steps.specs.{Histories.HasHistory, Seating.{Dealt, DealtNumbers, HaveSeen, deal, items_of, knows}}
+use Rattle.gate_steps.specs.declared.seating.Knowledge.{Knowledge}
 use lib.ListN.{get_elem?}
-use Rattle.gate_steps.specs.{declared.seating.Knowledge.{Knowledge}, Histories.{HasHistory}}
-use Rattle.gate_steps.specs.Seating.{DealtNumbers, knows, items_of, HaveSeen, Dealt, deal}
-use Rattle.cpu_words.specs.{Names.{words_in_all, stride}, Words.{Words, opening_words}, Lists.{ListShows}}
-use Rattle.gate_world.specs.{declared.{config.Config.{Config}, views.View.{View}}, Configs.{IsWithin, extents_kept}, Worlds.{World}}
-use Rattle.gate_world.specs.Rules.{IsGood}
+use mathlib.Core.Option.{some}
 
 -- where the word of a place lies in the table: words lie apart, each in cache lines of its own
 abbrev pub table_index : ℕ → ℕ

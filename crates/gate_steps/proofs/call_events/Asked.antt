@@ -1,10 +1,9 @@
 -- What an operation has asked, by where it stands: a fact that holds at its first phase, and that each step keeps, holds after each trace.
-use Rattle.gate_steps.proofs.Prelude.{Action, Ask, Called, Config, DealtNumbers, Done, GateError, Go, HookAnswer, List, Next, Op, Phase, Reply}
-use Rattle.gate_steps.proofs.Prelude.{Result, SeatedTask, Traced, Wait, [], actions_after, after_of, asks_with, call_at, own_number, state_of_trace}
-use Rattle.gate_steps.proofs.Prelude.{subst, ℕ, ◌∷◌}
-use Rattle.std.{proofs.Common.{Bool, false, true}, specs.Prelude.if◌then◌else◌}
-use Rattle.gate_world.specs.{Beginnings.first_phase, traces.{TraceStates.trace_state_after, Traces.actions_of}}
-use Rattle.gate_steps.specs.call_events.{Asking.{asks_of, next_call}, Runs.items_at}
+use Rattle.gate_steps.proofs.Prelude.{Action, Ask, Bool, Called, Config, DealtNumbers, Done, GateError, Go, HookAnswer, List, Next, Op, Phase, Reply}
+use Rattle.gate_steps.proofs.Prelude.{Result, SeatedTask, Traced, Wait, [], actions_after, actions_of, after_of, asks_of, asks_with, call_at}
+use Rattle.gate_steps.proofs.Prelude.{first_phase, own_number, state_of_trace, subst, ℕ, ◌∷◌}
+use Rattle.{gate_world.specs.traces.TraceStates.trace_state_after, std.proofs.Common.{false, if◌then◌else◌, true}}
+use Rattle.gate_steps.specs.call_events.{Asking.next_call, Runs.items_at}
 
 -- what comes next, whichever of two it is
 pub either_way : {A : Type 0} (P : A → Type 0) (b : Bool) (x y : A) → P x → P y → P (if b then x else y)

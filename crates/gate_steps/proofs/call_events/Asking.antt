@@ -1,10 +1,9 @@
 -- The hooks that one step more asks, and those of a whole call.
 use Rattle.gate_steps.proofs.Prelude.{Ask, DealtNumbers, Err, GateError, HookAnswer, List, None, Ok, Op, Option, Reply, Result, SeatedTask, Some, ap}
 use Rattle.gate_steps.proofs.Prelude.{arith, asks_with, subst, sym, ℕ, ◌∙◌, ◌≡◌}
-use Rattle.gate_transitions.specs.Answers.{unless_refused}
+use Rattle.{freeze_levels.specs.declared.hooks.HookCall.HookCall, gate_transitions.specs.Answers.unless_refused}
 use Rattle.gate_steps.{proofs.call_events.Running.{was_done, was_told}, specs.call_events.Asking.{CalledAsking, RepliesAsking, WereAsked}}
 use Rattle.gate_steps.specs.call_events.{Runs.{the_reply, told_as}, SeatedTasks.refusal_at}
-use Rattle.freeze_levels.specs.declared.hooks.HookCall.{HookCall}
 
 module _ {H : Type 0} (answers : HookCall → DealtNumbers → H → HookAnswer → H → Type 0) where
   -- the hook that is wanted was asked at this moment, and no other

@@ -1,14 +1,13 @@
 -- A whole call takes effect between call and return, and calls whose schedules go on from each other do so in order.
-use Rattle.gate_steps.proofs.Prelude.{Action, Called, Config, DealtNumbers, Entry, GateError, List, Next, Op, Phase, Reply, Result, SeatedTask}
-use Rattle.gate_steps.proofs.Prelude.{Traced, View, [], ap, arith, get_elem?, own_number, refl, some, state_of_trace, subst, sym, ℕ, ◌++◌, ◌∙◌, ◌∷◌}
-use Rattle.gate_steps.proofs.Prelude.{◌≡◌}
-use Rattle.std.proofs.lemmas.List.{append_assoc, append_cancel_right}
+use Rattle.gate_steps.proofs.Prelude.{Action, AreMoves, Begins, Called, Config, DealtNumbers, Entry, GateError, HaveViews, IsNextMove, IsPrefix, List}
+use Rattle.gate_steps.proofs.Prelude.{Next, Op, Phase, Reply, Result, SeatedTask, Steps, Traced, View, [], ap, append_assoc, arith, get_elem?}
+use Rattle.gate_steps.proofs.Prelude.{own_number, own_view, refl, some, state_of_trace, subst, sym, world_after, ℕ, ◌++◌, ◌∙◌, ◌∷◌, ◌≡◌}
 use Rattle.access_model.specs.{Histories.{Done, own_part}, declared.replies.Next.TheVariants.Done as Ended}
-use Rattle.gate_schedules.proofs.schedules.HeadlineProof.{whole_run}
-use Rattle.gate_world.specs.{Headline.{actions_since, actions_so_far, world_after}, declared.entries.Entry.TheVariants.{Begins, Steps}}
+use Rattle.{gate_schedules.proofs.schedules.HeadlineProof.whole_run, gate_world.specs.Headline.{actions_since, actions_so_far}}
+use Rattle.std.proofs.lemmas.List.{append_cancel_right}
 use Rattle.gate_steps.proofs.call_events.{Grown.only, Moments.{actions_append, own_more, own_one, part_more}, Spanning.last_event}
-use Rattle.gate_steps.specs.{Seating.{HaveHistory, HaveViews, IsPrefix}, call_events.{Grown.HasSeen, Runs.{AreMoves, IsNextMove, ran_items}}}
-use Rattle.gate_steps.specs.call_events.{SeatedTasks.own_view, Spans.{AreInOrder, GoesOnFromSeen, IsEventDuring, TakesEffect}}
+use Rattle.gate_steps.specs.{Seating.HaveHistory, call_events.{Grown.HasSeen, Runs.ran_items}}
+use Rattle.gate_steps.specs.call_events.Spans.{AreInOrder, GoesOnFromSeen, IsEventDuring, TakesEffect}
 
 -- of no numbers there is no move
 none_moves : (c : Config) (op : Op) (earlier : List Traced) (e : Traced) (seen gone : List (List Entry)) (comes : Next Phase) →

@@ -1,13 +1,11 @@
 -- Where lines of steps lead.
-use Rattle.gate_steps.proofs.Prelude.{Action, Ask, DealtNumbers, Go, HookAnswer, List, Next, None, Op, Option, Phase, SeatedTask, after_of, ap}
-use Rattle.gate_steps.proofs.Prelude.{asks_with, call_at, event_of, found_by, next_of, phase_after, refl, subst, sym, ℕ, ◌∙◌, ◌≡◌}
-use Rattle.cpu_words.specs.declared.{events.{Event.Event, Touch.Touch}, names.WordName.WordName}
-use Rattle.freeze_levels.specs.declared.hooks.HookCall.{HookCall}
-use Rattle.gate_world.specs.{Accesses.accesses_after, declared.accesses.Accesses.Accesses}
-use Rattle.gate_steps.{proofs.call_events.{Asking.{AskedFor, asks_more}, Turning.{stay_agrees, stepped_so, went_with_so}}, specs.Seating.HasWitness}
-use Rattle.gate_steps.specs.{Seating.items_after, call_events.{Asking.{OpAfterStepWith, OpUnderWayWith, WereAsked}, Led.{Led, LedAsking, Stands}}}
-use Rattle.gate_steps.specs.call_events.{Led.{StaysSeated, TaskSeat, seated_at}, Turns.{AgreesAfter, StateAgrees}}
-use Rattle.gate_steps.specs.declared.call_events.words.GateWords.{GateWords}
+use Rattle.gate_steps.proofs.Prelude.{Accesses, Action, Ask, DealtNumbers, Event, Go, HasWitness, HookAnswer, List, Next, None, Op, Option, Phase}
+use Rattle.gate_steps.proofs.Prelude.{SeatedTask, Touch, WordName, after_of, ap, asks_with, call_at, event_of, found_by, items_after, next_of}
+use Rattle.gate_steps.proofs.Prelude.{phase_after, refl, subst, sym, ℕ, ◌∙◌, ◌≡◌}
+use Rattle.{freeze_levels.specs.declared.hooks.HookCall.HookCall, gate_world.specs.Accesses.accesses_after}
+use Rattle.gate_steps.proofs.call_events.{Asking.{AskedFor, asks_more}, Turning.{stay_agrees, stepped_so, went_with_so}}
+use Rattle.gate_steps.specs.call_events.{Asking.{OpAfterStepWith, OpUnderWayWith, WereAsked}, Led.{Led, LedAsking, Stands, StaysSeated, TaskSeat}}
+use Rattle.gate_steps.specs.{call_events.{Led.seated_at, Turns.{AgreesAfter, StateAgrees}}, declared.call_events.words.GateWords.GateWords}
 
 -- one step, whose word and touch are known
 module _ (gates : GateWords) (begins : Option Op) (phase : Phase) (accesses accesses_left : Accesses) (seat left : TaskSeat) (hook : HookAnswer)

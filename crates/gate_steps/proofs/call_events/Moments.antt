@@ -1,12 +1,10 @@
 -- The states of a schedule that goes on, and the transitions of one number in it.
-use Rattle.gate_steps.proofs.Prelude.{Action, Config, Entry, List, None, Phase, Some, View, World, [], ap, arith, refl, subst, sym, ℕ, ◌++◌, ◌∙◌, ◌∷◌}
-use Rattle.gate_steps.proofs.Prelude.{◌≡◌}
-use Rattle.std.proofs.{Common.{inl, inr}, lemmas.{Bool.Decides.eqb_tells, List.{append-nil, append_assoc}}}
-use Rattle.access_model.specs.Histories.{Done, own_part}
-use Rattle.gate_schedules.proofs.schedules.{Entries.begun_on, Runs.{history_on, run_more}}
-use Rattle.gate_world.specs.{Headline.{actions_since, actions_so_far, world_after}, Worlds.{happens, history, opening, run, task_of}}
-use Rattle.gate_world.specs.refusals.Causes.{since_begun, trail, trail_of}
-use Rattle.gate_steps.specs.{Seating.NoneOf, call_events.Spans.own_entries}
+use Rattle.gate_steps.proofs.Prelude.{Action, Config, Entry, List, None, NoneOf, Phase, Some, View, World, [], ap, append-nil, append_assoc, arith}
+use Rattle.gate_steps.proofs.Prelude.{happens, inl, inr, opening, refl, run, subst, sym, world_after, ℕ, ◌++◌, ◌∙◌, ◌∷◌, ◌≡◌}
+use Rattle.{access_model.specs.Histories.{Done, own_part}, gate_schedules.proofs.schedules.{Entries.begun_on, Runs.{history_on, run_more}}}
+use Rattle.gate_world.specs.{Headline.{actions_since, actions_so_far}, Worlds.{history, task_of}, refusals.Causes.{since_begun, trail, trail_of}}
+use Rattle.std.proofs.lemmas.Bool.Decides.{eqb_tells}
+use Rattle.gate_steps.specs.call_events.Spans.{own_entries}
 
 -- the transitions of a number in two lists, one after the other
 pub own_more : (n : ℕ) (a b : List Entry) → own_entries n (a ++ b) ≡ own_entries n a ++ own_entries n b

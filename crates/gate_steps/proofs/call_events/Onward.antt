@@ -1,13 +1,10 @@
 -- An operation that goes on after a step, at the phase that comes next.
-use Rattle.gate_steps.proofs.Prelude.{Action, Called, Config, DealtNumbers, Done, GateError, Go, HookAnswer, IsWithin, Knowledge, List, Next, None}
-use Rattle.gate_steps.proofs.Prelude.{Op, Option, Phase, Reply, Result, SeatedTask, Some, Wait, ap, arith, map_next, phase_after, subst, ℕ, ◌<◌, ◌≡◌}
-use Rattle.std.proofs.Common.{Bool, ◌⊎◌}
-use Rattle.gate_steps.{proofs.call_events.{Running.{events_left, falls}, Turning.went_so}, specs.call_events.{GhostAgrees.GhostAgrees, Runs.IsTrying}}
-use Rattle.gate_steps.specs.call_events.{Runs.{OpAfterStep, OpUnderWay}, SeatedTasks.task_state, Stepped.Stepped, Turns.{state_at, step_was}}
-use Rattle.atomic_table.specs.Seated.{TableId}
-use Rattle.cpu_words.specs.declared.events.Event.{Event}
-use Rattle.gate_transitions.specs.{Answers.progress_of, declared.steps.Progress.TheVariants.Done as Ended}
-use Rattle.gate_world.specs.declared.accesses.Accesses.{Accesses}
+use Rattle.gate_steps.proofs.Prelude.{Accesses, Action, Bool, Called, Config, DealtNumbers, Done, Event, GateError, Go, HookAnswer, IsWithin}
+use Rattle.gate_steps.proofs.Prelude.{Knowledge, List, Next, None, Op, Option, Phase, Reply, Result, SeatedTask, Some, Stepped, Wait, ap, arith}
+use Rattle.gate_steps.proofs.Prelude.{map_next, phase_after, progress_of, subst, ℕ, ◌<◌, ◌≡◌}
+use Rattle.{atomic_table.specs.Seated.TableId, gate_transitions.specs.declared.steps.Progress.TheVariants.Done as Ended, std.proofs.Common.◌⊎◌}
+use Rattle.gate_steps.{proofs.call_events.{Running.{events_left, falls}, Turning.went_so}, specs.call_events.GhostAgrees.GhostAgrees}
+use Rattle.gate_steps.specs.call_events.{Runs.{IsTrying, OpAfterStep, OpUnderWay}, SeatedTasks.task_state, Turns.{state_at, step_was}}
 
 -- the phase that the operation stands at, where it goes on
 pub stands_at : {A : Type 0} (as_phase : A → Phase) (next : Next A) (x : A) → (next ≡ Go x) ⊎ (next ≡ Wait x) →

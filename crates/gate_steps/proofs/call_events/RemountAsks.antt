@@ -1,13 +1,12 @@
 -- The hook that a remount has asked, by its steps.
-use Rattle.gate_steps.proofs.Prelude.{Action, Ask, Called, DealtNumbers, Err, GateError, HookAnswer, List, None, Ok, Phase, Reply, Result, SeatedTask}
-use Rattle.gate_steps.proofs.Prelude.{[], actions_after, after_of, arith, asks_with, call_at, map_next, refl, ℕ, ◌∷◌, ◌≡◌}
-use Rattle.std.proofs.Common.{Bool, inr}
-use Rattle.mount_counts.specs.{Remounts.{at_remount, remount_after}, declared.remounts.{Remount.Remount, RemountStep.RemountStep}}
-use Rattle.mount_counts.specs.declared.remounts.RemountStep.TheVariants.{ClearsRemount, Releases, SetsReadOnly, SetsWritable}
+use Rattle.gate_steps.proofs.Prelude.{Action, Ask, Bool, Called, DealtNumbers, Err, GateError, HookAnswer, List, None, Ok, Phase, Reply, Result}
+use Rattle.gate_steps.proofs.Prelude.{SeatedTask, [], actions_after, after_of, arith, asks_of, asks_with, call_at, inr, map_next, refl, ℕ, ◌∷◌, ◌≡◌}
 use Rattle.freeze_levels.specs.declared.hooks.HookCall.TheVariants.{Reconfigure as ReconfigureCall}
 use Rattle.gate_world.specs.{Roles.remount_hook, declared.{operations.Op.TheVariants.RemountSb, work.Phase.TheVariants.Remounts}}
-use Rattle.gate_steps.{proofs.call_events.Asked.{AskedAt, asked_by_call}, specs.call_events.Asked.{AskedByRefused, AtMostAsked, OnceAsked, agreed}}
-use Rattle.gate_steps.specs.call_events.{Asked.failed, Asking.asks_of}
+use Rattle.mount_counts.specs.{Remounts.{at_remount, remount_after}, declared.remounts.{Remount.Remount, RemountStep.RemountStep}}
+use Rattle.mount_counts.specs.declared.remounts.RemountStep.TheVariants.{ClearsRemount, Releases, SetsReadOnly, SetsWritable}
+use Rattle.gate_steps.proofs.call_events.Asked.{AskedAt, asked_by_call}
+use Rattle.gate_steps.specs.call_events.Asked.{AskedByRefused, AtMostAsked, OnceAsked, agreed, failed}
 
 module _ (read_only : Bool) where
   -- it asks for this state

@@ -1,23 +1,21 @@
 -- An operation, step after step, from its beginning to its reply.
-use Rattle.gate_steps.proofs.Prelude.{Action, Ask, Called, Config, DealtNumbers, Done, Entry, Err, GateError, Go, HookAnswer, IsWithin, List, Next}
-use Rattle.gate_steps.proofs.Prelude.{None, Ok, Op, Option, Phase, Reply, Result, SeatedTask, Some, Traced, View, Wait, [], actions_after, after_of}
-use Rattle.gate_steps.proofs.Prelude.{ap, arith, asks_with, call_at, event_of, found_by, held_of, next_of, numbered, own_number, phase_after, refl}
-use Rattle.gate_steps.proofs.Prelude.{state_of_trace, subst, sym, ℕ, ◌++◌, ◌<◌, ◌∙◌, ◌∷◌, ◌≡◌, ◌≤◌}
-use Rattle.gate_world.specs.{Beginnings.first_phase, Views.{view_after_with_others, with_hook}, declared.operations.Op.TheVariants.Callback}
-use Rattle.gate_world.specs.traces.{Snapshots.{completes, last_snapshot}, TraceStates.{IsEventOf, IsNext, IsTrace, ReadIsValid, TraceState}}
-use Rattle.gate_world.specs.traces.{TraceStates.{trace_state_after, trace_state_with}, Traces.{IsShort, MayWait, ReplyMatchesTrace, Tells}}
-use Rattle.gate_world.specs.traces.Traces.{actions_of, most_events}
-use Rattle.std.{proofs.Common.{add-zero, length, ◌+◌, ◌-◌}, specs.Prelude.is_some}
+use Rattle.gate_steps.proofs.Prelude.{Action, AreMoves, Ask, Called, Config, DealtNumbers, Done, Entry, Err, GateError, Go, HasWitness, HookAnswer}
+use Rattle.gate_steps.proofs.Prelude.{IsNextMove, IsWithin, List, Next, None, Ok, Op, Option, Phase, Reply, Result, SeatedTask, Some, Stepped, Traced}
+use Rattle.gate_steps.proofs.Prelude.{View, Wait, [], actions_after, actions_of, after_of, ap, arith, asks_of, asks_with, call_at, done_by, entered}
+use Rattle.gate_steps.proofs.Prelude.{event_of, first_phase, found_by, held_of, items_after, length, next_of, numbered, own_number, own_view}
+use Rattle.gate_steps.proofs.Prelude.{phase_after, progress_of, refl, state_of_trace, subst, sym, view_after_with_others, ℕ, ◌++◌, ◌+◌, ◌<◌, ◌∙◌, ◌∷◌}
+use Rattle.gate_steps.proofs.Prelude.{◌≡◌, ◌≤◌}
 use Rattle.gate_schedules.proofs.{frames.OperationLaws.{IsSmall, most_events_of_all}, operations.AllOperations.op_keeps}
 use Rattle.gate_schedules.proofs.schedules.Beginnings.{may_begin}
-use Rattle.gate_transitions.specs.{Answers.{progress_of, unless_refused}, declared.steps.Progress.{Progress, TheVariants.{Done as Ended, Waiting}}}
-use Rattle.gate_transitions.specs.declared.steps.Step.{Step}
-use Rattle.gate_steps.{proofs.call_events.{Grown.same_stays_seen, Refused.{is_unchanged, waits_honestly}}, specs.Seating.{HasWitness, HaveHistory}}
-use Rattle.gate_steps.specs.{Seating.{done_by, entered, items_after, world_left}, call_events.Asking.{OpAfterStepWith, OpUnderWayWith, asks_of}}
-use Rattle.gate_steps.specs.call_events.{Asking.next_call, Refused.{IsHonestWait, IsUnchanged, IsUnchangedBy}, Runs.{AreMoves, IsBounded, IsMoveOf}}
-use Rattle.gate_steps.specs.call_events.Runs.{IsNextMove, IsRanReply, OpAfterStep, OpUnderWay, ProgressMatches, Replies, begins_at, completed_by}
-use Rattle.gate_steps.specs.call_events.{Runs.{events_onto, items_at, ran_items, ran_snapshot, ran_view, the_reply, told_as}, SeatedTasks.own_view}
-use Rattle.gate_steps.specs.call_events.{SeatedTasks.refusal_at, Stepped.Stepped, Waited.{is_wait, waits_in}}
+use Rattle.gate_transitions.specs.{Answers.unless_refused, declared.steps.{Progress.{Progress, TheVariants.{Done as Ended, Waiting}}, Step.Step}}
+use Rattle.gate_world.specs.{Views.with_hook, declared.operations.Op.TheVariants.Callback, traces.Snapshots.{completes, last_snapshot}}
+use Rattle.gate_world.specs.traces.TraceStates.{IsEventOf, IsNext, IsTrace, ReadIsValid, TraceState, trace_state_after, trace_state_with}
+use Rattle.{gate_world.specs.traces.Traces.{IsShort, MayWait, ReplyMatchesTrace, Tells, most_events}, std.proofs.Common.{add-zero, is_some, ◌-◌}}
+use Rattle.gate_steps.{proofs.call_events.{Grown.same_stays_seen, Refused.{is_unchanged, waits_honestly}}, specs.Seating.{HaveHistory, world_left}}
+use Rattle.gate_steps.specs.call_events.{Asking.{OpAfterStepWith, OpUnderWayWith, next_call}, Refused.{IsHonestWait, IsUnchanged, IsUnchangedBy}}
+use Rattle.gate_steps.specs.call_events.Runs.{IsBounded, IsMoveOf, IsRanReply, OpAfterStep, OpUnderWay, ProgressMatches, Replies, begins_at}
+use Rattle.gate_steps.specs.call_events.Runs.{completed_by, events_onto, items_at, ran_items, ran_snapshot, ran_view, the_reply, told_as}
+use Rattle.gate_steps.specs.call_events.{SeatedTasks.refusal_at, Waited.{is_wait, waits_in}}
 
 -- the numbers of a task whose own number has begun the operation
 abbrev pub entered_items : Option Op → Option Phase → DealtNumbers → DealtNumbers

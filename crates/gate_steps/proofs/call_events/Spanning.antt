@@ -1,18 +1,16 @@
 -- Each step of a call has its moment between call and return.
-use Rattle.gate_steps.proofs.Prelude.{Config, DealtNumbers, Done, Entry, Go, HookAnswer, List, Next, None, Numbered, Op, Option, Phase, Some, Traced}
-use Rattle.gate_steps.proofs.Prelude.{View, Wait, World, [], after_of, ap, arith, event_of, found_by, get_elem?, next_of, numbered, own_number}
-use Rattle.gate_steps.proofs.Prelude.{phase_after, refl, state_of_trace, subst, sym, ℕ, ◌++◌, ◌∙◌, ◌∷◌, ◌≡◌}
-use Rattle.std.proofs.{Common.length, lemmas.List.{append-nil, append_assoc}}
+use Rattle.gate_steps.proofs.Prelude.{AreMoves, Begins, Config, DealtNumbers, Done, Entry, Go, HookAnswer, IsNextMove, IsPrefix, List, Next, None}
+use Rattle.gate_steps.proofs.Prelude.{NoneOf, Numbered, Op, Option, Phase, Some, Steps, Traced, View, Wait, World, [], after_of, ap, append-nil}
+use Rattle.gate_steps.proofs.Prelude.{append_assoc, arith, done_by, entered, event_of, found_by, get_elem?, happens, length, next_of, numbered}
+use Rattle.gate_steps.proofs.Prelude.{opening, own_number, own_view, phase_after, refl, run, state_of_trace, subst, sym, view_after_with_others}
+use Rattle.gate_steps.proofs.Prelude.{world_after, ℕ, ◌++◌, ◌∙◌, ◌∷◌, ◌≡◌}
 use Rattle.gate_schedules.proofs.schedules.{Entries.begun_on, Runs.run_more}
-use Rattle.gate_world.specs.{Headline.world_after, Views.{view_after_with_others, with_hook}, Worlds.{happens, opening, run}}
-use Rattle.gate_world.specs.{declared.entries.Entry.TheVariants.{Begins, Steps}, refusals.Causes.{since_begun, trail, trail_of}}
-use Rattle.gate_world.specs.traces.TraceStates.{TraceState}
+use Rattle.gate_world.specs.{Views.with_hook, refusals.Causes.{since_begun, trail, trail_of}, traces.TraceStates.TraceState}
 use Rattle.gate_steps.proofs.{Dealing.times-at, Reaching.begins_idle, call_events.Grown.{after_more, goes_on_after, next_on, sees_on_stays}}
 use Rattle.gate_steps.proofs.call_events.Moments.{idle_since, more_since, one_run, one_since, own_more, own_none, own_one, run_append, run_quiet}
-use Rattle.gate_steps.{proofs.call_events.{Moments.trail_more, Resting.{formed_rest, no_entry}, Running.course_is}, specs.Histories.IsLike}
-use Rattle.gate_steps.specs.{Histories.IsWellFormed, Seating.{IsPrefix, NoneOf, StepWitness, done_by, entered}, call_events.Grown.{AllGoOn, HasSeen}}
-use Rattle.gate_steps.specs.call_events.{Grown.StaySeen, Runs.{AreMoves, IsMoveOf, IsNextMove, events_onto, ran_view}, SeatedTasks.own_view}
-use Rattle.gate_steps.specs.call_events.Spans.{HappensAfter, IsEventDuring, own_entries, worlds_since}
+use Rattle.gate_steps.proofs.call_events.{Moments.trail_more, Resting.{formed_rest, no_entry}, Running.course_is}
+use Rattle.gate_steps.specs.{Histories.{IsLike, IsWellFormed}, Seating.StepWitness, call_events.Grown.{AllGoOn, HasSeen, StaySeen}}
+use Rattle.gate_steps.specs.call_events.{Runs.{IsMoveOf, events_onto, ran_view}, Spans.{HappensAfter, IsEventDuring, own_entries, worlds_since}}
 
 -- the moment of a step that was a move of a phase, of an operation that was under way with these earlier steps
 happens_after : (c : Config) (op : Op) (earlier : List Traced) (e : Traced) (begins : Option Op) (phase : Phase) (x : Numbered)

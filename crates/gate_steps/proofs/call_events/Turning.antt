@@ -1,17 +1,15 @@
 -- One step apart from the task: what it leaves of the fields, and which step of its operation it was.
-use Rattle.gate_steps.proofs.Prelude.{Action, Ask, Config, DealtNumbers, Done, Entry, Go, HookAnswer, IsWithin, Knowledge, List, Next, None, Op}
-use Rattle.gate_steps.proofs.Prelude.{Option, Phase, SeatedTask, Some, Wait, after_of, ap, arith, asks_with, call_at, event_of, held_of, knows}
-use Rattle.gate_steps.proofs.Prelude.{next_of, phase_after, refl, subst, sym, ℕ, ◌<◌, ◌∙◌, ◌≡◌}
-use Rattle.gate_world.specs.{Accesses.{accesses_after, held_in}, Fits.ActionFits, declared.accesses.Accesses.Accesses}
+use Rattle.gate_steps.proofs.Prelude.{Accesses, Action, Ask, Bool, Config, DealtNumbers, Done, Entry, Event, Go, HasWitness, HookAnswer, IsWithin}
+use Rattle.gate_steps.proofs.Prelude.{Knowledge, List, Next, None, Op, Option, Phase, SeatedTask, Some, Stepped, Wait, after_of, ap, arith, asks_with}
+use Rattle.gate_steps.proofs.Prelude.{call_at, event_of, held_of, items_after, knows, next_of, phase_after, place, progress_of, refl, subst, sym, ℕ}
+use Rattle.gate_steps.proofs.Prelude.{◌<◌, ◌∙◌, ◌≡◌}
+use Rattle.{atomic_table.specs.Seated.TableId, cpu_words.specs.Names.words_in_all, gate_schedules.proofs.schedules.Phases.word_placed}
+use Rattle.gate_transitions.specs.declared.{steps.Step.Step, task_states.TaskState.TaskState}
+use Rattle.gate_world.specs.{Accesses.{accesses_after, held_in}, Fits.ActionFits}
 use Rattle.gate_steps.proofs.call_events.{Going.{ghost_agrees_left, may_add, stepped_here}, Running.{went_asking, went_on}}
-use Rattle.gate_steps.specs.{Seating.{HasWitness, OwnNumberMayStep, items_after}, call_events.Asking.{OpAfterStepWith, OpUnderWayWith}}
-use Rattle.gate_steps.specs.call_events.{GhostAgrees.GhostAgrees, Runs.{OpAfterStep, OpUnderWay}, SeatedTasks.task_state, Stepped.Stepped}
-use Rattle.gate_steps.specs.call_events.{Turns.{StateAgrees, state_at, step_was}, Waited.{OpAfterStepWaiting, OpUnderWayWaiting}}
-use Rattle.std.proofs.Common.{Bool}
-use Rattle.cpu_words.specs.{Names.{place, words_in_all}, declared.events.Event.Event}
-use Rattle.gate_transitions.specs.{Answers.progress_of, declared.{steps.Step.Step, task_states.TaskState.TaskState}}
-use Rattle.gate_schedules.proofs.schedules.Phases.{word_placed}
-use Rattle.atomic_table.specs.Seated.{TableId}
+use Rattle.gate_steps.specs.{Seating.OwnNumberMayStep, call_events.{Asking.{OpAfterStepWith, OpUnderWayWith}, GhostAgrees.GhostAgrees}}
+use Rattle.gate_steps.specs.call_events.{Runs.{OpAfterStep, OpUnderWay}, SeatedTasks.task_state, Turns.{StateAgrees, state_at, step_was}}
+use Rattle.gate_steps.specs.call_events.Waited.{OpAfterStepWaiting, OpUnderWayWaiting}
 
 -- before the step: the word is one of the table's, and the number may do the step
 module _ (number : ℕ) (c : Config) (begins : Option Op) (phase : Phase) (accesses : Accesses) (flags : List Bool) (hook : HookAnswer) where

@@ -1,10 +1,9 @@
 -- The fields of a task are what its seat at the table knows.
-use Rattle.std.specs.Prelude.{◌≡◌, ℕ, ◌<◌, ◌≤◌, Bool, true, false, Option, Some, None, List, [], ◌∷◌, length, slice_index_or}
-use Rattle.gate_world.specs.{Configs.IsWithin, Fits.Fits, Holdings.Agree, Views.held_of, declared.{config.Config.Config, operations.Op.Op, views.View.View}}
-use Rattle.gate_world.specs.declared.work.Phase.{Phase}
-use Rattle.gate_transitions.specs.{TaskStates.{task_holdings}, declared.task_states.TaskState.{TaskState}}
-use Rattle.gate_steps.specs.{Seating.{DealtNumbers, NumberMayStep, times}, declared.seating.Numbered.Numbered}
-use Rattle.gate_steps.specs.call_events.SeatedTasks.{Empty}
+use Rattle.gate_transitions.specs.{TaskStates.task_holdings, declared.task_states.TaskState.TaskState}
+use Rattle.gate_world.specs.{Configs.IsWithin, Fits.Fits, Holdings.Agree, Views.held_of, declared.{config.Config.Config, operations.Op.Op}}
+use Rattle.gate_world.specs.declared.{views.View.View, work.Phase.Phase}
+use Rattle.std.specs.Prelude.{Bool, List, None, Option, Some, [], false, length, slice_index_or, true, ℕ, ◌<◌, ◌∷◌, ◌≡◌, ◌≤◌}
+use Rattle.gate_steps.specs.{Seating.{DealtNumbers, NumberMayStep, times}, call_events.SeatedTasks.Empty, declared.seating.Numbered.Numbered}
 
 -- the view stands where the task does: no operation is under way in either, or the task may do the step of its phase
 abbrev pub PhaseOk : Config → Option Op → Option Phase → Numbered → Type 0

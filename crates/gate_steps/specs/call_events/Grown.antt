@@ -1,9 +1,8 @@
 -- Each later schedule goes on from each earlier one.
-use Rattle.std.specs.Prelude.{◌≡◌, ℕ, List}
-use mathlib.Core.Option.{some}
-use lib.ListN.{get_elem?}
-use Rattle.gate_world.specs.declared.entries.Entry.{Entry}
+use Rattle.{gate_world.specs.declared.entries.Entry.Entry, std.specs.Prelude.{List, ℕ, ◌≡◌}}
 use Rattle.gate_steps.specs.Seating.{IsPrefix}
+use lib.ListN.{get_elem?}
+use mathlib.Core.Option.{some}
 
 -- each of the schedules left goes on from each that was seen
 abbrev pub AllGoOn : List (List Entry) → List (List Entry) → Type 0

@@ -1,14 +1,10 @@
 -- Where an operation stands, and where lines of steps lead it.
-use Rattle.std.specs.Prelude.{◌≡◌, ℕ, Option, None, List}
-use Rattle.atomic_table.specs.declared.Seat.{Seat}
-use Rattle.access_model.specs.declared.replies.Next.{Next}
-use Rattle.cpu_words.specs.Hooks.{HookAnswer}
-use Rattle.freeze_levels.specs.declared.hooks.HookCall.{HookCall}
-use Rattle.gate_world.specs.declared.{accesses.Accesses.{Accesses}, operations.Op.{Op}, work.Phase.{Phase}}
-use Rattle.gate_world.specs.Views.{phase_after}
-use Rattle.gate_steps.specs.{Seating.{DealtNumbers}, declared.{call_events.words.GateWords.{GateWords}, seating.Knowledge.{Knowledge}}}
-use Rattle.gate_steps.specs.call_events.{Asking.{Ask, OpAfterStepWith, OpAfterStepAsking}, SeatedTasks.{SeatedTask, task_state}}
-use Rattle.gate_steps.specs.call_events.Turns.{StateAgrees, AgreesAfter}
+use Rattle.{access_model.specs.declared.replies.Next.Next, atomic_table.specs.declared.Seat.Seat, cpu_words.specs.Hooks.HookAnswer}
+use Rattle.{freeze_levels.specs.declared.hooks.HookCall.HookCall, gate_world.specs.{Views.phase_after, declared.accesses.Accesses.Accesses}}
+use Rattle.{gate_world.specs.declared.{operations.Op.Op, work.Phase.Phase}, std.specs.Prelude.{List, None, Option, ℕ, ◌≡◌}}
+use Rattle.gate_steps.specs.{Seating.DealtNumbers, call_events.Asking.{Ask, OpAfterStepAsking, OpAfterStepWith}}
+use Rattle.gate_steps.specs.call_events.{SeatedTasks.{SeatedTask, task_state}, Turns.{AgreesAfter, StateAgrees}}
+use Rattle.gate_steps.specs.declared.{call_events.words.GateWords.GateWords, seating.Knowledge.Knowledge}
 
 -- the seat of a task at the table
 abbrev pub TaskSeat : Type 0

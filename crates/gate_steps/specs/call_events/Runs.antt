@@ -1,17 +1,15 @@
 -- Whole operations of a task, from the beginning to the reply.
-use Rattle.std.specs.Prelude.{◌≡◌, ℕ, Bool, false, Option, Some, None, Result, Ok, Err, List, [], ◌∷◌, ◌++◌}
-use Rattle.access_model.specs.declared.{errors.GateError.{GateError}, replies.{Next.{Next, TheVariants.{Go, Wait, Done}}, Reply.{Reply}}}
-use Rattle.access_model.specs.declared.replies.Reply.TheVariants.{Ran, Node as NodeReply}
-use Rattle.cpu_words.specs.{declared.events.Event.{Event}, Touches.{event_of}}
-use Rattle.gate_world.specs.declared.{config.Config.{Config}, entries.Entry.{Entry}, operations.Op.{Op}, work.Phase.{Phase}}
-use Rattle.gate_world.specs.declared.views.{Traced.{Traced}, View.{View}, Snapshot.{Snapshot}}
-use Rattle.gate_world.specs.{traces.Snapshots.{completes, last_snapshot}, Views.{phase_after, with_hook}, Work.{next_of}}
-use Rattle.gate_world.specs.traces.TraceStates.{state_of_trace, IsTrace}
-use Rattle.gate_world.specs.traces.Traces.{actions_of, IsHonestAnswer, most_events, IsShort, MayWait}
-use Rattle.gated_tree.specs.declared.trees.TreeWords.{TreeWords}
-use Rattle.gate_steps.specs.Seating.{DealtNumbers, numbered, HaveHistory, done_by, HasWitness}
-use Rattle.gate_steps.specs.call_events.{Grown.{StaySeen}, Refused.{IsUnchangedBy, WaitsHonestly}, SeatedTasks.{SeatedTask, own_number, own_view, refusal_at}}
-use Rattle.gate_transitions.specs.declared.steps.Progress.{Progress, TheVariants.{Idle, Going, Waiting, Done as Ended}}
+use Rattle.access_model.specs.declared.{errors.GateError.GateError, replies.{Next.{Next, TheVariants.{Done, Go, Wait}}, Reply.Reply}}
+use Rattle.access_model.specs.declared.replies.Reply.TheVariants.{Node as NodeReply, Ran}
+use Rattle.cpu_words.specs.{Touches.event_of, declared.events.Event.Event}
+use Rattle.gate_transitions.specs.declared.steps.Progress.{Progress, TheVariants.{Done as Ended, Going, Idle, Waiting}}
+use Rattle.gate_world.specs.{Views.{phase_after, with_hook}, Work.next_of, declared.{config.Config.Config, entries.Entry.Entry, operations.Op.Op}}
+use Rattle.gate_world.specs.declared.{views.{Snapshot.Snapshot, Traced.Traced, View.View}, work.Phase.Phase}
+use Rattle.gate_world.specs.traces.{Snapshots.{completes, last_snapshot}, TraceStates.{IsTrace, state_of_trace}, Traces.{IsHonestAnswer, IsShort}}
+use Rattle.{gate_world.specs.traces.Traces.{MayWait, actions_of, most_events}, gated_tree.specs.declared.trees.TreeWords.TreeWords}
+use Rattle.std.specs.Prelude.{Bool, Err, List, None, Ok, Option, Result, Some, [], false, ℕ, ◌++◌, ◌∷◌, ◌≡◌}
+use Rattle.gate_steps.specs.{Seating.{DealtNumbers, HasWitness, HaveHistory, done_by, numbered}, call_events.Grown.StaySeen}
+use Rattle.gate_steps.specs.call_events.{Refused.{IsUnchangedBy, WaitsHonestly}, SeatedTasks.{SeatedTask, own_number, own_view, refusal_at}}
 
 -- the steps of a trace before earlier ones, the newest first
 abbrev pub events_onto : List Traced → List Event → List Event

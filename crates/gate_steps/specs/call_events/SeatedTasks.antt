@@ -1,11 +1,9 @@
 -- What callers know of a task.
-use Rattle.std.specs.Prelude.{◌≡◌, ℕ, ◌<◌, ◌≤◌, false, Option, None, is_some, Result, slice_index, slice_index_or, List, [], ◌∷◌}
-use Rattle.atomic_table.specs.Seated.{TableId}
-use Rattle.access_model.specs.declared.errors.GateError.{GateError}
-use Rattle.gate_world.specs.{Beginnings.{refusal, beginning}, Views.{opening_view, held_at, holds_level, has_open, held_of}}
-use Rattle.gate_world.specs.declared.{accesses.Accesses.Accesses, config.Config.Config, operations.Op.Op, views.View.View, work.Phase.Phase}
-use Rattle.gate_world.specs.declared.entries.Entry.{Entry}
-use Rattle.gate_steps.specs.{Seating.{DealtNumbers}, declared.seating.Knowledge.{Knowledge}}
+use Rattle.{access_model.specs.declared.errors.GateError.GateError, atomic_table.specs.Seated.TableId, gate_world.specs.Beginnings.beginning}
+use Rattle.gate_world.specs.{Beginnings.refusal, Views.{has_open, held_at, held_of, holds_level, opening_view}, declared.accesses.Accesses.Accesses}
+use Rattle.gate_world.specs.declared.{config.Config.Config, entries.Entry.Entry, operations.Op.Op, views.View.View, work.Phase.Phase}
+use Rattle.std.specs.Prelude.{List, None, Option, Result, [], false, is_some, slice_index, slice_index_or, ℕ, ◌<◌, ◌∷◌, ◌≡◌, ◌≤◌}
+use Rattle.gate_steps.specs.{Seating.DealtNumbers, declared.seating.Knowledge.Knowledge}
 
 -- the table, the configuration, the operation that has begun and has had no step, the phase of the operation under way, and the
 -- numbers with their views, its own first, and the schedules that it has seen

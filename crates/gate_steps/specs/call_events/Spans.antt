@@ -1,18 +1,15 @@
 -- Calls in the order of time: where the steps of a call stand in a schedule that goes on from all that its task had seen.
-use Rattle.std.specs.Prelude.{◌≡◌, ◌==◌, ℕ, ◌<◌, if◌then◌else◌, None, Some, Err, List, [], ◌∷◌, ◌++◌}
-use mathlib.Core.Option.{some}
-use lib.ListN.{get_elem?}
-use Rattle.access_model.specs.{Histories.{Done, own_part}, declared.{actions.Action.{Action}, errors.GateError.{GateError}}}
-use Rattle.access_model.specs.declared.replies.Next.TheVariants.{Done as Ended}
-use Rattle.cpu_words.specs.Touches.{event_of}
+use Rattle.access_model.specs.{Histories.{Done, own_part}, declared.{actions.Action.Action, errors.GateError.GateError}}
+use Rattle.{access_model.specs.declared.replies.Next.TheVariants.Done as Ended, cpu_words.specs.Touches.event_of}
+use Rattle.gate_world.specs.{Configs.IsWithin, Headline.{actions_since, actions_so_far, world_after}, Moments.IsPresentTree}
+use Rattle.gate_world.specs.{Views.{phase_after, with_hook}, Work.{after_of, next_of}, Worlds.{World, found_at, task_of}}
+use Rattle.gate_world.specs.declared.{config.Config.Config, entries.Entry.{Entry, TheVariants.{Begins, Steps}}, operations.Op.Op, views.Traced.Traced}
+use Rattle.gate_world.specs.{declared.work.Phase.Phase, refusals.Causes.{HasCause, since_begun, trail, trail_of}, traces.TraceStates.state_of_trace}
 use Rattle.gated_tree.specs.declared.trees.TreeWords.{TreeWords}
-use Rattle.gate_world.specs.{refusals.Causes.{HasCause, since_begun, trail, trail_of}, Configs.{IsWithin}}
-use Rattle.gate_world.specs.{traces.TraceStates.{state_of_trace}, Headline.{world_after, actions_so_far, actions_since}}
-use Rattle.gate_world.specs.{Moments.{IsPresentTree}, Views.{phase_after, with_hook}, Work.{next_of, after_of}}
-use Rattle.gate_world.specs.{Worlds.{World, found_at, task_of}, declared.entries.Entry.{Entry, TheVariants.{Begins, Steps}}}
-use Rattle.gate_world.specs.declared.{config.Config.Config, operations.Op.Op, views.Traced.Traced, work.Phase.Phase}
-use Rattle.gate_steps.specs.{Seating.{DealtNumbers, IsPrefix, HasRested}, declared.seating.Numbered.{Numbered}}
-use Rattle.gate_steps.specs.call_events.SeatedTasks.{own_number}
+use Rattle.std.specs.Prelude.{Err, List, None, Some, [], if◌then◌else◌, ℕ, ◌++◌, ◌<◌, ◌==◌, ◌∷◌, ◌≡◌}
+use Rattle.gate_steps.specs.{Seating.{DealtNumbers, HasRested, IsPrefix}, call_events.SeatedTasks.own_number, declared.seating.Numbered.Numbered}
+use lib.ListN.{get_elem?}
+use mathlib.Core.Option.{some}
 
 -- the transitions of this number among these
 abbrev pub own_entries : ℕ → List Entry → List Entry

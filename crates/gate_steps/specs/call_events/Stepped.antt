@@ -1,10 +1,9 @@
 -- What one step of a task is.
-use Rattle.std.specs.Prelude.{◌≡◌, ℕ, Option, Some, None, List, [], ◌∷◌}
-use Rattle.gate_world.specs.declared.{entries.Entry.{Entry}, config.Config.{Config}, operations.Op.{Op}, work.Phase.{Phase}}
-use Rattle.gate_world.specs.{Views.{phase_after}, Work.{next_of, after_of}}
-use Rattle.cpu_words.specs.{Hooks.{HookAnswer}, Touches.{found_by, event_of}}
-use Rattle.gate_transitions.specs.{declared.steps.Step.{Step}, Answers.{progress_of, phase_step}}
-use Rattle.gate_steps.specs.{Seating.{DealtNumbers, items_after, HasWitness}, call_events.SeatedTasks.{SeatedTask}}
+use Rattle.cpu_words.specs.{Hooks.HookAnswer, Touches.{event_of, found_by}}
+use Rattle.{gate_transitions.specs.{Answers.{phase_step, progress_of}, declared.steps.Step.Step}, gate_world.specs.Views.phase_after}
+use Rattle.gate_world.specs.{Work.{after_of, next_of}, declared.{config.Config.Config, entries.Entry.Entry, operations.Op.Op, work.Phase.Phase}}
+use Rattle.std.specs.Prelude.{List, None, Option, Some, [], ℕ, ◌∷◌, ◌≡◌}
+use Rattle.gate_steps.specs.{Seating.{DealtNumbers, HasWitness, items_after}, call_events.SeatedTasks.SeatedTask}
 
 -- the step of a phase that found this
 abbrev pub found_step : Phase → HookAnswer → ℕ → Step

@@ -1,6 +1,5 @@
 use Rattle.gate_steps.proofs.Prelude.{None, Ok}
-use Rattle.gate_world.specs.declared.work.Phase.TheVariants.{Mounts}
-use Rattle.mount_counts.specs.declared.phases.MountPhase.TheVariants.{Drop as Drops}
+use Rattle.{gate_world.specs.declared.work.Phase.TheVariants.Mounts, mount_counts.specs.declared.phases.MountPhase.TheVariants.Drop as Drops}
 use Rattle.gate_steps.proofs.meeting.meet_as.Given as goal
 
 abbrev pub ghosts-look_as : goal.ghosts-look_as

@@ -1,7 +1,6 @@
 -- zeros, with the root's word written
-use Rattle.gate_steps.proofs.Prelude.{arith}
+use Rattle.gate_steps.proofs.Prelude.{arith, table_index, table_length}
 use Rattle.cpu_words.proofs.Places.{opening_from}
-use Rattle.gate_steps.specs.Rules.{table_index, table_length}
 use Rattle.gate_steps.proofs.tables.opening_words.Goals as goal
 
 pub returns : goal.returns

@@ -1,7 +1,6 @@
-use Rattle.gate_steps.proofs.Prelude.{get_elem?, some, subst, sym, ℕ, ◌≡◌}
+use Rattle.gate_steps.proofs.Prelude.{get_elem?, place, some, subst, sym, table_index, ℕ, ◌≡◌}
 use Rattle.std.specs.Slots.{slots_items}
-use Rattle.cpu_words.specs.Names.{place}
-use Rattle.gate_steps.{proofs.TableWords.read_at, specs.Rules.table_index}
+use Rattle.gate_steps.proofs.TableWords.{read_at}
 use Rattle.gate_steps.proofs.tables.word_of.Goals as goal
 
 pub returns : goal.returns
