@@ -1,15 +1,13 @@
 -- An operation that has begun stands at its first step.
-use Rattle.call_ends.proofs.Prelude.{Accesses, Bool, Go, Op, Some, ap, arith, remounting_at, standing, subst, sym, ℕ, ◌≡◌}
-use Rattle.call_ends.specs.{CallingBack.calling_at, Reopenings.thaw_at}
-use Rattle.std.proofs.Common.{List, [], ◌∷◌}
+use Rattle.call_ends.proofs.Prelude.{Accesses, Bool, Go, Loads, Op, Phase, Some, ap, arith, calling_at, remounting_at, standing, subst, sym, ℕ, ◌≡◌}
 use Rattle.freeze_levels.specs.declared.{freezes.{Freeze.Freeze, FreezeStep.TheVariants.Locks as FreezeLocks}, thaws.Thaw.Thaw}
 use Rattle.freeze_levels.specs.declared.thaws.ThawStep.TheVariants.{Locks as ThawLocks}
-use Rattle.gate_world.specs.{Beginnings.first_phase, declared.{config.Config.Config, work.Phase.{Phase, TheVariants.{Callbacks, Freezes, Remounts}}}}
-use Rattle.gate_world.specs.declared.work.Phase.TheVariants.{Thaws}
+use Rattle.gate_steps.specs.{Seating.DealtNumbers, call_events.{GhostAgrees.GhostAgrees, Turns.{StateAgrees, state_at}}}
+use Rattle.gate_world.specs.{Beginnings.first_phase, declared.{config.Config.Config, work.Phase.TheVariants.{Callbacks, Freezes, Remounts, Thaws}}}
 use Rattle.mount_counts.specs.declared.remounts.{Remount.Remount, RemountStep.TheVariants.Locks as RemountLocks}
 use Rattle.percpu_rwsem.specs.declared.callbacks.{Callback.Callback, CallbackStep.{CallbackStep, TheVariants.Claims}}
-use Rattle.percpu_rwsem.specs.declared.transitions.Transition.TheVariants.{Loads}
-use Rattle.gate_steps.specs.{Seating.DealtNumbers, call_events.{GhostAgrees.GhostAgrees, Turns.{StateAgrees, state_at}}}
+use Rattle.std.proofs.Common.{List, [], ◌∷◌}
+use Rattle.call_ends.specs.Reopenings.{thaw_at}
 
 -- where one that may wait begins
 abbrev IsFirst : Phase → Type 0

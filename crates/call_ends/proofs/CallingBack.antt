@@ -1,12 +1,11 @@
 -- What comes after each step of a callback's line.
-use Rattle.call_ends.proofs.Prelude.{Bool, Go, None, Ok, Some, ap, false, refl, sym, true, ℕ, ◌≡◌}
-use Rattle.call_ends.{proofs.Closing.{other_number, same_number}, specs.CallingBack.{called_or, calling_at, of_callback, sections_ended}}
-use Rattle.access_model.specs.declared.replies.{Next.{Next, TheVariants.Done}, Reply.TheVariants.Ran}
-use Rattle.gate_world.specs.Work.{after_of}
+use Rattle.call_ends.proofs.Prelude.{AwaitsSections, Bool, Go, Loads, Next, None, Ok, Some, after_of, ap, calling_at, false, refl, sym, true, ℕ, ◌≡◌}
+use Rattle.access_model.specs.declared.replies.{Next.TheVariants.Done, Reply.TheVariants.Ran}
 use Rattle.percpu_rwsem.specs.{Graces.{looked, started}, SyncWords.{on_callback, on_claim, pack, unpack}, declared.callbacks.Callback.Callback}
-use Rattle.percpu_rwsem.specs.declared.{callbacks.CallbackStep.TheVariants.{AwaitsSections, CallsBack, Claims}, grace.Grace.Grace}
+use Rattle.percpu_rwsem.specs.declared.{callbacks.CallbackStep.TheVariants.{CallsBack, Claims}, grace.Grace.Grace}
 use Rattle.percpu_rwsem.specs.declared.{grace.GraceNext.TheVariants.{Ended, More, Wait as WaitsFor}, sync_word.SyncWord.SyncWord}
-use Rattle.percpu_rwsem.specs.declared.transitions.Transition.TheVariants.{Exchanges, Loads}
+use Rattle.percpu_rwsem.specs.declared.transitions.Transition.TheVariants.{Exchanges}
+use Rattle.call_ends.{proofs.Closing.{other_number, same_number}, specs.CallingBack.{called_or, of_callback, sections_ended}}
 
 module _ (level tasks : ℕ) where
   -- the claim

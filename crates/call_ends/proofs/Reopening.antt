@@ -1,14 +1,12 @@
 -- What comes after each step of the reopening of the levels.
-use Rattle.call_ends.proofs.Prelude.{Accesses, Bool, Go, Ok, Some, ap, arith, false, refl, sym, true, ℕ, ◌∙◌, ◌≡◌}
-use Rattle.call_ends.{proofs.Closing.same_number, specs.Reopenings.{opening_at, reopened, thaw_at}}
-use Rattle.std.specs.Prelude.{◌==◌}
-use Rattle.access_model.specs.{Holders.{held_by, is_unheld, with_holder}, declared.actions.Holders.Holders}
-use Rattle.cpu_words.specs.Hooks.{HookAnswer}
-use Rattle.freeze_levels.specs.{Holders.holders_in, Thaws.thaw_finds, declared.thaws.{Thaw.Thaw, ThawStep.{ThawStep, TheVariants.LeavesLast}}}
-use Rattle.freeze_levels.specs.declared.thaws.ThawStep.TheVariants.{LoadsHolders, LoadsStage, LoadsSuperblock, Locks}
-use Rattle.gate_world.specs.{Accesses.accesses_after, Work.after_of, declared.work.Phase.TheVariants.Thaws}
+use Rattle.call_ends.proofs.Prelude.{Accesses, Bool, Go, Loads, Ok, Some, after_of, ap, arith, false, refl, sym, true, ℕ, ◌∙◌, ◌≡◌}
+use Rattle.{access_model.specs.{Holders.{held_by, is_unheld, with_holder}, declared.actions.Holders.Holders}, cpu_words.specs.Hooks.HookAnswer}
+use Rattle.freeze_levels.specs.{Holders.holders_in, Thaws.thaw_finds, declared.thaws.{Thaw.Thaw, ThawStep.ThawStep}}
+use Rattle.freeze_levels.specs.declared.thaws.ThawStep.TheVariants.{LeavesLast, LoadsHolders, LoadsStage, LoadsSuperblock, Locks}
+use Rattle.gate_world.specs.{Accesses.accesses_after, declared.work.Phase.TheVariants.Thaws}
 use Rattle.percpu_rwsem.specs.{SyncWords.{on_exit, pack, unpack}, declared.sync_word.SyncWord.SyncWord}
-use Rattle.percpu_rwsem.specs.declared.{transitions.Transition.TheVariants.{Exchanges, Loads}, writers.UpWriteStep.TheVariants.Exits}
+use Rattle.{percpu_rwsem.specs.declared.{transitions.Transition.TheVariants.Exchanges, writers.UpWriteStep.TheVariants.Exits}, std.proofs.Common.◌==◌}
+use Rattle.call_ends.{proofs.Closing.same_number, specs.Reopenings.{opening_at, reopened, thaw_at}}
 
 module _ (x : Thaw) where
   -- `umount` was free, or taken

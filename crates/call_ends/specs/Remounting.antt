@@ -1,10 +1,9 @@
 -- Where a remount stands in its line.
-use Rattle.std.specs.Prelude.{ℕ, Bool, true, false, Option, Some, None, Ok}
-use Rattle.access_model.specs.{Replies.{map_next}, declared.replies.{Next.{Next, TheVariants.{Go}}, Reply.TheVariants.{Unit as UnitReply}}}
-use Rattle.gate_world.specs.declared.work.Phase.{Phase, TheVariants.{Remounts}}
-use Rattle.mount_counts.specs.{Remounts.{at_remount, past_mount}, Sets.{with_mount}, declared.remounts.Remount.{Remount}}
-use Rattle.mount_counts.specs.declared.remounts.RemountStep.{RemountStep, TheVariants.{LoadsRemovedAgain, Releases, Sums}}
-use Rattle.mount_counts.specs.declared.sets.MountSet.{MountSet}
+use Rattle.access_model.specs.{Replies.map_next, declared.replies.{Next.{Next, TheVariants.Go}, Reply.TheVariants.Unit as UnitReply}}
+use Rattle.gate_world.specs.declared.work.Phase.{Phase, TheVariants.Remounts}
+use Rattle.mount_counts.specs.{Remounts.{at_remount, past_mount}, Sets.with_mount, declared.remounts.{Remount.Remount, RemountStep.RemountStep}}
+use Rattle.mount_counts.specs.declared.{remounts.RemountStep.TheVariants.{LoadsRemovedAgain, Releases, Sums}, sets.MountSet.MountSet}
+use Rattle.std.specs.Prelude.{Bool, None, Ok, Option, Some, false, true, ℕ}
 
 -- a remount at this step
 abbrev pub remounting_at : Remount → RemountStep → Phase

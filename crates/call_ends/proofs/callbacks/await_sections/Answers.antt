@@ -1,7 +1,6 @@
 -- each load goes on from what the one before it left
-use Rattle.call_ends.proofs.Prelude.{Go, led_nowhere, led_on, led_to, still_stands}
-use Rattle.call_ends.{proofs.{CallingBack.{looks_in_vain, looks_last, looks_on}, Closing.fewer_tasks}, specs.CallingBack.calling_at}
-use Rattle.percpu_rwsem.specs.declared.callbacks.CallbackStep.TheVariants.{AwaitsSections}
+use Rattle.call_ends.proofs.Prelude.{AwaitsSections, Go, calling_at, led_nowhere, led_on, led_to, still_stands}
+use Rattle.call_ends.proofs.{CallingBack.{looks_in_vain, looks_last, looks_on}, Closing.fewer_tasks}
 use Rattle.call_ends.proofs.callbacks.await_sections.Goals as goal
 
 pub loop-further-init : goal.loop-further-init

@@ -1,7 +1,5 @@
 -- the loads have led to the grace period as far as it has come
-use Rattle.call_ends.proofs.Prelude.{Go, Led, None, ◌-◌}
-use Rattle.call_ends.specs.CallingBack.{calling_at}
-use Rattle.percpu_rwsem.specs.declared.callbacks.CallbackStep.TheVariants.{AwaitsSections}
+use Rattle.call_ends.proofs.Prelude.{AwaitsSections, Go, Led, None, calling_at, ◌-◌}
 use Rattle.call_ends.proofs.callbacks.await_sections.Given as goal
 
 abbrev pub invariant-loop-further : goal.invariant-loop-further

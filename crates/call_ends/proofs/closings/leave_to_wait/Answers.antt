@@ -1,6 +1,5 @@
 -- the freeze that is left stands there
-use Rattle.call_ends.proofs.Prelude.{ap}
-use Rattle.access_model.specs.declared.replies.Next.TheVariants.{Wait}
+use Rattle.call_ends.proofs.Prelude.{Wait, ap}
 use Rattle.call_ends.proofs.closings.leave_to_wait.Goals as goal
 
 pub returns : goal.returns

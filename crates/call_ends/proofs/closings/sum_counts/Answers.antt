@@ -1,7 +1,6 @@
 -- each load goes on from what the one before it left
-use Rattle.call_ends.proofs.Prelude.{Go, closing_at, led_nowhere, led_on, led_to, still_stands}
+use Rattle.call_ends.proofs.Prelude.{Go, Sums, closing_at, led_nowhere, led_on, led_to, still_stands}
 use Rattle.call_ends.proofs.Closing.{fewer_words, sums_last, sums_on}
-use Rattle.percpu_rwsem.specs.declared.writers.DownWriteStep.TheVariants.{Sums}
 use Rattle.call_ends.proofs.closings.sum_counts.Goals as goal
 
 pub loop-further-init : goal.loop-further-init

@@ -1,6 +1,5 @@
 -- the loads have led to the sum as far as it has come
-use Rattle.call_ends.proofs.Prelude.{Go, Led, None, closing_at, ◌-◌}
-use Rattle.percpu_rwsem.specs.declared.writers.DownWriteStep.TheVariants.{Sums}
+use Rattle.call_ends.proofs.Prelude.{Go, Led, None, Sums, closing_at, ◌-◌}
 use Rattle.call_ends.proofs.closings.sum_counts.Given as goal
 
 abbrev pub invariant-loop-further : goal.invariant-loop-further

@@ -1,7 +1,6 @@
 -- each step goes on from what the one before it left
-use Rattle.call_ends.proofs.Prelude.{Go, led_nowhere, led_on, led_to, standing, still_stands}
+use Rattle.call_ends.proofs.Prelude.{Cleans, Go, led_nowhere, led_on, led_to, standing, still_stands}
 use Rattle.call_ends.proofs.Closing.{cleans_last, cleans_leave, cleans_on, fewer_nodes}
-use Rattle.freeze_levels.specs.declared.freezes.FreezeStep.TheVariants.{Cleans}
 use Rattle.call_ends.proofs.freeze_lines.clean.Goals as goal
 
 pub loop-node-init : goal.loop-node-init

@@ -1,6 +1,5 @@
 -- the steps have led to the node that is next
-use Rattle.call_ends.proofs.Prelude.{Go, Led, None, standing, ◌-◌}
-use Rattle.freeze_levels.specs.declared.freezes.FreezeStep.TheVariants.{Cleans}
+use Rattle.call_ends.proofs.Prelude.{Cleans, Go, Led, None, standing, ◌-◌}
 use Rattle.call_ends.proofs.freeze_lines.clean.Given as goal
 
 abbrev pub invariant-loop-node : goal.invariant-loop-node

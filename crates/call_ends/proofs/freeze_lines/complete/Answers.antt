@@ -1,8 +1,7 @@
 -- the end goes on from what `freeze_fs` has answered
 use Rattle.call_ends.proofs.Prelude.{Go, ap, asking_on, asking_stands, led_unasked, refl, standing, sym}
+use Rattle.{freeze_levels.specs.declared.freezes.FreezeStep.TheVariants.Holds, gate_steps.proofs.call_events.Leading.asking_to}
 use Rattle.call_ends.{proofs.Closing.completes_leave, specs.Closings.of_freeze}
-use Rattle.freeze_levels.specs.declared.freezes.FreezeStep.TheVariants.{Holds}
-use Rattle.gate_steps.proofs.call_events.Leading.{asking_to}
 use Rattle.call_ends.proofs.freeze_lines.complete.Goals as goal
 
 pub find_asking-answer-requires-clause-leaves : goal.find_asking-answer-requires-clause-leaves

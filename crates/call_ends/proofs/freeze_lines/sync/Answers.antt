@@ -1,6 +1,5 @@
 -- the marks are cleared from the first node on
-use Rattle.call_ends.proofs.Prelude.{Go, ap, asking_on, led_from, led_unasked, refl, standing, stands_from, still_stands}
-use Rattle.freeze_levels.specs.declared.freezes.FreezeStep.TheVariants.{Cleans}
+use Rattle.call_ends.proofs.Prelude.{Cleans, Go, ap, asking_on, led_from, led_unasked, refl, standing, stands_from, still_stands}
 use Rattle.call_ends.proofs.freeze_lines.sync.Goals as goal
 
 pub clean-requires : goal.clean-requires

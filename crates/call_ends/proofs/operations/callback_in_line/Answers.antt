@@ -1,6 +1,5 @@
 -- the callback stands in its grace period
-use Rattle.call_ends.proofs.Prelude.{led_from, led_to, stands_from}
-use Rattle.percpu_rwsem.specs.declared.callbacks.CallbackStep.TheVariants.{AwaitsSections}
+use Rattle.call_ends.proofs.Prelude.{AwaitsSections, led_from, led_to, stands_from}
 use Rattle.call_ends.proofs.{Beginning.callback_stands, CallingBack.{called_false, called_true}}
 use Rattle.call_ends.proofs.operations.callback_in_line.Goals as goal
 

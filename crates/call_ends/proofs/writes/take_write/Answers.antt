@@ -1,8 +1,7 @@
 -- each step of the line goes on from what the one before it left
-use Rattle.call_ends.proofs.Prelude.{Go, Ok, ap, arith, led_on, led_once, led_to, refl, seated_stands, stands_from, still_stands, sym}
-use Rattle.call_ends.{proofs.Entering.{led_entered, led_idle, led_sync}, specs.Paths.of_write}
+use Rattle.call_ends.proofs.Prelude.{Go, Ok, Writes, ap, arith, led_on, led_once, led_to, refl, seated_stands, stands_from, still_stands, sym}
 use Rattle.composite_ops.specs.declared.write_access.phases.WritePhase.{WritePhase}
-use Rattle.gate_world.specs.declared.work.Phase.TheVariants.{Writes}
+use Rattle.call_ends.{proofs.Entering.{led_entered, led_idle, led_sync}, specs.Paths.of_write}
 use Rattle.call_ends.proofs.writes.take_write.Goals as goal
 
 pub find_first-section-requires-clause-stands : goal.find_first-section-requires-clause-stands

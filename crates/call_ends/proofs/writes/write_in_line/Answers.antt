@@ -1,9 +1,7 @@
 -- a taking and a return go on as what they are
-use Rattle.call_ends.proofs.Prelude.{Go, Led, Op, Some, ap, false, led_from, led_to, stands_from, subst, sym, true, ◌∙◌, ◌≡◌}
+use Rattle.call_ends.proofs.Prelude.{Go, Led, Op, Phase, Some, Writes, ap, false, led_from, led_to, stands_from, subst, sym, true, ◌∙◌, ◌≡◌}
+use Rattle.{gate_steps.specs.call_events.Led.Stands, std.proofs.Common.Option}
 use Rattle.call_ends.{proofs.Begun.{IsFirstWrite, none_else, write_begun}, specs.Paths.{done_or, of_write}}
-use Rattle.std.specs.Prelude.{Option}
-use Rattle.gate_world.specs.declared.work.Phase.{Phase, TheVariants.Writes}
-use Rattle.gate_steps.specs.call_events.Led.{Stands}
 use Rattle.call_ends.proofs.writes.write_in_line.Goals as goal
 
 -- what holds of a taking that begins holds of it by its parts
