@@ -1,13 +1,11 @@
 -- Operations that are begun and done as far as they go at once.
-use Rattle.vfs_gates.proofs.Prelude.{DealtNumbers, Err, GateError, Go, HookAnswer, Next, None, Ok, Op, OpUnderWay, Option, Phase, Reply, Result}
-use Rattle.vfs_gates.proofs.Prelude.{SeatedTask, Some, [], ap, refl, refusal_at, subst, sym, ◌≡◌}
-use Rattle.vfs_gates.specs.AtOnce.{BeginsAtOnce}
-use Rattle.freeze_levels.specs.declared.hooks.HookCall.{HookCall}
-use Rattle.gate_world.specs.declared.accesses.Accesses.{Accesses}
+use Rattle.vfs_gates.proofs.Prelude.{Accesses, DealtNumbers, Err, GateError, Go, HookAnswer, HookCall, Next, None, Ok, Op, OpUnderWay, Option, Phase}
+use Rattle.vfs_gates.proofs.Prelude.{Reply, Result, SeatedTask, Some, [], ap, refl, refusal_at, subst, sym, ◌≡◌}
 use Rattle.gate_steps.proofs.call_events.{Running.{admitted_some, refused_as, refused_none}, Turning.unasked}
 use Rattle.gate_steps.specs.call_events.{Answers.unless_refused, Asking.OpUnderWayWith, Led.{Led, LedAsking, TaskSeat, seated_at}, Progress.Progress}
 use Rattle.gate_steps.specs.call_events.{Progress.TheVariants.{Done, Going, Idle, Waiting}, Runs.ProgressMatches, Waited.OpAfterStepWaiting}
 use Rattle.gate_steps.specs.declared.call_events.words.GateWords.{GateWords}
+use Rattle.vfs_gates.specs.AtOnce.{BeginsAtOnce}
 
 -- an operation went where the steps of a line have led
 module _ {gates : GateWords} {begins : Option Op} {accesses accesses_left : Accesses} {first : Phase} {next : Next Phase} {seat left : TaskSeat}

@@ -1,16 +1,14 @@
 -- A call that begins an operation and does its steps on what the task keeps, and what it writes down at the end.
-use Rattle.vfs_gates.proofs.Prelude.{Bool, Called, Config, Done, Err, GateError, GhostAgrees, Go, HookAnswer, List, Next, None, Numbered, Ok, Op}
-use Rattle.vfs_gates.proofs.Prelude.{OpUnderWay, Option, Phase, Reply, Result, SeatedTask, Some, TaskState, Wait, [], ap, false, is_some, own_number}
-use Rattle.vfs_gates.proofs.Prelude.{own_view, phase_after, refl, refusal_at, subst, sym, task_state, ℕ, ◌∙◌, ◌∷◌, ◌≡◌}
-use Rattle.vfs_gates.{proofs.Admitting.{admitted_by, admitted_unless, first_by, first_so}, specs.TaskStates.beginning_at}
-use Rattle.vfs_gates.specs.declared.task.Task.TheInside.{Inside}
+use Rattle.vfs_gates.proofs.Prelude.{Accesses, Bool, Called, Config, Done, Err, GateError, GhostAgrees, Go, HookAnswer, HookCall, List, Next, None}
+use Rattle.vfs_gates.proofs.Prelude.{Numbered, Ok, Op, OpUnderWay, Option, Phase, Reply, Result, SeatedTask, Some, TableId, TaskState, Wait, [], ap}
+use Rattle.vfs_gates.proofs.Prelude.{false, first_phase, held_of, is_some, own_number, own_view, phase_after, refl, refusal_at, state_at, subst, sym}
+use Rattle.vfs_gates.proofs.Prelude.{task_state, ℕ, ◌∙◌, ◌∷◌, ◌≡◌}
 use Rattle.gate_steps.proofs.call_events.{Beginnings.{MayBegin, first_fits, may_begin}, Running.{not_refused, starts_asking_none}}
 use Rattle.gate_steps.specs.call_events.{Answers.unless_refused, Asking.{CalledAsking, OpUnderWayWith}, GhostAgrees.{OwnNumberAgrees, PhaseOk}}
-use Rattle.gate_steps.specs.call_events.{Seating.DealtNumbers, Turns.{AgreesAfter, StateAgrees, state_at}, Waited.OpAfterStepWaiting}
-use Rattle.gate_steps.specs.declared.seating.Knowledge.{Knowledge}
-use Rattle.gate_world.specs.{Beginnings.{first_phase, refusal}, Fits.Fits, Views.held_of, declared.accesses.Accesses.Accesses}
-use Rattle.atomic_table.specs.Seated.{TableId}
-use Rattle.freeze_levels.specs.declared.hooks.HookCall.{HookCall}
+use Rattle.gate_steps.specs.call_events.{Seating.DealtNumbers, Turns.{AgreesAfter, StateAgrees}, Waited.OpAfterStepWaiting}
+use Rattle.{gate_steps.specs.declared.seating.Knowledge.Knowledge, gate_world.specs.{Beginnings.refusal, Fits.Fits}}
+use Rattle.vfs_gates.{proofs.Admitting.{admitted_by, admitted_unless, first_by, first_so}, specs.TaskStates.beginning_at}
+use Rattle.vfs_gates.specs.declared.task.Task.TheInside.{Inside}
 
 -- an option that has nothing in it
 none_of : (o : Option Phase) → is_some o ≡ false → o ≡ None

@@ -1,11 +1,10 @@
 -- Callbacks by a task that is idle, or isn't.
-use Rattle.vfs_gates.proofs.Prelude.{Bool, Called, Config, Err, GateError, IsAsBefore, IsHonestAnswer, List, None, Ok, Option, Reply, Result}
-use Rattle.vfs_gates.proofs.Prelude.{SeatedTask, Some, Traced, arith, is_some, lt-ltb, refl, refusal_at, subst, sym, told_as, true, ℕ, ◌∙◌, ◌≡◌, ◌≤◌}
-use Rattle.vfs_gates.{proofs.Holding.{as_before_twice, keeps}, specs.{Settled.{Settles, SettlesLevel}, TaskStates.IsIdle}}
-use Rattle.std.specs.Prelude.{IfOk, OnOk}
+use Rattle.vfs_gates.proofs.Prelude.{Bool, Callback, Called, Config, Err, GateError, IsAsBefore, IsHonestAnswer, IsIdle, List, None, Ok, Option}
+use Rattle.vfs_gates.proofs.Prelude.{Replies, Reply, Result, SeatedTask, Some, Traced, arith, is_some, lt-ltb, refl, refusal_at, subst, sym}
+use Rattle.vfs_gates.proofs.Prelude.{the_reply, told_as, true, ℕ, ◌∙◌, ◌≡◌, ◌≤◌}
 use Rattle.access_model.specs.declared.errors.GateError.TheVariants.{Order}
-use Rattle.gate_world.specs.declared.operations.Op.TheVariants.{Callback}
-use Rattle.gate_steps.{proofs.call_events.Running.ran_told, specs.call_events.Runs.{IsRanReply, Replies, ran_of, the_reply}}
+use Rattle.{gate_steps.{proofs.call_events.Running.ran_told, specs.call_events.Runs.{IsRanReply, ran_of}}, std.proofs.Common.{IfOk, OnOk}}
+use Rattle.vfs_gates.{proofs.Holding.{as_before_twice, keeps}, specs.Settled.{Settles, SettlesLevel}}
 
 module _ (level : ℕ) (old left : SeatedTask) (low : 1 ≤ level) (high : level ≤ 3) where
   begins : IsIdle old → refusal_at (Callback level) old ≡ None

@@ -1,17 +1,16 @@
 -- What whole calls leave of what a task holds.
-use Rattle.vfs_gates.proofs.Prelude.{Action, AreMoves, Bool, Called, ChangeMount, Config, Done, Entry, Err, Freeze, GateError, Go, Grant, IsAsBefore}
-use Rattle.vfs_gates.proofs.Prelude.{List, Next, None, Ok, Op, Option, Phase, RemountSb, Reply, Rests, Result, SeatedTask, Some, Traced, Wait, Want}
-use Rattle.vfs_gates.proofs.Prelude.{WantWrite, WordName, [], actions_of, ap, cases_Bool, false, inl, inr, own_actions, own_number, own_view}
+use Rattle.vfs_gates.proofs.Prelude.{Action, AreMoves, Bool, Called, ChangeMount, Close, Config, Done, Entry, Err, Freeze, GateError, Go, Grant}
+use Rattle.vfs_gates.proofs.Prelude.{IsAsBefore, IsIdle, List, Next, Node, None, Ok, Op, Option, Phase, RemountSb, Replies, Reply, Rests, Result}
+use Rattle.vfs_gates.proofs.Prelude.{SbRo, SbRw, SeatedTask, Some, Start, Thaw, Touch, Traced, Wait, Want, WantWrite, WordName, [], actions_of, ap}
+use Rattle.vfs_gates.proofs.Prelude.{cases_Bool, false, found_read_only, found_sealed, has_flag, inl, inr, own_actions, own_number, own_view}
 use Rattle.vfs_gates.proofs.Prelude.{ran_items, refl, refusal_at, state_of_trace, subst, sym, told_as, true, true≢false, ℕ, ◌++◌, ◌<◌, ◌∙◌, ◌∷◌, ◌≡◌}
-use Rattle.vfs_gates.specs.{Held.takes_nothing, TaskStates.IsIdle}
-use Rattle.gate_world.specs.{Holdings.{Holdings, held_after, holdings_of}, Operations.all_levels_closed, declared.operations.Op.TheVariants.Close}
-use Rattle.gate_world.specs.{declared.operations.Op.TheVariants.{Create, DropMount, DropWrite, End, Open, Start, Thaw}, traces.Found.clean_found}
-use Rattle.gate_world.specs.traces.Found.{cleans, found_complete, found_read_only, found_sealed, found_shared}
-use Rattle.access_model.specs.declared.actions.Action.TheVariants.{Clean, Close as CloseAction, Leave, Open as OpenAction, Pass, Return, SbRo, SbRw}
+use Rattle.access_model.specs.declared.actions.Action.TheVariants.{Clean, Close as CloseAction, Leave, Open as OpenAction, Pass, Return}
 use Rattle.access_model.specs.declared.{actions.Action.TheVariants.Stage as StageAction, replies.Reply.TheVariants.Node as NodeReply}
-use Rattle.cpu_words.specs.declared.{events.Touch.{TheVariants.And, Touch}, names.WordName.TheVariants.Node}
-use Rattle.mount_counts.specs.Phases.{has_flag}
-use Rattle.gate_steps.{proofs.call_events.Asked.either_way, specs.call_events.{Runs.{IsNextMove, Replies}, Seating.DealtNumbers}}
+use Rattle.{cpu_words.specs.declared.events.Touch.TheVariants.And, gate_steps.proofs.call_events.Asked.either_way}
+use Rattle.{gate_steps.specs.call_events.{Runs.IsNextMove, Seating.DealtNumbers}, gate_world.specs.Holdings.{Holdings, held_after, holdings_of}}
+use Rattle.gate_world.specs.{Operations.all_levels_closed, declared.operations.Op.TheVariants.{Create, DropMount, DropWrite, End, Open}}
+use Rattle.gate_world.specs.traces.Found.{clean_found, cleans, found_complete, found_shared}
+use Rattle.vfs_gates.specs.Held.{takes_nothing}
 
 -- an action that is neither a grant nor a return, and neither opens nor closes a file
 abbrev is_free : Action → Bool

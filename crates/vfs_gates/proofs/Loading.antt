@@ -1,20 +1,17 @@
 -- A snapshot whose steps stand in a line: where they lead, and what its task notes of them.
-use Rattle.vfs_gates.proofs.Prelude.{Bool, BufferWords, BuffersMatch, Config, DealtNumbers, Done, Event, GateError, Go, List, Next, None, Ok, Op}
-use Rattle.vfs_gates.proofs.Prelude.{Option, Phase, Reply, Result, Some, TreeWords, Trees, after_of, ap, arith, at_snapshot, event_of, false}
-use Rattle.vfs_gates.proofs.Prelude.{if◌then◌else◌, is_some, length, map_next, not, phase_after, refl, snapshot_at, subst, sym, true, ℕ, ◌<◌, ◌∙◌}
-use Rattle.vfs_gates.proofs.Prelude.{◌≡◌, ◌≤◌}
-use Rattle.vfs_gates.proofs.{Calling.{Call, idle, items_of, not_begun, same}, Noting.follows_taking, Taking.adds_none, Waiting.has_number}
-use Rattle.vfs_gates.specs.{Buffers.{after_noting, completed, with_words}, Noted.{Noted, with_kids, with_nodes}}
-use Rattle.std.{proofs.{Common.◌-◌, lemmas.Bool.Decides.nat_tests}, specs.Prelude.slice_set as set}
-use Rattle.access_model.specs.declared.replies.Reply.TheVariants.{Tree as TreeReply}
-use Rattle.node_words.specs.Nodes.{node_after, unpacked}
+use Rattle.vfs_gates.proofs.Prelude.{Accesses, Bool, BufferWords, BuffersMatch, Config, DealtNumbers, Done, Event, GateError, Go, List, LoadsKids}
+use Rattle.vfs_gates.proofs.Prelude.{LoadsNode, LoadsStage, LoadsUsed, Locks, Next, None, Ok, Op, Option, Phase, Releases, Reply, Result, Some}
+use Rattle.vfs_gates.proofs.Prelude.{TreeWords, Trees, after_of, ap, arith, at_snapshot, completed, event_of, false, first_phase, if◌then◌else◌}
+use Rattle.vfs_gates.proofs.Prelude.{is_some, items_after, length, map_next, not, phase_after, refl, snapshot_at, state_at, subst, sym, true}
+use Rattle.vfs_gates.proofs.Prelude.{unpacked, with_words, ℕ, ◌-◌, ◌<◌, ◌∙◌, ◌≡◌, ◌≤◌}
+use Rattle.{access_model.specs.declared.replies.Reply.TheVariants.Tree as TreeReply, gate_steps.proofs.call_events.Leading.{led_nowhere, led_on}}
+use Rattle.gate_steps.specs.{call_events.{Led.{Led, Stands, TaskSeat}, Turns.StateAgrees}, declared.call_events.words.GateWords.GateWords}
+use Rattle.gate_world.specs.{Accesses.accesses_after, declared.operations.Op.TheVariants.Snapshot as SnapshotOp}
 use Rattle.gated_tree.specs.{Phases.{kids_step, node_step, snapshot_next}, declared.phases.TreePhase.TheVariants.Snapshot as Snapshots}
-use Rattle.gated_tree.specs.declared.snapshots.{Snapshot.Snapshot, SnapshotStep.TheVariants.{LoadsKids, LoadsNode, LoadsStage, LoadsUsed, Locks}}
-use Rattle.gated_tree.specs.declared.snapshots.SnapshotStep.TheVariants.{Releases}
-use Rattle.gate_world.specs.{Accesses.accesses_after, Beginnings.first_phase, declared.accesses.Accesses.Accesses}
-use Rattle.gate_world.specs.declared.operations.Op.TheVariants.{Snapshot as SnapshotOp}
-use Rattle.gate_steps.{proofs.call_events.Leading.{led_nowhere, led_on}, specs.{Seating.items_after, call_events.Led.{Led, Stands, TaskSeat}}}
-use Rattle.gate_steps.specs.{call_events.Turns.{StateAgrees, state_at}, declared.call_events.words.GateWords.GateWords}
+use Rattle.{gated_tree.specs.declared.snapshots.Snapshot.Snapshot, node_words.specs.Nodes.node_after}
+use Rattle.std.proofs.{Common.slice_set as set, lemmas.Bool.Decides.nat_tests}
+use Rattle.vfs_gates.proofs.{Calling.{Call, idle, items_of, not_begun, same}, Noting.follows_taking, Taking.adds_none, Waiting.has_number}
+use Rattle.vfs_gates.specs.{Buffers.after_noting, Noted.{Noted, with_kids, with_nodes}}
 
 pub taking_leaves : (accesses : Accesses) (s : Snapshot) (found : ℕ) →
     accesses ≡ accesses_after accesses (after_of (Trees (Snapshots s)) found (Ok tt)).1

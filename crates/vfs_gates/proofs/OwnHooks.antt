@@ -1,7 +1,6 @@
 -- What a file system's own hooks were asked by way of hooks that ask them.
-use Rattle.vfs_gates.proofs.Prelude.{DealtNumbers, GateError, HookAnswer, List, None, Op, Option, Result, SeatedTask, Some, [], ap, refl, refusal_at}
-use Rattle.vfs_gates.proofs.Prelude.{subst, sym, ◌∙◌, ◌∷◌, ◌≡◌}
-use Rattle.freeze_levels.specs.declared.hooks.HookCall.{HookCall}
+use Rattle.vfs_gates.proofs.Prelude.{DealtNumbers, GateError, HookAnswer, HookCall, List, None, Op, Option, Result, SeatedTask, Some, [], ap, refl}
+use Rattle.vfs_gates.proofs.Prelude.{refusal_at, subst, sym, ◌∙◌, ◌∷◌, ◌≡◌}
 use Rattle.gate_steps.specs.call_events.Asking.{Ask, PerformsAsking, WereAsked, asks_of}
 
 -- the hooks that ask, with the file system's own in them, under a name that stays

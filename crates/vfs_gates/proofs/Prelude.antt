@@ -1,28 +1,38 @@
 -- What many of the proofs of this crate take, by one name each. Nothing of the proofs themselves is passed on here.
-pub use Rattle.access_model.specs.{Histories.{IsLegal, end_of, own_part}, Replies.map_next, States.{Limits, State}, declared.actions.Action.Action}
-pub use Rattle.access_model.specs.declared.actions.{Action.TheVariants.Grant, Gate.{Gate, TheVariants.{Level, Mount}}, Holder.Holder}
-pub use Rattle.access_model.specs.declared.{errors.GateError.GateError, replies.{Next.{Next, TheVariants.{Done, Go, Wait}}, Reply.Reply}}
-pub use Rattle.cpu_words.specs.{Hooks.HookAnswer, Touches.event_of, Words.read, declared.{events.Event.Event, names.WordName.WordName}}
-pub use Rattle.gate_schedules.proofs.schedules.HeadlineProof.{whole_run}
-pub use Rattle.gate_steps.proofs.call_events.{Effects.call_effect, Grown.{after_more, only, stays_seen_on}, Moments.{actions_append, part_more}}
-pub use Rattle.gate_steps.specs.Seating.{DealtNumbers, HaveHistory, IsPrefix, deal, done_by, given_of, kept_of, times, view_in}
-pub use Rattle.gate_steps.specs.call_events.{GhostAgrees.GhostAgrees, Grown.{HasSeen, StaySeen}, Runs.{AreMoves, Called, OpUnderWay, Performs}}
-pub use Rattle.gate_steps.specs.call_events.{Runs.{ran_items, told_as, unit_of}, Spans.{IsEventDuring, TakesEffect}, TaskState.TaskState}
-pub use Rattle.gate_steps.specs.declared.seating.Numbered.{Numbered}
-pub use Rattle.gate_world.specs.{Configs.{IsWithin, model_limits}, Headline.{actions_since, actions_so_far, world_after}, Shown.shown}
-pub use Rattle.gate_world.specs.{Views.phase_after, Work.{after_of, next_of}, Worlds.World, declared.{config.Config.Config, entries.Entry.Entry}}
-pub use Rattle.gate_world.specs.declared.{entries.Entry.TheVariants.Steps, operations.Op.{Op, TheVariants.{ChangeMount, Freeze, RemountSb, Want}}}
-pub use Rattle.gate_world.specs.declared.{operations.Op.TheVariants.WantWrite, views.{Traced.Traced, View.View}, work.Phase.Phase}
-pub use Rattle.gate_world.specs.{declared.work.Phase.TheVariants.Trees, traces.{Found.is_load, TraceStates.state_of_trace, Traces.IsHonestAnswer}}
-pub use Rattle.gate_world.specs.traces.Traces.{actions_of}
-pub use Rattle.gated_tree.specs.{Phases.at_snapshot, declared.trees.TreeWords.TreeWords}
-pub use Rattle.std.proofs.Common.{Bool, Err, List, None, Ok, Some, [], ap, arith, false, get_or, inl, inr, length, lt-ltb, refl, subst, suc, sym}
-pub use Rattle.std.proofs.{Common.{true, true≢false, zero, ℕ, ◌++◌, ◌+◌, ◌<◌, ◌∙◌, ◌∷◌, ◌≡◌, ◌≤◌, ◌⊎◌}, lemmas.Bool.{Decides.eqb_tells, and_parts}}
-pub use Rattle.std.{proofs.lemmas.{Bool.cases_Bool, List.{append-nil, append_assoc}}, specs.Prelude.{Option, Result, if◌then◌else◌, is_some, not}}
-pub use Rattle.std.specs.Prelude.{◌==◌}
-pub use Rattle.vfs_gates.specs.{Buffers.{BufferWords, BuffersMatch, words_in}, Ended.EndedWith, Held.{IsAsBefore, Rests, own_actions}}
-pub use Rattle.vfs_gates.specs.{Meetings.{HasDone, NoneIs}, Noted.snapshot_at, Parts.SplitOf, TaskStates.{Empty, SeatedTask, own_number, own_view}}
-pub use Rattle.vfs_gates.specs.TaskStates.{refusal_at, spare_of, task_state}
+pub use Rattle.access_model.specs.{Actions.{IsAllowed, after_action}, Histories.{IsLegal, end_of, mounts_of, own_part}}
+pub use Rattle.access_model.specs.{Holders.{held_by, with_holder}, Replies.map_next, States.{Limits, State}, declared.actions.Action.Action}
+pub use Rattle.access_model.specs.declared.actions.{Action.TheVariants.{Grant, Hold, SbRo, SbRw}, Gate.{Gate, TheVariants.{Level, Mount}}}
+pub use Rattle.access_model.specs.declared.{actions.Holder.Holder, errors.GateError.{GateError, TheVariants.Busy}, replies.Next.Next}
+pub use Rattle.{access_model.specs.declared.replies.{Next.TheVariants.{Done, Go, Wait}, Reply.Reply}, atomic_table.specs.Seated.TableId}
+pub use Rattle.cpu_words.specs.{Hooks.HookAnswer, Names.{place, stride}, Touches.{event_of, found_by}, Words.{Words, read}}
+pub use Rattle.cpu_words.specs.declared.{events.{Event.Event, Touch.Touch}, names.WordName.{TheVariants.Node, WordName}}
+pub use Rattle.{finite_sums.{proofs.Totals.update_at, specs.Sums.total}, freeze_levels.specs.declared.hooks.HookCall.HookCall}
+pub use Rattle.{gate_schedules.proofs.schedules.HeadlineProof.{whole_rule, whole_run}, gate_steps.proofs.call_events.Effects.call_effect}
+pub use Rattle.gate_steps.proofs.call_events.{Giving.view_in-at, Grown.{after_more, only, same_stays_seen, stays_seen_on}, Leading.still_stands}
+pub use Rattle.gate_steps.{proofs.call_events.{Moments.{actions_append, part_more}, Spanning.each_event}, specs.Rules.first_items}
+pub use Rattle.gate_steps.specs.Seating.{DealtNumbers, HaveHistory, HaveViews, IsPrefix, deal, done_by, given_of, items_after, kept_of, numbered}
+pub use Rattle.gate_steps.specs.{Seating.{times, view_in}, call_events.{GhostAgrees.{AllRest, GhostAgrees}, Grown.{HasSeen, StaySeen}, Runs.AreMoves}}
+pub use Rattle.gate_steps.specs.call_events.Runs.{Called, OpUnderWay, Performs, Replies, completed_by, items_at, ran_items, ran_snapshot, the_reply}
+pub use Rattle.gate_steps.specs.call_events.{Runs.{told_as, unit_of}, Spans.{IsEventDuring, TakesEffect}, Stepped.Stepped, TaskState.TaskState}
+pub use Rattle.{gate_steps.specs.{call_events.Turns.state_at, declared.seating.Numbered.Numbered}, gate_world.specs.Beginnings.first_phase}
+pub use Rattle.gate_world.specs.{Configs.{IsWithin, model_limits}, Headline.{actions_since, actions_so_far, world_after}, Shown.shown, Views.held_of}
+pub use Rattle.gate_world.specs.{Views.{opening_view, phase_after}, Work.{after_of, next_of}, Worlds.World, declared.accesses.Accesses.Accesses}
+pub use Rattle.gate_world.specs.declared.{config.Config.Config, entries.Entry.{Entry, TheVariants.{Begins, Steps}}, operations.Op.Op}
+pub use Rattle.gate_world.specs.declared.operations.Op.TheVariants.{Callback, ChangeMount, Close, Freeze, RemountSb, Start, Thaw, Want, WantWrite}
+pub use Rattle.gate_world.specs.declared.{views.{Traced.Traced, View.View}, work.Phase.{Phase, TheVariants.Trees}}
+pub use Rattle.gate_world.specs.traces.{Found.{found_read_only, found_sealed, is_load}, Snapshots.last_snapshot}
+pub use Rattle.gate_world.specs.traces.{TraceStates.{IsTrace, state_of_trace, trace_state_after}, Traces.{IsHonestAnswer, actions_of}}
+pub use Rattle.gated_tree.specs.{Phases.at_snapshot, declared.snapshots.SnapshotStep.TheVariants.{LoadsKids, LoadsNode, LoadsStage, LoadsUsed, Locks}}
+pub use Rattle.gated_tree.specs.declared.{snapshots.SnapshotStep.TheVariants.Releases, trees.TreeWords.TreeWords}
+pub use Rattle.{mount_counts.specs.Phases.has_flag, node_words.specs.Nodes.unpacked, std.proofs.Common.{Bool, Err, IfErr, List, None, Ok, Option}}
+pub use Rattle.std.proofs.Common.{Result, Some, [], ap, arith, cond, eqb, false, get_or, if◌then◌else◌, inl, inr, is_some, length, lt-ltb, not}
+pub use Rattle.std.proofs.Common.{option_map, refl, rules, set, slice_index, subst, suc, sym, true, true≢false, zero, ℕ, ◌%◌, ◌&&◌, ◌*◌, ◌++◌, ◌+◌}
+pub use Rattle.std.proofs.{Common.{◌-◌, ◌<◌, ◌==◌, ◌∙◌, ◌∷◌, ◌≡◌, ◌≤◌, ◌⊎◌}, lemmas.Bool.{Decides.eqb_tells, and_parts, cases_Bool, false≢true}}
+pub use Rattle.std.{proofs.lemmas.{List.{append-nil, append_assoc, append_cancel_right}, Result.err_from_is_err_and}, specs.Slots.slots_items}
+pub use Rattle.vfs_gates.specs.{Buffers.{BufferWords, BuffersMatch, completed, with_words, words_in}, Ended.EndedWith}
+pub use Rattle.vfs_gates.specs.{Held.{IsAsBefore, Rests, own_actions}, Meetings.{Encloses, HasDone, HaveAll, Meets, NoneIs, NoneSince, Seals}}
+pub use Rattle.vfs_gates.specs.{Noted.snapshot_at, Parts.SplitOf}
+pub use Rattle.vfs_gates.specs.{TaskStates.{Empty, IsIdle, SeatedTask, own_number, own_view, refusal_at, spare_of, task_state}, Waits.WaitsTell}
 pub use lib.ListN.{get_elem?}
 pub use mathlib.Core.{Logic.dite, Option.some}
 pub use native.Mathlib.Decide.{ℕ_discrete}

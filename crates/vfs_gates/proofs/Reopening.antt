@@ -1,8 +1,7 @@
 -- A change of a mount to writable, which waits: it is done.
-use Rattle.vfs_gates.proofs.Prelude.{Action, Config, HookAnswer, List, Next, Ok, Op, Phase, Reply, Traced, [], after_of, cases_Bool, false, inl, inr}
-use Rattle.vfs_gates.proofs.Prelude.{refl, state_of_trace, subst, sym, true, ℕ, ◌==◌, ◌∷◌, ◌≡◌}
-use Rattle.mount_counts.specs.{Phases.has_flag, declared.phases.{ChangeStep.ChangeStep, MountPhase.MountPhase}}
-use Rattle.gate_world.specs.traces.TraceStates.{trace_state_after}
+use Rattle.vfs_gates.proofs.Prelude.{Action, Config, HookAnswer, List, Next, Ok, Op, Phase, Reply, Traced, [], after_of, cases_Bool, false, has_flag}
+use Rattle.vfs_gates.proofs.Prelude.{inl, inr, refl, state_of_trace, subst, sym, trace_state_after, true, ℕ, ◌==◌, ◌∷◌, ◌≡◌}
+use Rattle.mount_counts.specs.declared.phases.{ChangeStep.ChangeStep, MountPhase.MountPhase}
 
 -- the change at a step
 abbrev opening : Config → ℕ → ℕ → ChangeStep → Phase

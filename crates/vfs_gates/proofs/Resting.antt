@@ -1,16 +1,13 @@
 -- What calls are of a task that rests.
-use Rattle.vfs_gates.proofs.Prelude.{Bool, Called, ChangeMount, Config, DealtNumbers, Empty, EndedWith, Entry, Err, GateError, GhostAgrees}
-use Rattle.vfs_gates.proofs.Prelude.{IsHonestAnswer, List, None, Ok, Op, Option, Performs, Reply, Rests, Result, SeatedTask, Some, SplitOf, TaskState}
-use Rattle.vfs_gates.proofs.Prelude.{Traced, View, Want, [], ap, arith, deal, false, given_of, kept_of, length, lt-ltb, own_actions, own_number}
-use Rattle.vfs_gates.proofs.Prelude.{own_view, refl, refusal_at, spare_of, subst, suc, sym, task_state, times, told_as, true, true≢false, unit_of}
-use Rattle.vfs_gates.proofs.Prelude.{view_in, zero, ℕ, ◌++◌, ◌<◌, ◌∙◌, ◌∷◌, ◌≡◌, ◌≤◌}
+use Rattle.vfs_gates.proofs.Prelude.{Bool, Busy, Called, ChangeMount, Config, DealtNumbers, Empty, EndedWith, Entry, Err, GateError, GhostAgrees}
+use Rattle.vfs_gates.proofs.Prelude.{HaveViews, IfErr, IsHonestAnswer, List, None, Ok, Op, Option, Performs, Reply, Rests, Result, SeatedTask, Some}
+use Rattle.vfs_gates.proofs.Prelude.{SplitOf, TableId, TaskState, Traced, View, Want, [], ap, arith, cond, deal, eqb, false, given_of, kept_of}
+use Rattle.vfs_gates.proofs.Prelude.{length, lt-ltb, numbered, opening_view, own_actions, own_number, own_view, refl, refusal_at, spare_of, subst}
+use Rattle.vfs_gates.proofs.Prelude.{suc, sym, task_state, times, told_as, true, true≢false, unit_of, view_in, view_in-at, zero, ℕ, ◌++◌, ◌<◌, ◌∙◌}
+use Rattle.vfs_gates.proofs.Prelude.{◌∷◌, ◌≡◌, ◌≤◌}
+use Rattle.{access_model.specs.declared.errors.GateError.TheVariants.{Again, ReadOnly}, gate_steps.specs.Rules.first_known}
 use Rattle.vfs_gates.{proofs.{Holding.{adds, keeps, refused_call_keeps, rests_on}, Parting.rest-at}, specs.TaskStates.IsFrom}
 use Rattle.vfs_gates.specs.declared.gates.Gates.{Gates}
-use Rattle.std.{proofs.Common.{cond, eqb}, specs.Prelude.IfErr}
-use Rattle.access_model.specs.declared.errors.GateError.TheVariants.{Again, Busy, ReadOnly}
-use Rattle.gate_world.specs.Views.{opening_view}
-use Rattle.atomic_table.specs.Seated.{TableId}
-use Rattle.gate_steps.{proofs.call_events.Giving.view_in-at, specs.{Rules.first_known, Seating.{HaveViews, numbered}}}
 
 -- there is a mount and a processor
 pub some_mount : (s : SeatedTask) (g : Gates) → IsFrom s g → 0 < s.config.mounts

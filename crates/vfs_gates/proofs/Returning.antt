@@ -1,14 +1,13 @@
 -- What a return leaves of a task whose access was granted before.
-use Rattle.vfs_gates.proofs.Prelude.{Bool, Called, Config, Err, GateError, Grant, IsAsBefore, IsHonestAnswer, Level, List, Mount, None, Ok, Op}
-use Rattle.vfs_gates.proofs.Prelude.{Option, Performs, Reply, Result, SeatedTask, Some, Traced, Want, WantWrite, and_parts, ap, arith, eqb_tells}
-use Rattle.vfs_gates.proofs.Prelude.{false, inl, inr, is_some, lt-ltb, not, own_actions, own_view, refl, refusal_at, subst, sym, told_as, true}
-use Rattle.vfs_gates.proofs.Prelude.{unit_of, ℕ, ◌+◌, ◌<◌, ◌∙◌, ◌∷◌, ◌≡◌}
-use Rattle.vfs_gates.{proofs.Holding.{adds, stays, unchanged}, specs.{Held.IsGivenBack, TaskStates.IsIdle}}
-use Rattle.std.{proofs.{Common.◌-◌, Math.Path.fun_ext, lemmas.Bool.{ltb-true, not-true}}, specs.Prelude.nat_lt}
-use Rattle.finite_sums.{proofs.Totals.{update_at, update_off}, specs.Sums.update}
-use Rattle.access_model.specs.{Histories.{levels_of, mounts_of}, declared.actions.Action.TheVariants.Return}
-use Rattle.gate_world.specs.{Holdings.{Holdings, held_after, holdings_of}, Views.held_of, declared.operations.Op.TheVariants.{DropMount, DropWrite}}
-use Rattle.gate_steps.proofs.call_events.Beginnings.{MayBegin, may_begin}
+use Rattle.vfs_gates.proofs.Prelude.{Bool, Called, Config, Err, GateError, Grant, IsAsBefore, IsHonestAnswer, IsIdle, Level, List, Mount, None, Ok}
+use Rattle.vfs_gates.proofs.Prelude.{Op, Option, Performs, Reply, Result, SeatedTask, Some, Traced, Want, WantWrite, and_parts, ap, arith, eqb_tells}
+use Rattle.vfs_gates.proofs.Prelude.{false, held_of, inl, inr, is_some, lt-ltb, mounts_of, not, own_actions, own_view, refl, refusal_at, subst, sym}
+use Rattle.vfs_gates.proofs.Prelude.{told_as, true, unit_of, update_at, ℕ, ◌+◌, ◌-◌, ◌<◌, ◌∙◌, ◌∷◌, ◌≡◌}
+use Rattle.access_model.specs.{Histories.levels_of, declared.actions.Action.TheVariants.Return}
+use Rattle.{finite_sums.{proofs.Totals.update_off, specs.Sums.update}, gate_steps.proofs.call_events.Beginnings.{MayBegin, may_begin}}
+use Rattle.gate_world.specs.{Holdings.{Holdings, held_after, holdings_of}, declared.operations.Op.TheVariants.{DropMount, DropWrite}}
+use Rattle.std.proofs.{Common.nat_lt, Math.Path.fun_ext, lemmas.Bool.{ltb-true, not-true}}
+use Rattle.vfs_gates.{proofs.Holding.{adds, stays, unchanged}, specs.Held.IsGivenBack}
 
 -- a call that was done began, and was one whole operation that replied
 pub record WasDone (op : Op) (old left : SeatedTask) : Type 0 where

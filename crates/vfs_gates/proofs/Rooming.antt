@@ -1,23 +1,19 @@
 -- What the room for snapshots tells of a task, as its operation begins and goes on.
 use Rattle.vfs_gates.proofs.Prelude.{Action, Bool, BufferWords, BuffersMatch, Called, Config, DealtNumbers, Done, Entry, Event, GateError}
 use Rattle.vfs_gates.proofs.Prelude.{GhostAgrees, Go, HookAnswer, List, Next, None, Numbered, Op, OpUnderWay, Option, Phase, Reply, Result}
-use Rattle.vfs_gates.proofs.Prelude.{SeatedTask, Some, TaskState, Traced, TreeWords, Trees, View, Wait, [], after_of, ap, arith, deal, done_by}
-use Rattle.vfs_gates.proofs.Prelude.{event_of, false, given_of, kept_of, length, map_next, next_of, own_number, own_view, phase_after, ran_items}
-use Rattle.vfs_gates.proofs.Prelude.{refl, state_of_trace, subst, suc, sym, task_state, true≢false, zero, ℕ, ◌++◌, ◌∙◌, ◌∷◌, ◌≡◌, ◌≤◌}
-use Rattle.vfs_gates.{proofs.Calling.{Call, Left, ended_at, goes_at, idle, own_is}, specs.Buffers.{HasSnapshotRoom, LastTells, NextTells}}
-use Rattle.vfs_gates.specs.Buffers.{is_of_snapshot, last_in, trace_so_far}
-use Rattle.gate_world.specs.{Beginnings.first_phase, declared.{views.Snapshot.Snapshot as Noted, work.Phase.TheVariants.{Callbacks, Closes}}}
-use Rattle.gate_world.specs.declared.work.Phase.TheVariants.{DownReads, Freezes, Mounts, Remounts, Thaws, UpReads, Writes}
-use Rattle.gate_world.specs.traces.{Snapshots.{completes, last_snapshot}, TraceStates.trace_state_after}
-use Rattle.gate_steps.specs.{Rules.first_items, Seating.{items_after, knows}, call_events.{Runs.{completed_by, items_at, ran_snapshot}, Step.Step}}
-use Rattle.gate_steps.specs.call_events.{Stepped.Stepped, Turns.step_was}
-use Rattle.std.specs.Prelude.{option_map}
-use Rattle.cpu_words.specs.Touches.{found_by}
+use Rattle.vfs_gates.proofs.Prelude.{SeatedTask, Some, Stepped, TableId, TaskState, Traced, TreeWords, Trees, View, Wait, [], after_of, ap, arith}
+use Rattle.vfs_gates.proofs.Prelude.{completed_by, deal, done_by, event_of, false, first_items, first_phase, found_by, given_of, items_after}
+use Rattle.vfs_gates.proofs.Prelude.{items_at, kept_of, last_snapshot, length, map_next, next_of, option_map, own_number, own_view, phase_after}
+use Rattle.vfs_gates.proofs.Prelude.{ran_items, ran_snapshot, refl, state_of_trace, subst, suc, sym, task_state, trace_state_after, true≢false, zero}
+use Rattle.vfs_gates.proofs.Prelude.{ℕ, ◌++◌, ◌∙◌, ◌∷◌, ◌≡◌, ◌≤◌}
+use Rattle.{gate_steps.specs.{Seating.knows, call_events.{Step.Step, Turns.step_was}}, gate_world.specs.declared.views.Snapshot.Snapshot as Noted}
+use Rattle.gate_world.specs.declared.work.Phase.TheVariants.{Callbacks, Closes, DownReads, Freezes, Mounts, Remounts, Thaws, UpReads, Writes}
+use Rattle.gate_world.specs.traces.Snapshots.{completes}
 use Rattle.gated_tree.specs.declared.phases.TreePhase.TheVariants.{ClearMarks as TreeClears, Create as Creates, Grow as Grows, Mark as TreeMarks}
 use Rattle.gated_tree.specs.declared.phases.TreePhase.TheVariants.{MoveTo as Moves, OpenFile as OpensOne, Remove as Removes, Snapshot as Snapshots}
-use Rattle.gated_tree.specs.declared.{phases.TreePhase.TreePhase, snapshots.Snapshot.Snapshot as Taking}
-use Rattle.percpu_rwsem.specs.Readers.{up_read_after}
-use Rattle.atomic_table.specs.Seated.{TableId}
+use Rattle.{gated_tree.specs.declared.{phases.TreePhase.TreePhase, snapshots.Snapshot.Snapshot as Taking}, percpu_rwsem.specs.Readers.up_read_after}
+use Rattle.vfs_gates.proofs.Calling.{Call, Left, ended_at, goes_at, idle, own_is}
+use Rattle.vfs_gates.specs.Buffers.{HasSnapshotRoom, LastTells, NextTells, is_of_snapshot, last_in, trace_so_far}
 
 -- what comes next is none
 abbrev pub NextIsOther : Next Phase → Type 0

@@ -1,16 +1,5 @@
 -- Laws for a caller, with the words that its proofs cite them by. Their arguments are found from what its calls ensure.
 pub use Rattle.std.proofs.Common.{ℕ, ◌≤◌, rules}
-use Rattle.vfs_gates.proofs.Prelude.{Bool, DealtNumbers, Empty, EndedWith, Entry, Gate, IsAsBefore, List, None, Ok, Option, Reply, Result, Some}
-use Rattle.vfs_gates.proofs.Prelude.{SplitOf, StaySeen, Traced, View, Want, WantWrite, [], and_parts, ap, arith, false, kept_of, length, own_actions}
-use Rattle.vfs_gates.proofs.Prelude.{own_number, own_view, ran_items, refl, refusal_at, spare_of, subst, suc, sym, times, told_as, true, unit_of}
-use Rattle.vfs_gates.proofs.Prelude.{◌++◌, ◌+◌, ◌<◌, ◌∙◌, ◌∷◌, ◌≡◌}
-use Rattle.vfs_gates.proofs.{Holding.{keeps, rests_on}, Reopening.{Opens, opens}, Resting.{change_begins, first_ends, second_ends}}
-use Rattle.vfs_gates.proofs.{Resting.split_done_nothing, Returning.{done_idle, dropped, may, was_done, written_back}, call_laws.Timing.comes_after}
-use Rattle.vfs_gates.{proofs.several_tasks.Told.own_list, specs.{Held.{IsGivenBack, takes_nothing}, Meetings.SawList, Rounds.granted_in}}
-use Rattle.vfs_gates.specs.declared.gates.Gates.{Gates}
-use Rattle.std.{proofs.{Common.add-zero, lemmas.Bool.{eq-eqb, ltb-true}}, specs.Prelude.nat_lt}
-use Rattle.gate_world.specs.{Views.held_of, declared.operations.Op.TheVariants.{DropMount, DropWrite}}
-use Rattle.gate_steps.{proofs.call_events.Grown.{call_stays_seen, same_stays_seen}, specs.Seating.HaveViews}
 pub use Rattle.atomic_table.specs.Seated.{TableId}
 pub use Rattle.gate_steps.specs.Rules.{first_known}
 pub use Rattle.gate_steps.proofs.call_events.Dealing.{times-append}
@@ -18,6 +7,16 @@ pub use Rattle.gate_world.specs.Configs.{IsWithin}
 pub use Rattle.gate_world.specs.declared.config.Config.{Config}
 pub use Rattle.vfs_gates.specs.Rounds.{GateError, Mount, Op, ChangeMount, Performs, Rests, SeatedTask, IsFrom, ComesAfter, Did, Ended, Granted, refused, round}
 pub use Rattle.vfs_gates.specs.TaskStates.{task_state}
+use Rattle.vfs_gates.proofs.Prelude.{Bool, DealtNumbers, Empty, EndedWith, Entry, Gate, HaveViews, IsAsBefore, List, None, Ok, Option, Reply, Result}
+use Rattle.vfs_gates.proofs.Prelude.{Some, SplitOf, StaySeen, Traced, View, Want, WantWrite, [], and_parts, ap, arith, false, held_of, kept_of}
+use Rattle.vfs_gates.proofs.Prelude.{length, own_actions, own_number, own_view, ran_items, refl, refusal_at, same_stays_seen, spare_of, subst, suc}
+use Rattle.vfs_gates.proofs.Prelude.{sym, times, told_as, true, unit_of, ◌++◌, ◌+◌, ◌<◌, ◌∙◌, ◌∷◌, ◌≡◌}
+use Rattle.{gate_steps.proofs.call_events.Grown.call_stays_seen, gate_world.specs.declared.operations.Op.TheVariants.{DropMount, DropWrite}}
+use Rattle.std.proofs.{Common.{add-zero, nat_lt}, lemmas.Bool.{eq-eqb, ltb-true}}
+use Rattle.vfs_gates.proofs.{Holding.{keeps, rests_on}, Reopening.{Opens, opens}}
+use Rattle.vfs_gates.proofs.Resting.{change_begins, first_ends, second_ends, split_done_nothing}
+use Rattle.vfs_gates.proofs.{Returning.{done_idle, dropped, may, was_done, written_back}, call_laws.Timing.comes_after, several_tasks.Told.own_list}
+use Rattle.vfs_gates.specs.{Held.{IsGivenBack, takes_nothing}, Meetings.SawList, Rounds.granted_in, declared.gates.Gates.Gates}
 
 -- a call that takes nothing leaves a task at rest
 pub rests_after : {op : Op} {old left : SeatedTask} {outcome : Result (Unit {0}) GateError} → takes_nothing op ≡ true → Rests old →

@@ -1,12 +1,11 @@
 -- A task's last snapshot is of a moment of the one history.
 use Rattle.vfs_gates.proofs.Prelude.{Action, Called, Config, DealtNumbers, Entry, GateError, HaveHistory, List, None, Op, Option, Reply, Result}
-use Rattle.vfs_gates.proofs.Prelude.{SeatedTask, Some, Traced, TreeWords, View, [], ap, arith, done_by, length, model_limits, own_number, own_view}
-use Rattle.vfs_gates.proofs.Prelude.{ran_items, refl, spare_of, state_of_trace, subst, ℕ, ◌++◌, ◌∙◌, ◌∷◌, ◌≡◌, ◌≤◌}
-use Rattle.vfs_gates.specs.Seen.{IsOfAMoment}
-use Rattle.gate_world.specs.{Moments.HasMoment, declared.views.Snapshot.Snapshot, traces.Snapshots.last_snapshot}
-use Rattle.freeze_laws.proofs.moments.Frozen.{tells}
+use Rattle.vfs_gates.proofs.Prelude.{SeatedTask, Some, Traced, TreeWords, View, [], ap, arith, completed_by, done_by, last_snapshot, length}
+use Rattle.vfs_gates.proofs.Prelude.{model_limits, own_number, own_view, ran_items, ran_snapshot, refl, spare_of, state_of_trace, subst, ℕ, ◌++◌, ◌∙◌}
+use Rattle.vfs_gates.proofs.Prelude.{◌∷◌, ◌≡◌, ◌≤◌}
+use Rattle.{freeze_laws.proofs.moments.Frozen.tells, gate_world.specs.{Moments.HasMoment, declared.views.Snapshot.Snapshot}}
 use Rattle.gated_tree.specs.Trees.{node_at}
-use Rattle.gate_steps.specs.call_events.Runs.{completed_by, ran_snapshot}
+use Rattle.vfs_gates.specs.Seen.{IsOfAMoment}
 
 -- in any history of a task's numbers
 pub saw_a_moment : (c : Config) (items : DealtNumbers) (last_seen : List (List Entry)) (all : HaveHistory c items last_seen)

@@ -1,13 +1,12 @@
 -- Tasks that are split off, one after the other, take the numbers in their order, and none is refused but for memory.
-use Rattle.vfs_gates.proofs.Prelude.{Config, DealtNumbers, GateError, List, SeatedTask, SplitOf, [], ap, arith, deal, dite, false, given_of, kept_of}
-use Rattle.vfs_gates.proofs.Prelude.{length, own_number, own_view, refl, spare_of, subst, suc, sym, times, true, view_in, zero, ℕ, ℕ_discrete, ◌++◌}
-use Rattle.vfs_gates.proofs.Prelude.{◌+◌, ◌<◌, ◌∙◌, ◌∷◌, ◌≡◌, ◌≤◌}
-use Rattle.vfs_gates.specs.{Parts.SplitRefused, Splitting.{AreNumbered, Gives, HasBegun, HaveDoneNothing}, TaskStates.IsIdle}
-use Rattle.std.proofs.Common.{cond, eqb, ◌≢◌}
-use native.Mathlib.Decide.{dec_lt}
+use Rattle.vfs_gates.proofs.Prelude.{Config, DealtNumbers, GateError, IsIdle, List, SeatedTask, SplitOf, [], ap, arith, cond, deal, dite, eqb, false}
+use Rattle.vfs_gates.proofs.Prelude.{first_items, given_of, kept_of, length, own_number, own_view, refl, spare_of, subst, suc, sym, times, true}
+use Rattle.vfs_gates.proofs.Prelude.{view_in, zero, ℕ, ℕ_discrete, ◌++◌, ◌+◌, ◌<◌, ◌∙◌, ◌∷◌, ◌≡◌, ◌≤◌}
 use Rattle.access_model.specs.declared.errors.GateError.TheVariants.{NoMemory, Order, TooMany}
 use Rattle.gate_steps.proofs.call_events.{Giving.{times-without, times-without_other}, Opening.{times-deal, times-deal_below}}
-use Rattle.gate_steps.specs.{Rules.first_items, Seating.without}
+use Rattle.{gate_steps.specs.Seating.without, std.proofs.Common.◌≢◌}
+use Rattle.vfs_gates.specs.{Parts.SplitRefused, Splitting.{AreNumbered, Gives, HasBegun, HaveDoneNothing}}
+use native.Mathlib.Decide.{dec_lt}
 
 -- the numbers behind the first of so many
 later_dealt : (count k : ℕ) → 1 ≤ k → k < count → times k (spare_of (deal 0 count)) ≡ 1

@@ -1,20 +1,16 @@
 -- What a task tells of its waits, as its operations begin, go on and end.
-use Rattle.vfs_gates.proofs.Prelude.{Action, Bool, ChangeMount, Config, DealtNumbers, Done, Entry, Event, Freeze, GhostAgrees, Go, HookAnswer, List}
-use Rattle.vfs_gates.proofs.Prelude.{Next, None, Op, Option, Phase, RemountSb, SeatedTask, Some, TaskState, Traced, View, Wait, Want, WantWrite, []}
-use Rattle.vfs_gates.proofs.Prelude.{after_of, ap, arith, deal, done_by, event_of, false, given_of, is_some, kept_of, length, next_of, own_number}
-use Rattle.vfs_gates.proofs.Prelude.{own_view, phase_after, ran_items, refl, state_of_trace, subst, suc, sym, task_state, true, true≢false, zero, ℕ}
-use Rattle.vfs_gates.proofs.Prelude.{◌++◌, ◌+◌, ◌∙◌, ◌∷◌, ◌≡◌, ◌≤◌}
-use Rattle.vfs_gates.{proofs.Calling.{Call, Left, same}, specs.Waits.{StandsBy, WaitsTell, counted, is_wait}}
-use Rattle.gate_world.specs.{Views.{begun_view, opening_view, view_after_with_others, with_hook}, declared.accesses.Accesses.Accesses}
-use Rattle.gate_world.specs.{declared.operations.Op.TheVariants.{Callback, Close, Snapshot, Start, Thaw}, traces.TraceStates.TraceState}
-use Rattle.gate_world.specs.traces.Traces.{MayWait, most_events}
-use Rattle.gate_steps.{proofs.call_events.Running.{course_is, same_wait}, specs.{Rules.first_items, Seating.{items_after, knows}}}
-use Rattle.gate_steps.specs.call_events.{GhostAgrees.PhaseOk, Refused.{IsHonestWait, WaitsHonestly}, Runs.{IsBounded, begins_at, items_at}, Step.Step}
-use Rattle.gate_steps.specs.call_events.{Stepped.Stepped, Turns.{state_at, step_was}, Waited.{OpAfterStepWaiting, OpUnderWayWaiting, waits_by}}
-use Rattle.gate_steps.specs.call_events.Waited.{waits_in}
-use Rattle.std.proofs.Common.{add-zero}
-use Rattle.atomic_table.specs.Seated.{TableId}
-use Rattle.cpu_words.specs.Touches.{found_by}
+use Rattle.vfs_gates.proofs.Prelude.{Accesses, Action, Bool, Callback, ChangeMount, Close, Config, DealtNumbers, Done, Entry, Event, Freeze}
+use Rattle.vfs_gates.proofs.Prelude.{GhostAgrees, Go, HookAnswer, List, Next, None, Op, Option, Phase, RemountSb, SeatedTask, Some, Start, Stepped}
+use Rattle.vfs_gates.proofs.Prelude.{TableId, TaskState, Thaw, Traced, View, Wait, WaitsTell, Want, WantWrite, [], after_of, ap, arith, deal, done_by}
+use Rattle.vfs_gates.proofs.Prelude.{event_of, false, first_items, found_by, given_of, is_some, items_after, items_at, kept_of, length, next_of}
+use Rattle.vfs_gates.proofs.Prelude.{opening_view, own_number, own_view, phase_after, ran_items, refl, state_at, state_of_trace, subst, suc, sym}
+use Rattle.vfs_gates.proofs.Prelude.{task_state, true, true≢false, zero, ℕ, ◌++◌, ◌+◌, ◌∙◌, ◌∷◌, ◌≡◌, ◌≤◌}
+use Rattle.gate_steps.{proofs.call_events.Running.{course_is, same_wait}, specs.{Seating.knows, call_events.GhostAgrees.PhaseOk}}
+use Rattle.gate_steps.specs.call_events.{Refused.{IsHonestWait, WaitsHonestly}, Runs.{IsBounded, begins_at}, Step.Step, Turns.step_was}
+use Rattle.gate_steps.specs.call_events.Waited.{OpAfterStepWaiting, OpUnderWayWaiting, waits_by, waits_in}
+use Rattle.gate_world.specs.{Views.{begun_view, view_after_with_others, with_hook}, declared.operations.Op.TheVariants.Snapshot}
+use Rattle.{gate_world.specs.traces.{TraceStates.TraceState, Traces.{MayWait, most_events}}, std.proofs.Common.add-zero}
+use Rattle.vfs_gates.{proofs.Calling.{Call, Left, same}, specs.Waits.{StandsBy, counted, is_wait}}
 
 -- an idle number with no operation has none to tell
 pub tell_none : (c : Config) (t : ℕ) (v : View) → v.op ≡ None → v.phase ≡ None → WaitsTell c t v 0

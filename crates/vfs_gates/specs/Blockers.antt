@@ -1,12 +1,10 @@
 -- What blocks a step that waits, in the state in which it was done.
-use Rattle.std.specs.Prelude.{◌≡◌, ℕ, Some, List, [], ◌∷◌, ◌++◌}
-use mathlib.Core.Option.{some}
+use Rattle.{cpu_words.specs.Hooks.HookAnswer, gate_steps.specs.{Seating.{DealtNumbers, IsPrefix}, call_events.SeatedTasks.own_number}}
+use Rattle.{gate_steps.specs.call_events.Spans.{IsEventDuring, worlds_since}, gate_world.specs.{Headline.world_after, declared.config.Config.Config}}
+use Rattle.gate_world.specs.declared.{entries.Entry.{Entry, TheVariants.Steps}, operations.Op.Op, views.Traced.Traced, work.Phase.Phase}
+use Rattle.{gate_world.specs.refusals.{Causes.{since_begun, trail_of}, Waits.HasCulpritAmong}, std.specs.Prelude.{List, Some, [], ℕ, ◌++◌, ◌∷◌, ◌≡◌}}
 use lib.ListN.{get_elem?}
-use Rattle.cpu_words.specs.Hooks.{HookAnswer}
-use Rattle.gate_world.specs.{Headline.world_after, refusals.{Causes.{since_begun, trail_of}, Waits.HasCulpritAmong}}
-use Rattle.gate_world.specs.declared.entries.Entry.{Entry, TheVariants.{Steps}}
-use Rattle.gate_world.specs.declared.{config.Config.Config, operations.Op.Op, views.Traced.Traced, work.Phase.Phase}
-use Rattle.gate_steps.specs.{Seating.{DealtNumbers, IsPrefix}, call_events.{SeatedTasks.own_number, Spans.{IsEventDuring, worlds_since}}}
+use mathlib.Core.Option.{some}
 
 -- A step of this phase was done right after a schedule that goes on from all that its task had seen, and what its task has seen since is that step. In
 -- the state that the schedule makes the task is at this phase, and what it waits for another has.

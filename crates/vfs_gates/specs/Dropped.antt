@@ -1,14 +1,11 @@
 -- What a dropped task has left, for the steps of others: a task that was dropped takes no step and begins nothing.
-use Rattle.std.specs.Prelude.{◌≡◌, ℕ, Bool, Some, List, [], ◌∷◌, ◌++◌}
-use mathlib.Core.Option.{some}
-use lib.ListN.{get_elem?}
-use Rattle.cpu_words.specs.Hooks.{HookAnswer}
-use Rattle.gate_world.specs.Headline.{world_after}
-use Rattle.gate_world.specs.declared.entries.Entry.{Entry, TheVariants.{Steps}}
-use Rattle.gate_world.specs.declared.{config.Config.Config, work.Phase.Phase}
-use Rattle.gate_schedules.specs.operations.Progress.{IsUnderWay}
-use Rattle.progress_laws.specs.{Answers.{AllAnswerSo, IsPatientWith}, LostForEver.{AreOfOthers, MeetsLost}}
+use Rattle.{cpu_words.specs.Hooks.HookAnswer, gate_schedules.specs.operations.Progress.IsUnderWay}
 use Rattle.gate_steps.specs.{Seating.{DealtNumbers, IsPrefix}, call_events.SeatedTasks.own_number}
+use Rattle.gate_world.specs.{Headline.world_after, declared.{config.Config.Config, entries.Entry.{Entry, TheVariants.Steps}, work.Phase.Phase}}
+use Rattle.progress_laws.specs.{Answers.{AllAnswerSo, IsPatientWith}, LostForEver.{AreOfOthers, MeetsLost}}
+use Rattle.std.specs.Prelude.{Bool, List, Some, [], ℕ, ◌++◌, ◌∷◌, ◌≡◌}
+use lib.ListN.{get_elem?}
+use mathlib.Core.Option.{some}
 
 -- A step of this phase was done right after a schedule that goes on from all that its task had seen, and what its task has seen since is that step. If
 -- in the state that the schedule makes the phase meets what some tasks have left, then its operation has no reply, whatever all others do and

@@ -1,13 +1,10 @@
 -- What is known of the words once no thread shares them.
-use Rattle.std.specs.Prelude.{◌≡◌, ℕ, ◌*◌, ◌<◌, ◌≤◌, None, List, slice_index}
-use Rattle.cpu_words.specs.{Names.{place, stride}, declared.names.WordName.TheVariants.{Used, Node, Kids}, Words.{opening_words}}
-use Rattle.node_words.specs.Nodes.{node_shown}
-use Rattle.gated_tree.specs.Trees.{IsSound}
-use Rattle.gate_world.specs.{declared.config.Config.{Config}, Configs.{IsWithin}, Headline.{world_after}, Worlds.{World}}
-use Rattle.gate_world.specs.declared.entries.Entry.{Entry}
-use Rattle.gate_steps.specs.{Histories.{HasHistory}, Seating.{DealtNumbers, HaveViews, HaveSeen, times}, Rules.{TableShows, Ruled}}
+use Rattle.cpu_words.specs.{Names.{place, stride}, Words.opening_words, declared.names.WordName.TheVariants.{Kids, Node, Used}}
+use Rattle.gate_steps.specs.{Histories.HasHistory, Rules.{Ruled, TableShows}, Seating.{DealtNumbers, HaveSeen, HaveViews, times}}
 use Rattle.gate_steps.specs.call_events.GhostAgrees.{IsStill}
-use Rattle.vfs_gates.specs.TaskStates.{SeatedTask, IsIdle, HoldsNothing}
+use Rattle.gate_world.specs.{Configs.IsWithin, Headline.world_after, Worlds.World, declared.{config.Config.Config, entries.Entry.Entry}}
+use Rattle.{gated_tree.specs.Trees.IsSound, node_words.specs.Nodes.node_shown, std.specs.Prelude.{List, None, slice_index, ℕ, ◌*◌, ◌<◌, ◌≡◌, ◌≤◌}}
+use Rattle.vfs_gates.specs.TaskStates.{HoldsNothing, IsIdle, SeatedTask}
 
 -- the task rests, and each number is its own or its to give
 abbrev pub HasAll : SeatedTask → Type 0

@@ -1,9 +1,8 @@
 -- What a task holds between two calls, and what whole calls leave of it.
-use Rattle.std.specs.Prelude.{◌≡◌, Bool, true, false, Result, Ok, List, ◌∷◌}
-use Rattle.access_model.specs.declared.{actions.{Action.{Action, TheVariants.{Grant, Return}}, Gate.{Gate}}, errors.GateError.{GateError}}
-use Rattle.gate_world.specs.declared.operations.Op.{Op, TheVariants.{Want, DropMount, Start, End, WantWrite, DropWrite, Open, Close}}
-use Rattle.gate_world.specs.Views.{held_of}
-use Rattle.vfs_gates.specs.TaskStates.{SeatedTask, own_number, own_view, IsIdle, HoldsNothing}
+use Rattle.access_model.specs.declared.{actions.{Action.{Action, TheVariants.{Grant, Return}}, Gate.Gate}, errors.GateError.GateError}
+use Rattle.gate_world.specs.{Views.held_of, declared.operations.Op.{Op, TheVariants.{Close, DropMount, DropWrite, End, Open, Start, Want, WantWrite}}}
+use Rattle.std.specs.Prelude.{Bool, List, Ok, Result, false, true, ◌∷◌, ◌≡◌}
+use Rattle.vfs_gates.specs.TaskStates.{HoldsNothing, IsIdle, SeatedTask, own_number, own_view}
 
 -- no operation is under way, and nothing is held
 abbrev pub Rests : SeatedTask → Type 0

@@ -1,13 +1,10 @@
 -- Lines of steps of a snapshot, whose loads its task notes in its buffers, and where they have led.
-use Rattle.std.specs.Prelude.{ℕ, Bool, true, false, List, Option, Some, None, Ok}
-use Rattle.access_model.specs.{Replies.{map_next}, declared.replies.Next.{Next, TheVariants.{Done}}}
-use Rattle.access_model.specs.declared.replies.Reply.TheVariants.{Tree as TreeReply}
-use Rattle.gated_tree.specs.declared.{phases.TreePhase.{TreePhase, TheVariants.{Snapshot as Snapshots}}, snapshots.Snapshot.{Snapshot}}
-use Rattle.gated_tree.specs.declared.snapshots.SnapshotStep.{SnapshotStep, TheVariants.{LoadsNode, LoadsKids, Releases}}
-use Rattle.gated_tree.specs.declared.trees.TreeWords.{TreeWords}
-use Rattle.gate_world.specs.declared.{accesses.Accesses.{Accesses}, operations.Op.{Op}, work.Phase.{Phase}}
-use Rattle.gate_world.specs.{declared.work.Phase.TheVariants.{Trees}, Views.{phase_after}}
-use Rattle.gate_steps.specs.{declared.call_events.words.GateWords.{GateWords}, call_events.Led.{Led, TaskSeat}}
+use Rattle.access_model.specs.{Replies.map_next, declared.replies.{Next.{Next, TheVariants.Done}, Reply.TheVariants.Tree as TreeReply}}
+use Rattle.gate_steps.specs.{call_events.Led.{Led, TaskSeat}, declared.call_events.words.GateWords.GateWords}
+use Rattle.gate_world.specs.{Views.phase_after, declared.{accesses.Accesses.Accesses, operations.Op.Op, work.Phase.{Phase, TheVariants.Trees}}}
+use Rattle.gated_tree.specs.declared.{phases.TreePhase.{TheVariants.Snapshot as Snapshots, TreePhase}, snapshots.Snapshot.Snapshot}
+use Rattle.gated_tree.specs.declared.{snapshots.SnapshotStep.{SnapshotStep, TheVariants.{LoadsKids, LoadsNode, Releases}}, trees.TreeWords.TreeWords}
+use Rattle.std.specs.Prelude.{Bool, List, None, Ok, Option, Some, false, true, ℕ}
 use Rattle.vfs_gates.specs.Buffers.{BufferWords, BuffersMatch, completed, with_words}
 
 -- what comes next of a call at the tree, as phases

@@ -1,8 +1,7 @@
 -- Numbers that go from task to task.
-use Rattle.std.specs.Prelude.{◌≡◌, ℕ, ◌<◌, ◌≤◌}
-use Rattle.access_model.specs.declared.errors.GateError.{GateError, TheVariants.{Order, TooMany, NoMemory}}
-use Rattle.gate_steps.specs.Seating.{times, kept_of, given_of}
-use Rattle.vfs_gates.specs.TaskStates.{SeatedTask, IsIdle, spare_of}
+use Rattle.access_model.specs.declared.errors.GateError.{GateError, TheVariants.{NoMemory, Order, TooMany}}
+use Rattle.{gate_steps.specs.Seating.{given_of, kept_of, times}, std.specs.Prelude.{ℕ, ◌<◌, ◌≡◌, ◌≤◌}}
+use Rattle.vfs_gates.specs.TaskStates.{IsIdle, SeatedTask, spare_of}
 
 -- the lowest number that is left goes to a task of its own, with its view renewed
 pub record SplitOf (old left other : SeatedTask) : Type 0 where

@@ -1,7 +1,6 @@
 -- Callbacks of a level until none is queued.
-use Rattle.std.specs.Prelude.{◌≡◌, ℕ, zero, suc, true, false, Ok}
-use Rattle.gate_world.specs.declared.operations.Op.TheVariants.{Callback}
-use Rattle.gate_steps.specs.call_events.Runs.{Replies, ran_of}
+use Rattle.{gate_steps.specs.call_events.Runs.{Replies, ran_of}, gate_world.specs.declared.operations.Op.TheVariants.Callback}
+use Rattle.std.specs.Prelude.{Ok, false, suc, true, zero, ℕ, ◌≡◌}
 use Rattle.vfs_gates.specs.TaskStates.{SeatedTask}
 
 -- so many callbacks of a level, each of which ran

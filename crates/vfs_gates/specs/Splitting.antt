@@ -1,7 +1,6 @@
 -- What the first task of some gates has to give while tasks are split off, one after the other.
-use Rattle.std.specs.Prelude.{◌≡◌, ℕ, ◌+◌, ◌<◌, ◌≤◌, List, [], ◌∷◌, length}
-use Rattle.gate_steps.specs.Seating.{DealtNumbers, times}
-use Rattle.vfs_gates.specs.TaskStates.{SeatedTask, IsIdle, own_number, own_view, spare_of}
+use Rattle.{gate_steps.specs.Seating.{DealtNumbers, times}, std.specs.Prelude.{List, [], length, ℕ, ◌+◌, ◌<◌, ◌∷◌, ◌≡◌, ◌≤◌}}
+use Rattle.vfs_gates.specs.TaskStates.{IsIdle, SeatedTask, own_number, own_view, spare_of}
 
 -- these have the numbers from this one on, each the next
 abbrev pub AreNumbered : ℕ → List SeatedTask → Type 0

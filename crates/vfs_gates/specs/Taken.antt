@@ -1,11 +1,10 @@
 -- A snapshot's call that answers with its tree.
-use Rattle.std.specs.{Prelude.{◌≡◌, true, Result, Ok, Err, Some, ⊤}, Borrow.{Bor, MutBor, Fml, follows_so}}
+use Rattle.{access_model.specs.declared.errors.GateError.GateError, gate_steps.specs.call_events.Runs.Performs}
+use Rattle.gate_world.specs.declared.{operations.Op.TheVariants.Snapshot as SnapshotOp, views.Snapshot.Snapshot}
+use Rattle.gated_tree.specs.{Trees.words_of, declared.trees.Tree.Tree}
+use Rattle.std.specs.{Borrow.{Bor, Fml, MutBor, follows_so}, Prelude.{Err, Ok, Result, Some, true, ⊤, ◌≡◌}}
+use Rattle.vfs_gates.specs.{TaskStates.{SeatedTask, own_view}, contracts.task.Task.the_row}
 use mathlib.Core.Option.{none}
-use Rattle.access_model.specs.declared.errors.GateError.{GateError}
-use Rattle.gate_world.specs.declared.{operations.Op.TheVariants.{Snapshot as SnapshotOp}, views.Snapshot.{Snapshot}}
-use Rattle.gated_tree.specs.{declared.trees.Tree.{Tree}, Trees.{words_of}}
-use Rattle.gate_steps.specs.call_events.Runs.{Performs}
-use Rattle.vfs_gates.specs.{contracts.task.Task.{the_row}, TaskStates.{SeatedTask, own_view}}
 
 -- the call was done, and the tree is its task's last snapshot; or it was refused so
 abbrev pub TakesTree : SeatedTask → Result (Bor Tree) GateError → SeatedTask → Type 0

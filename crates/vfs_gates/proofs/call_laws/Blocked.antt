@@ -1,16 +1,14 @@
 -- A step that waits finds its blocker in the state in which it is done.
-use Rattle.vfs_gates.proofs.Prelude.{AreMoves, Called, Config, DealtNumbers, Entry, GateError, HookAnswer, IsEventDuring, IsPrefix, List, Next, None}
-use Rattle.vfs_gates.proofs.Prelude.{Numbered, Op, Option, Phase, Reply, Result, Some, Traced, View, Wait, World, [], after_of, ap, append_assoc}
-use Rattle.vfs_gates.proofs.Prelude.{arith, next_of, refl, state_of_trace, subst, sym, world_after, ℕ, ◌++◌, ◌∙◌, ◌∷◌, ◌≡◌}
-use Rattle.vfs_gates.specs.Blockers.{WasBlocked, WasBlockedDuring}
-use Rattle.cpu_words.specs.{Touches.found_by, declared.events.Touch.Touch}
-use Rattle.gate_world.specs.{Worlds.found_at, declared.entries.Entry.TheVariants.Begins, refusals.Waits.HasCulpritAmong}
-use Rattle.gate_world.specs.traces.TraceStates.{TraceState, trace_state_after, trace_state_with}
+use Rattle.vfs_gates.proofs.Prelude.{AreMoves, Begins, Called, Config, DealtNumbers, Entry, GateError, HookAnswer, IsEventDuring, IsPrefix, List}
+use Rattle.vfs_gates.proofs.Prelude.{Next, None, Numbered, Op, Option, Phase, Reply, Result, Some, Stepped, Touch, Traced, View, Wait, World, []}
+use Rattle.vfs_gates.proofs.Prelude.{after_of, ap, append_assoc, arith, each_event, found_by, next_of, refl, state_of_trace, subst, sym}
+use Rattle.vfs_gates.proofs.Prelude.{trace_state_after, world_after, ℕ, ◌++◌, ◌∙◌, ◌∷◌, ◌≡◌}
+use Rattle.{gate_schedules.proofs.schedules.HeadlineProof.whole_waits, gate_steps.{proofs.call_events.Running.course_is, specs.Histories.then_begins}}
+use Rattle.gate_steps.specs.{Seating.{HasWitness, NumberMayStep, entered, world_entered}, call_events.SeatedTasks.{SeatedTask, own_number}}
+use Rattle.gate_steps.specs.call_events.{Spans.HappensAfter, Stepped.ToldIn, Waited.is_wait}
 use Rattle.gate_transitions.specs.{Answers.progress_of, declared.steps.{Progress.TheVariants.Waiting, Step.Step}}
-use Rattle.gate_schedules.proofs.schedules.HeadlineProof.{whole_waits}
-use Rattle.gate_steps.{proofs.call_events.{Running.course_is, Spanning.each_event}, specs.{Histories.then_begins, Seating.HasWitness}}
-use Rattle.gate_steps.specs.{Seating.{NumberMayStep, entered, world_entered}, call_events.{SeatedTasks.{SeatedTask, own_number}, Spans.HappensAfter}}
-use Rattle.gate_steps.specs.call_events.{Stepped.{Stepped, ToldIn}, Waited.is_wait}
+use Rattle.gate_world.specs.{Worlds.found_at, refusals.Waits.HasCulpritAmong, traces.TraceStates.{TraceState, trace_state_with}}
+use Rattle.vfs_gates.specs.Blockers.{WasBlocked, WasBlockedDuring}
 
 -- what comes next is a wait
 waits_so : (next : Next Phase) → progress_of next ≡ Waiting → (again : Phase) × (next ≡ Wait again)

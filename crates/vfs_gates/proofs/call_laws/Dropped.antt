@@ -1,12 +1,10 @@
 -- A step that meets what a dropped task has left.
-use Rattle.vfs_gates.proofs.Prelude.{Config, DealtNumbers, Entry, HookAnswer, List, Op, Option, Phase, Some, View, World, [], ap, subst, sym}
-use Rattle.vfs_gates.proofs.Prelude.{world_after, ℕ, ◌∙◌, ◌∷◌, ◌≡◌}
+use Rattle.vfs_gates.proofs.Prelude.{Config, DealtNumbers, Entry, HookAnswer, List, Op, Option, Phase, Some, Stepped, View, World, [], ap, subst, sym}
+use Rattle.vfs_gates.proofs.Prelude.{whole_rule, world_after, ℕ, ◌∙◌, ◌∷◌, ◌≡◌}
+use Rattle.gate_schedules.specs.operations.Progress.{IsUnderWay}
+use Rattle.gate_steps.{proofs.call_events.Moments.run_append, specs.{Seating.HasWitness, call_events.SeatedTasks.SeatedTask}}
+use Rattle.{gate_transitions.specs.declared.steps.Step.Step, gate_world.specs.Worlds.opening, progress_laws.proofs.blocked.NeverReplies.never_replies}
 use Rattle.vfs_gates.{proofs.call_laws.Blocked.{at_it, on_begins}, specs.Dropped.MeetsDropped}
-use Rattle.gate_world.specs.Worlds.{opening}
-use Rattle.gate_schedules.{proofs.schedules.HeadlineProof.whole_rule, specs.operations.Progress.IsUnderWay}
-use Rattle.gate_transitions.specs.declared.steps.Step.{Step}
-use Rattle.gate_steps.{proofs.call_events.Moments.run_append, specs.{Seating.HasWitness, call_events.{SeatedTasks.SeatedTask, Stepped.Stepped}}}
-use Rattle.progress_laws.proofs.blocked.NeverReplies.{never_replies}
 
 module _ (c : Config) (begins : Option Op) (phase : Phase) (hook : HookAnswer) (found : ℕ) (seen left : List (List Entry)) where
   meets : (items : DealtNumbers) → HasWitness c begins phase hook items found seen left → MeetsDropped c items phase hook seen left

@@ -1,17 +1,15 @@
 -- A freeze that was granted, and waits for nobody, has found nobody: where it found somebody it would have asked whether to wait.
-use Rattle.vfs_gates.proofs.Prelude.{Action, Called, Config, DealtNumbers, Done, Err, GateError, Go, Holder, HookAnswer, List, Next, None, Ok, Op}
-use Rattle.vfs_gates.proofs.Prelude.{Option, Phase, Reply, Result, SeatedTask, Some, Traced, Wait, [], actions_of, ap, inl, inr, refl, state_of_trace}
-use Rattle.vfs_gates.proofs.Prelude.{subst, sym, told_as, unit_of, ℕ, ◌++◌, ◌∙◌, ◌∷◌, ◌≡◌}
+use Rattle.vfs_gates.proofs.Prelude.{Action, Called, Config, DealtNumbers, Done, Err, GateError, Go, Holder, HookAnswer, HookCall, List, Next, None}
+use Rattle.vfs_gates.proofs.Prelude.{Ok, Op, Option, Phase, Reply, Result, SeatedTask, Some, Traced, Wait, [], actions_of, ap, inl, inr, items_at}
+use Rattle.vfs_gates.proofs.Prelude.{option_map, refl, state_of_trace, subst, sym, told_as, unit_of, ℕ, ◌++◌, ◌∙◌, ◌∷◌, ◌≡◌}
+use Rattle.freeze_levels.specs.{Freezes.freeze_hook, declared.freezes.FreezeStep.{FreezeStep, TheVariants.Waits}}
+use Rattle.freeze_levels.specs.declared.hooks.HookCall.TheVariants.{FreezeFs as FreezeCall, KeepWaiting as KeepWaitingCall, Sync as SyncCall}
+use Rattle.{freeze_levels.specs.declared.hooks.HookKind.TheVariants.KeepWaiting, gate_steps.proofs.call_events.FreezeAsks.granted_freeze}
+use Rattle.gate_steps.specs.call_events.{Asked.{AskedByFreeze, HasWaited, OnlyWaited, agreed}, Asking.{Ask, PerformsAsking, WereAsked, asks_of}}
+use Rattle.gate_steps.specs.call_events.{Asking.{asks_with, call_at, call_of, next_call}, SeatedTasks.own_number}
+use Rattle.{gate_world.specs.declared.{operations.Op.TheVariants.Freeze as FreezeOp, work.Phase.TheVariants.Freezes}, std.proofs.Common.append-nil}
 use Rattle.vfs_gates.{proofs.Returning.was_done, specs.FoundNobody.{AskedBothOrNone, FoundAt, FoundNobody, FrozeAtOnce, HasFoundSomebody}}
 use Rattle.vfs_gates.specs.{FoundNobody.WaitsInside, Patience.{IsImpatient, without_patience}}
-use Rattle.std.{proofs.Common.append-nil, specs.Prelude.option_map}
-use Rattle.freeze_levels.specs.{Freezes.freeze_hook, declared.{freezes.FreezeStep.{FreezeStep, TheVariants.Waits}, hooks.HookCall.HookCall}}
-use Rattle.freeze_levels.specs.declared.hooks.HookCall.TheVariants.{FreezeFs as FreezeCall, KeepWaiting as KeepWaitingCall, Sync as SyncCall}
-use Rattle.freeze_levels.specs.declared.hooks.HookKind.TheVariants.{KeepWaiting}
-use Rattle.gate_steps.{proofs.call_events.FreezeAsks.granted_freeze, specs.call_events.Asked.{AskedByFreeze, HasWaited, OnlyWaited, agreed}}
-use Rattle.gate_steps.specs.call_events.{Asking.{Ask, PerformsAsking, WereAsked, asks_of, asks_with, call_at, call_of, next_call}, Runs.items_at}
-use Rattle.gate_steps.specs.call_events.SeatedTasks.{own_number}
-use Rattle.gate_world.specs.declared.{operations.Op.TheVariants.Freeze as FreezeOp, work.Phase.TheVariants.Freezes}
 
 -- who waits for nobody never agrees to wait
 never_agrees : (own : HookAnswer) → IsImpatient own (Ok tt) → ⊥

@@ -2,13 +2,11 @@
 use Rattle.vfs_gates.proofs.Prelude.{Called, Config, DealtNumbers, Entry, Err, Freeze, GateError, Holder, List, None, Ok, Option, Performs, Reply}
 use Rattle.vfs_gates.proofs.Prelude.{Result, SeatedTask, Some, Steps, Traced, World, [], ap, arith, if◌then◌else◌, lt-ltb, own_number, refl}
 use Rattle.vfs_gates.proofs.Prelude.{refusal_at, subst, sym, told_as, unit_of, world_after, ℕ, ◌++◌, ◌∙◌, ◌∷◌, ◌≡◌}
-use Rattle.vfs_gates.specs.Undone.{LeavesNothing}
-use Rattle.access_model.specs.declared.errors.GateError.TheVariants.{Hook}
-use Rattle.gate_transitions.specs.{Answers.{idle_step, phase_step, progress_of, step_answer}, declared.steps.{Progress.TheVariants.Done, Step.Step}}
-use Rattle.gate_schedules.proofs.schedules.Runs.{run_more}
-use Rattle.gate_world.specs.Worlds.{opening}
+use Rattle.{access_model.specs.declared.errors.GateError.TheVariants.Hook, gate_schedules.proofs.schedules.Runs.run_more}
 use Rattle.gate_steps.{proofs.call_events.Caused.call_caused_during, specs.call_events.Spans.{HasItsCauseDuring, IsCausedDuring}}
-use Rattle.progress_laws.{proofs.Undone.fails_undone, specs.Undone.IsUndone}
+use Rattle.gate_transitions.specs.{Answers.{idle_step, phase_step, progress_of, step_answer}, declared.steps.{Progress.TheVariants.Done, Step.Step}}
+use Rattle.{gate_world.specs.Worlds.opening, progress_laws.{proofs.Undone.fails_undone, specs.Undone.IsUndone}}
+use Rattle.vfs_gates.specs.Undone.{LeavesNothing}
 
 module _ (c : Config) (items : DealtNumbers) (holder : Holder) (code : ℕ) (seen gone : List (List Entry)) where
   -- the last step is the one that answers so

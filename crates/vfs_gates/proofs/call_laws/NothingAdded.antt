@@ -1,27 +1,25 @@
 -- A call that was done and added nothing found at its last step that there was nothing to do.
-use Rattle.vfs_gates.proofs.Prelude.{Action, AreMoves, Bool, Called, ChangeMount, Config, DealtNumbers, Done, Entry, Err, Event, GateError, Go}
-use Rattle.vfs_gates.proofs.Prelude.{HookAnswer, IsEventDuring, List, Next, Ok, Op, Phase, RemountSb, Reply, Result, SeatedTask, Some, Traced, Wait}
-use Rattle.vfs_gates.proofs.Prelude.{WordName, World, [], actions_of, after_of, and_parts, ap, arith, at_snapshot, cases_Bool, eqb_tells, false, inl}
-use Rattle.vfs_gates.proofs.Prelude.{inr, is_load, is_some, next_of, not, own_actions, phase_after, read, refl, shown, state_of_trace, subst, suc}
-use Rattle.vfs_gates.proofs.Prelude.{sym, true, world_after, ℕ, ◌+◌, ◌<◌, ◌==◌, ◌∙◌, ◌∷◌, ◌≡◌, ◌⊎◌}
-use Rattle.vfs_gates.{proofs.{Holding.adds, several_tasks.{Enclosed.read_only_found, FrozenUntilThawed.load_finds}}, specs.FoundSo.IsSo}
-use Rattle.vfs_gates.specs.FoundSo.{WasSoDuring}
-use Rattle.std.{proofs.lemmas.{Bool.{eq-eqb, false≢true}, List.append_cancel_right}, specs.Prelude.{◌&&◌, ◌||◌}}
+use Rattle.vfs_gates.proofs.Prelude.{Action, AreMoves, Bool, Callback, Called, ChangeMount, Close, Config, DealtNumbers, Done, Entry, Err, Event}
+use Rattle.vfs_gates.proofs.Prelude.{GateError, Go, HookAnswer, IsEventDuring, IsTrace, List, Next, Ok, Op, Phase, RemountSb, Reply, Result}
+use Rattle.vfs_gates.proofs.Prelude.{SeatedTask, Some, Thaw, Traced, Wait, WordName, Words, World, [], actions_of, after_of, and_parts, ap}
+use Rattle.vfs_gates.proofs.Prelude.{append_cancel_right, arith, at_snapshot, cases_Bool, eqb_tells, false, false≢true, first_phase, found_sealed}
+use Rattle.vfs_gates.proofs.Prelude.{has_flag, held_of, inl, inr, is_load, is_some, next_of, not, own_actions, phase_after, read, refl, shown}
+use Rattle.vfs_gates.proofs.Prelude.{state_of_trace, subst, suc, sym, trace_state_after, true, unpacked, whole_rule, world_after, ℕ, ◌&&◌, ◌+◌, ◌<◌}
+use Rattle.vfs_gates.proofs.Prelude.{◌==◌, ◌∙◌, ◌∷◌, ◌≡◌, ◌⊎◌}
 use Rattle.access_model.specs.declared.replies.Reply.TheVariants.{Ran}
-use Rattle.cpu_words.specs.{Words.Words, declared.names.WordName.TheVariants.{MountFlags, SbFlags, Sync}}
-use Rattle.mount_counts.{proofs.laws.Bits.read_only_clear, specs.{Phases.has_flag, Roles.ro_bit, declared.phases.ChangeStep.ChangeStep}}
-use Rattle.mount_counts.specs.declared.remounts.RemountStep.{RemountStep}
-use Rattle.percpu_rwsem.specs.SyncWords.{unpack}
-use Rattle.node_words.specs.Nodes.{unpacked}
-use Rattle.gated_tree.specs.declared.{phases.TreePhase.TreePhase, snapshots.SnapshotStep.SnapshotStep}
-use Rattle.gate_world.specs.{Beginnings.first_phase, Fits.Fits, Operations.first_snapshot, Owners.last_left, Rules.{AtMount, Fitting, IsGood, Known}}
-use Rattle.gate_world.specs.{Rules.{Owner, Stages, owns, remounts}, Views.{actions_after, held_of, with_hook}}
-use Rattle.gate_world.specs.{declared.operations.Op.TheVariants.{Callback, Close, Create, Snapshot, Thaw}, traces.Found.{found_dropped, found_sealed}}
-use Rattle.gate_world.specs.traces.{Found.{found_shared, none_queued, says_none_queued}, TraceStates.{IsEventOf, IsNext, IsTrace, TraceState}}
-use Rattle.gate_world.specs.traces.{TraceStates.{trace_state_after, trace_state_with}, Traces.ReplyMatchesTrace}
-use Rattle.gate_schedules.proofs.{frames.Owners.no_remount, operations.change.Trace.change, schedules.HeadlineProof.{whole_rule, whole_snapshots}}
-use Rattle.gate_schedules.proofs.traces.{Moments.or_true, TraceInvariant.event_at}
-use Rattle.gate_steps.{proofs.call_events.{Running.course_is, Spanning.last_event}, specs.call_events.{SeatedTasks.own_number, Spans.HappensAfter}}
+use Rattle.{cpu_words.specs.declared.names.WordName.TheVariants.{MountFlags, SbFlags, Sync}, gate_schedules.proofs.frames.Owners.no_remount}
+use Rattle.gate_schedules.proofs.{operations.change.Trace.change, schedules.HeadlineProof.whole_snapshots, traces.Moments.or_true}
+use Rattle.{gate_schedules.proofs.traces.TraceInvariant.event_at, gate_steps.proofs.call_events.{Running.course_is, Spanning.last_event}}
+use Rattle.{gate_steps.specs.call_events.{SeatedTasks.own_number, Spans.HappensAfter}, gate_world.specs.{Fits.Fits, Operations.first_snapshot}}
+use Rattle.gate_world.specs.{Owners.last_left, Rules.{AtMount, Fitting, IsGood, Known, Owner, Stages, owns, remounts}}
+use Rattle.gate_world.specs.{Views.{actions_after, with_hook}, declared.operations.Op.TheVariants.{Create, Snapshot}}
+use Rattle.gate_world.specs.traces.{Found.{found_dropped, found_shared, none_queued, says_none_queued}, TraceStates.{IsEventOf, IsNext, TraceState}}
+use Rattle.{gate_world.specs.traces.{TraceStates.trace_state_with, Traces.ReplyMatchesTrace}, gated_tree.specs.declared.phases.TreePhase.TreePhase}
+use Rattle.{gated_tree.specs.declared.snapshots.SnapshotStep.SnapshotStep, mount_counts.{proofs.laws.Bits.read_only_clear, specs.Roles.ro_bit}}
+use Rattle.{mount_counts.specs.declared.{phases.ChangeStep.ChangeStep, remounts.RemountStep.RemountStep}, percpu_rwsem.specs.SyncWords.unpack}
+use Rattle.std.proofs.{Common.◌||◌, lemmas.Bool.eq-eqb}
+use Rattle.vfs_gates.proofs.{Holding.adds, several_tasks.{Enclosed.read_only_found, FrozenUntilThawed.load_finds}}
+use Rattle.vfs_gates.specs.FoundSo.{IsSo, WasSoDuring}
 
 -- What is kept of a trace: it holds at the beginning, and each step keeps it.
 module _ (At : List Traced → Phase → List Action → Type 0) (c : Config) (t : ℕ) (op : Op) where

@@ -1,14 +1,12 @@
 -- Whole calls in the order of time.
 use Rattle.vfs_gates.proofs.Prelude.{Action, AreMoves, Bool, Called, Config, DealtNumbers, GateError, List, None, Numbered, Ok, Op, Option, Reply}
 use Rattle.vfs_gates.proofs.Prelude.{Result, SeatedTask, Some, StaySeen, TakesEffect, Traced, TreeWords, View, [], actions_since, actions_so_far, ap}
-use Rattle.vfs_gates.proofs.Prelude.{arith, call_effect, done_by, get_elem?, length, own_number, own_part, own_view, ran_items, refl, some, spare_of}
-use Rattle.vfs_gates.proofs.Prelude.{state_of_trace, subst, suc, sym, ℕ, ◌++◌, ◌∙◌, ◌∷◌, ◌≡◌, ◌≤◌}
-use Rattle.vfs_gates.{proofs.{Seeing.same_own, Taking.replied_one}, specs.Handed.ComesAfter}
+use Rattle.vfs_gates.proofs.Prelude.{arith, call_effect, completed_by, done_by, get_elem?, last_snapshot, length, own_number, own_part, own_view}
+use Rattle.vfs_gates.proofs.Prelude.{ran_items, ran_snapshot, refl, some, spare_of, state_of_trace, subst, suc, sym, ℕ, ◌++◌, ◌∙◌, ◌∷◌, ◌≡◌, ◌≤◌}
 use Rattle.access_model.specs.Histories.{Done}
+use Rattle.gate_steps.{proofs.call_events.{Caused.tree_during, Effects.in_order}, specs.call_events.Spans.{AreInOrder, IsTreeDuring}}
 use Rattle.gate_world.specs.declared.{operations.Op.TheVariants.Snapshot as SnapshotOp, views.Snapshot.Snapshot as Noted}
-use Rattle.gate_world.specs.traces.Snapshots.{last_snapshot}
-use Rattle.gate_steps.{proofs.call_events.{Caused.tree_during, Effects.in_order}, specs.call_events.Runs.{completed_by, ran_snapshot}}
-use Rattle.gate_steps.specs.call_events.Spans.{AreInOrder, IsTreeDuring}
+use Rattle.vfs_gates.{proofs.{Seeing.same_own, Taking.replied_one}, specs.Handed.ComesAfter}
 
 -- calls of one configuration, of which the later one has seen what the earlier one left
 pub calls_in_order : (one two : Op) (old left begins ends : SeatedTask) (answer reply : Result Reply GateError)

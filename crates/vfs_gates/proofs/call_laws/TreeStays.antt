@@ -1,15 +1,14 @@
 -- What a holder has frozen stays, tree and all, until it is thawed.
 use Rattle.vfs_gates.proofs.Prelude.{Action, Bool, Called, Config, DealtNumbers, EndedWith, Entry, Freeze, GateError, HasDone, HasSeen, HaveHistory}
-use Rattle.vfs_gates.proofs.Prelude.{Holder, IsLegal, IsPrefix, List, Ok, Op, Reply, Result, SeatedTask, State, StaySeen, View, [], actions_append}
-use Rattle.vfs_gates.proofs.Prelude.{actions_since, actions_so_far, after_more, ap, end_of, eqb_tells, get_elem?, if◌then◌else◌, inl, inr}
-use Rattle.vfs_gates.proofs.Prelude.{model_limits, only, own_actions, own_number, own_part, own_view, part_more, refl, shown, some, stays_seen_on}
-use Rattle.vfs_gates.proofs.Prelude.{subst, sym, true, ℕ, ◌++◌, ◌<◌, ◌∙◌, ◌∷◌, ◌≡◌}
-use Rattle.vfs_gates.proofs.{Holding.{adds, stays}, several_tasks.{Enclosed.done_there, FrozenUntilThawed.{OnlyThawsBy, by_lists, held_so}}}
-use Rattle.vfs_gates.{proofs.several_tasks.FrozenUntilThawed.only_behind, specs.Frozen.{NeverThaws, holders_of}}
-use Rattle.std.proofs.lemmas.List.{append_cancel_right}
-use Rattle.access_model.{proofs.Frozen.frozen_still, specs.{Histories.Done, Holders.{held_by, with_holder}, Laws.{IsFrozenStill, NeverLeaves}}}
-use Rattle.access_model.specs.declared.actions.{Action.TheVariants.Hold, Holder.TheVariants.{Kernel, User}, Holders.Holders}
+use Rattle.vfs_gates.proofs.Prelude.{Hold, Holder, IsLegal, IsPrefix, List, Ok, Op, Reply, Result, SeatedTask, State, StaySeen, View, []}
+use Rattle.vfs_gates.proofs.Prelude.{actions_append, actions_since, actions_so_far, after_more, ap, append_cancel_right, end_of, eqb_tells, get_elem?}
+use Rattle.vfs_gates.proofs.Prelude.{held_by, if◌then◌else◌, inl, inr, model_limits, only, own_actions, own_number, own_part, own_view, part_more}
+use Rattle.vfs_gates.proofs.Prelude.{refl, shown, some, stays_seen_on, subst, sym, true, with_holder, ℕ, ◌++◌, ◌<◌, ◌∙◌, ◌∷◌, ◌≡◌}
+use Rattle.access_model.{proofs.Frozen.frozen_still, specs.{Histories.Done, Laws.{IsFrozenStill, NeverLeaves}}}
+use Rattle.access_model.specs.declared.actions.{Holder.TheVariants.{Kernel, User}, Holders.Holders}
 use Rattle.gate_steps.proofs.call_events.Grown.{call_stays_seen}
+use Rattle.vfs_gates.proofs.{Holding.{adds, stays}, several_tasks.Enclosed.done_there}
+use Rattle.vfs_gates.{proofs.several_tasks.FrozenUntilThawed.{OnlyThawsBy, by_lists, held_so, only_behind}, specs.Frozen.{NeverThaws, holders_of}}
 
 -- by a history in which only one number leaves, and that one doesn't, nobody leaves
 never_leaves : (h : Holder) (n : ℕ) (log : List Done) → OnlyThawsBy h n log → NeverThaws h (own_part n log) → NeverLeaves h log

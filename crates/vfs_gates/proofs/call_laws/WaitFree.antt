@@ -1,19 +1,17 @@
 -- An operation that waits for nobody ends after few of its own steps.
-use Rattle.vfs_gates.proofs.Prelude.{AreMoves, Called, Config, DealtNumbers, Done, Entry, GateError, Go, IsWithin, List, Next, Ok, Op, OpUnderWay}
-use Rattle.vfs_gates.proofs.Prelude.{Option, Phase, Reply, Result, Some, Traced, Trees, Wait, WordName, [], arith, event_of, length, next_of}
-use Rattle.vfs_gates.proofs.Prelude.{phase_after, refl, state_of_trace, subst, sym, ℕ, ◌<◌, ◌∙◌, ◌∷◌, ◌≡◌, ◌≤◌}
-use Rattle.cpu_words.specs.declared.names.WordName.TheVariants.{Node, Sync}
+use Rattle.vfs_gates.proofs.Prelude.{AreMoves, Called, Config, DealtNumbers, Done, Entry, GateError, Go, IsTrace, IsWithin, List, Next, Node, Ok, Op}
+use Rattle.vfs_gates.proofs.Prelude.{OpUnderWay, Option, Phase, Reply, Result, Some, Traced, Trees, Wait, WordName, [], arith, event_of, length}
+use Rattle.vfs_gates.proofs.Prelude.{next_of, phase_after, refl, state_of_trace, subst, sym, ℕ, ◌<◌, ◌∙◌, ◌∷◌, ◌≡◌, ◌≤◌}
 use Rattle.composite_ops.specs.declared.file_closes.phases.ClosePhase.{ClosePhase, TheVariants.{Enters as EntersLevel, FreesNode}}
 use Rattle.composite_ops.specs.declared.file_closes.phases.ClosePhase.TheVariants.{LoadsFile as CloseLoadsFile, LowersCount}
-use Rattle.node_words.specs.Nodes.{word_of}
-use Rattle.gated_tree.specs.declared.opens.OpenStep.{OpenStep, TheVariants.{LoadsFile as LoadsFileToOpen, OpensFile}}
-use Rattle.gated_tree.specs.declared.phases.TreePhase.TheVariants.{OpenFile as OpensOne}
-use Rattle.percpu_rwsem.specs.Readers.{down_read_next}
-use Rattle.gate_world.specs.{Views.with_hook, declared.work.Phase.TheVariants.Closes, traces.TraceStates.{CloseReadIsValid, IsNext, IsTrace}}
-use Rattle.gate_world.specs.traces.{TraceStates.{OpenReadIsValid, ReadIsValid, WordIsValid}, Traces.{IsShort, MayWait, most_events}}
-use Rattle.gate_transitions.specs.declared.steps.Progress.TheVariants.{Waiting}
-use Rattle.gate_schedules.proofs.operations.AllOperations.{op_keeps}
+use Rattle.{cpu_words.specs.declared.names.WordName.TheVariants.Sync, gate_schedules.proofs.operations.AllOperations.op_keeps}
 use Rattle.gate_steps.{proofs.call_events.Spanning.last_event, specs.call_events.{Runs.ProgressMatches, SeatedTasks.{SeatedTask, own_number}}}
+use Rattle.gate_transitions.specs.declared.steps.Progress.TheVariants.{Waiting}
+use Rattle.gate_world.specs.{Views.with_hook, declared.work.Phase.TheVariants.Closes, traces.TraceStates.{CloseReadIsValid, IsNext, OpenReadIsValid}}
+use Rattle.gate_world.specs.traces.{TraceStates.{ReadIsValid, WordIsValid}, Traces.{IsShort, MayWait, most_events}}
+use Rattle.gated_tree.specs.declared.opens.OpenStep.{OpenStep, TheVariants.{LoadsFile as LoadsFileToOpen, OpensFile}}
+use Rattle.{gated_tree.specs.declared.phases.TreePhase.TheVariants.OpenFile as OpensOne, node_words.specs.Nodes.word_of}
+use Rattle.percpu_rwsem.specs.Readers.{down_read_next}
 
 -- each word may hold some value, and so each step may find one
 word_value : (word : WordName) → (v : ℕ) × WordIsValid word v

@@ -1,12 +1,9 @@
 -- The state of gates that are closed.
-use Rattle.vfs_gates.proofs.Prelude.{Config, DealtNumbers, EndedWith, Entry, List, View, World, ap, arith, deal, refl, subst, suc, sym, times}
-use Rattle.vfs_gates.proofs.Prelude.{view_in, zero, ℕ, ◌<◌, ◌∙◌, ◌≡◌, ◌≤◌}
+use Rattle.vfs_gates.proofs.Prelude.{AllRest, Config, DealtNumbers, EndedWith, Entry, List, View, World, ap, arith, cond, deal, eqb, first_items}
+use Rattle.vfs_gates.proofs.Prelude.{numbered, opening_view, refl, subst, suc, sym, times, view_in, view_in-at, zero, ℕ, ◌<◌, ◌∙◌, ◌≡◌, ◌≤◌}
+use Rattle.gate_steps.{proofs.call_events.{Giving.view_in-is, Opening.times-deal, OperationLaws.by_bool}, specs.Histories.IsReached}
+use Rattle.gate_steps.specs.{Rules.TableShows, Tables.IsClosing, call_events.GhostAgrees.IsStill, declared.seating.Knowledge.Knowledge}
 use Rattle.vfs_gates.{proofs.Parting.rest-at, specs.Ended.{Ended, HasOpeningWords, IsLeftAfter, IsLeftBySchedule}}
-use Rattle.gate_steps.{proofs.call_events.{Giving.{view_in-at, view_in-is}, Opening.times-deal, OperationLaws.by_bool}, specs.Histories.IsReached}
-use Rattle.gate_steps.specs.{Rules.{TableShows, first_items}, Seating.numbered, Tables.IsClosing, call_events.GhostAgrees.{AllRest, IsStill}}
-use Rattle.gate_steps.specs.declared.seating.Knowledge.{Knowledge}
-use Rattle.std.proofs.Common.{cond, eqb}
-use Rattle.gate_world.specs.Views.{opening_view}
 
 -- all numbers are back in a seat whose views rest: so each number rests, and has the view that the seat knows
 pub ended : (c : Config) (k : Knowledge) (ws : List ℕ) → IsClosing c ws k → AllRest c k.items →

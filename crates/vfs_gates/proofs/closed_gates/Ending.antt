@@ -1,16 +1,14 @@
 -- The words of gates that are closed.
-use Rattle.vfs_gates.proofs.Prelude.{Action, Bool, Config, IsLegal, Limits, List, None, [], ap, arith, eqb_tells, false, if◌then◌else◌, inl, inr}
-use Rattle.vfs_gates.proofs.Prelude.{model_limits, own_part, refl, shown, sym, ℕ, ◌<◌, ◌∙◌, ◌∷◌, ◌≡◌, ◌≤◌}
-use Rattle.vfs_gates.specs.Ended.{Ended, LeavesSoundTree}
-use Rattle.std.{proofs.{Common.{ne_eqb, ◌%◌, ◌*◌}, lemmas.Bool.cases_lt}, specs.Prelude.slice_index}
-use Rattle.finite_sums.{proofs.Totals.{total_none, total_same}, specs.Sums.total}
-use Rattle.cpu_words.specs.{Names.{place, stride}, declared.names.WordName.TheVariants.{Kids, LevelCount, MountCount, MountFlags, Node, Remount}}
-use Rattle.cpu_words.specs.declared.names.WordName.TheVariants.{Removed, Section, Umount, Used}
-use Rattle.mount_counts.specs.Roles.{hold_bit}
-use Rattle.gate_world.specs.{Rules.{Files, Tree}, Views.has_open}
+use Rattle.vfs_gates.proofs.Prelude.{Action, Bool, Config, IsLegal, Limits, List, Node, None, [], ap, arith, eqb_tells, false, if◌then◌else◌, inl}
+use Rattle.vfs_gates.proofs.Prelude.{inr, model_limits, own_part, place, refl, shown, slice_index, stride, sym, total, ℕ, ◌%◌, ◌*◌, ◌<◌, ◌∙◌, ◌∷◌}
+use Rattle.vfs_gates.proofs.Prelude.{◌≡◌, ◌≤◌}
 use Rattle.access_model.specs.{Histories.{Done, opens_of}, States.{is_removed, most_tasks, one_if, openers}}
-use Rattle.node_words.{proofs.Words.removed_shown, specs.Nodes.{IsPacked, node_shown, opens_in, removed_in}}
-use Rattle.gate_steps.proofs.call_events.{Rests.{at_rest, no_hold as hold_is_clear}, Schedule.idle_sums, Snapshots.sound_as}
+use Rattle.cpu_words.specs.declared.names.WordName.TheVariants.{Kids, LevelCount, MountCount, MountFlags, Remount, Removed, Section, Umount, Used}
+use Rattle.{finite_sums.proofs.Totals.{total_none, total_same}, gate_steps.proofs.call_events.Rests.{at_rest, no_hold as hold_is_clear}}
+use Rattle.{gate_steps.proofs.call_events.{Schedule.idle_sums, Snapshots.sound_as}, gate_world.specs.{Rules.{Files, Tree}, Views.has_open}}
+use Rattle.{mount_counts.specs.Roles.hold_bit, node_words.{proofs.Words.removed_shown, specs.Nodes.{IsPacked, node_shown, opens_in, removed_in}}}
+use Rattle.std.proofs.{Common.ne_eqb, lemmas.Bool.cases_lt}
+use Rattle.vfs_gates.specs.Ended.{Ended, LeavesSoundTree}
 
 -- a number past the last task's has done nothing
 outside : (l : Limits) (t : ℕ) → l.tasks ≤ t → (log : List Done) → IsLegal l log → own_part t log ≡ []

@@ -1,10 +1,7 @@
 -- A gate is there where its count word is, and its counts are summed.
-use Rattle.vfs_gates.proofs.Prelude.{Config, Gate, IsWithin, Level, Mount, ap, arith, sym, ℕ, ◌+◌, ◌<◌, ◌∙◌, ◌≡◌}
+use Rattle.vfs_gates.proofs.Prelude.{Config, Gate, IsWithin, Level, Mount, ap, arith, sym, total, ℕ, ◌%◌, ◌+◌, ◌<◌, ◌∙◌, ◌≡◌}
+use Rattle.{cpu_words.specs.Names.IsWord, gate_world.specs.Configs.{extents_kept, extents_of}, std.proofs.Common.add-one}
 use Rattle.vfs_gates.specs.Sums.{IsGate, count_word}
-use Rattle.std.proofs.Common.{add-one, ◌%◌}
-use Rattle.finite_sums.specs.Sums.{total}
-use Rattle.cpu_words.specs.Names.{IsWord}
-use Rattle.gate_world.specs.Configs.{extents_kept, extents_of}
 
 some_processor : (c : Config) → IsWithin c → 0 < c.processors
 some_processor c within = let some = within.some_processor in omega arith

@@ -1,11 +1,10 @@
 -- A call begins in a state in which its task's numbers stand as they did.
-use Rattle.vfs_gates.proofs.Prelude.{AreMoves, Called, Config, DealtNumbers, Done, Entry, GateError, Go, HookAnswer, IsPrefix, List, Next, None}
-use Rattle.vfs_gates.proofs.Prelude.{Numbered, Op, Option, Phase, Reply, Result, Some, Steps, Traced, Wait, [], ap, append_assoc, get_elem?, only}
-use Rattle.vfs_gates.proofs.Prelude.{refl, state_of_trace, stays_seen_on, subst, sym, ℕ, ◌∙◌, ◌∷◌, ◌≡◌}
-use Rattle.vfs_gates.specs.Meetings.{BeginsIn}
-use Rattle.gate_world.specs.declared.entries.Entry.TheVariants.{Begins}
+use Rattle.vfs_gates.proofs.Prelude.{AreMoves, Begins, Called, Config, DealtNumbers, Done, Entry, GateError, Go, HookAnswer, IsPrefix, List, Next}
+use Rattle.vfs_gates.proofs.Prelude.{None, Numbered, Op, Option, Phase, Reply, Result, Some, Steps, Traced, Wait, [], ap, append_assoc, get_elem?}
+use Rattle.vfs_gates.proofs.Prelude.{only, refl, state_of_trace, stays_seen_on, subst, sym, ℕ, ◌∙◌, ◌∷◌, ◌≡◌}
 use Rattle.gate_steps.{proofs.call_events.Grown.next_on, specs.{Histories.{then_begins, then_steps}, Seating.{HasWitness, StepWitness}}}
 use Rattle.gate_steps.specs.call_events.{Runs.IsNextMove, SeatedTasks.{SeatedTask, own_number}}
+use Rattle.vfs_gates.specs.Meetings.{BeginsIn}
 
 -- a step's schedule goes on from the one before it
 goes_on : (n : ℕ) (begins : Option Op) (hook : HookAnswer) (past : List Entry) → IsPrefix past (then_steps n hook (then_begins n begins past))

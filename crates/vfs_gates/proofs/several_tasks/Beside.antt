@@ -1,15 +1,12 @@
 -- What tasks that meet know of each other's calls.
-use Rattle.vfs_gates.proofs.Prelude.{Action, Bool, ChangeMount, Config, DealtNumbers, Entry, Err, GateError, Grant, HasDone, HaveHistory, Level, List}
-use Rattle.vfs_gates.proofs.Prelude.{Mount, Numbered, Ok, Op, Performs, RemountSb, Reply, Rests, Result, SeatedTask, StaySeen, WantWrite, [], ap}
-use Rattle.vfs_gates.proofs.Prelude.{arith, get_elem?, length, own_actions, own_number, own_view, refl, some, stays_seen_on, subst, suc, sym, true, ℕ}
-use Rattle.vfs_gates.proofs.Prelude.{◌++◌, ◌+◌, ◌<◌, ◌∙◌, ◌∷◌, ◌≡◌, ◌≤◌}
+use Rattle.vfs_gates.proofs.Prelude.{Action, Bool, Busy, ChangeMount, Config, DealtNumbers, Encloses, Entry, Err, GateError, Grant, HasDone}
+use Rattle.vfs_gates.proofs.Prelude.{HaveHistory, IfErr, Level, List, Meets, Mount, Numbered, Ok, Op, Performs, RemountSb, Reply, Rests, Result}
+use Rattle.vfs_gates.proofs.Prelude.{SeatedTask, StaySeen, WantWrite, [], ap, arith, get_elem?, length, mounts_of, own_actions, own_number, own_view}
+use Rattle.vfs_gates.proofs.Prelude.{refl, same_stays_seen, some, stays_seen_on, subst, suc, sym, true, update_at, ℕ, ◌++◌, ◌+◌, ◌<◌, ◌∙◌, ◌∷◌, ◌≡◌}
+use Rattle.vfs_gates.proofs.Prelude.{◌≤◌}
+use Rattle.{gate_steps.proofs.call_events.Grown.both_stay_seen, gate_world.specs.Views.held_at}
 use Rattle.vfs_gates.proofs.{Holding.adds, Resting.change_busy, Returning.was_done, several_tasks.Keeping.{change_refused, remount_busy}}
-use Rattle.vfs_gates.specs.Meetings.{Encloses, HoldsAt, Meets}
-use Rattle.std.specs.Prelude.{IfErr}
-use Rattle.finite_sums.proofs.Totals.{update_at}
-use Rattle.access_model.specs.{Histories.mounts_of, declared.errors.GateError.TheVariants.Busy}
-use Rattle.gate_world.specs.Views.{held_at}
-use Rattle.gate_steps.proofs.call_events.Grown.{both_stay_seen, same_stays_seen}
+use Rattle.vfs_gates.specs.Meetings.{HoldsAt}
 
 -- what either had seen, both have seen
 pub met_stays : (one two first second : SeatedTask) → Meets one two first second →

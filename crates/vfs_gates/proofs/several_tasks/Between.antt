@@ -1,14 +1,11 @@
 -- What two tasks that have all numbers know of two calls around which they meet.
-use Rattle.vfs_gates.proofs.Prelude.{Action, Called, Config, DealtNumbers, Entry, HaveHistory, IsLegal, List, NoneIs, Numbered, Ok, Op, Reply}
-use Rattle.vfs_gates.proofs.Prelude.{SeatedTask, StaySeen, Traced, View, World, [], actions_of, ap, append-nil, end_of, false, get_elem?}
-use Rattle.vfs_gates.proofs.Prelude.{model_limits, own_part, ran_items, refl, some, state_of_trace, subst, suc, sym, times, view_in, zero, ℕ, ◌++◌}
-use Rattle.vfs_gates.proofs.Prelude.{◌+◌, ◌<◌, ◌∙◌, ◌∷◌, ◌≡◌, ◌≤◌}
-use Rattle.vfs_gates.{proofs.several_tasks.{Beside.met_stays, FrozenOut.stays_writable, Shut.by_parts}, specs.Meetings.{HaveAll, IsWritable, Meets}}
-use Rattle.vfs_gates.specs.Meetings.{NoneDone, NoneSince, Seals}
+use Rattle.vfs_gates.proofs.Prelude.{Action, Called, Config, DealtNumbers, Entry, HaveAll, HaveHistory, HaveViews, IsLegal, List, Meets, NoneIs}
+use Rattle.vfs_gates.proofs.Prelude.{NoneSince, Numbered, Ok, Op, Reply, Seals, SeatedTask, StaySeen, Traced, View, World, [], actions_of, ap}
+use Rattle.vfs_gates.proofs.Prelude.{append-nil, end_of, false, get_elem?, model_limits, numbered, own_part, ran_items, refl, same_stays_seen, some}
+use Rattle.vfs_gates.proofs.Prelude.{state_of_trace, subst, suc, sym, times, view_in, view_in-at, zero, ℕ, ◌++◌, ◌+◌, ◌<◌, ◌∙◌, ◌∷◌, ◌≡◌, ◌≤◌}
+use Rattle.{access_model.specs.Histories.Done, gate_steps.specs.call_events.SeatedTasks.own_number}
+use Rattle.vfs_gates.{proofs.several_tasks.{Beside.met_stays, FrozenOut.stays_writable, Shut.by_parts}, specs.Meetings.{IsWritable, NoneDone}}
 use mathlib.Core.Option.{some-injective, some-ne-none}
-use Rattle.access_model.specs.Histories.{Done}
-use Rattle.gate_steps.{proofs.call_events.{Giving.view_in-at, Grown.same_stays_seen}, specs.Seating.{HaveViews, numbered}}
-use Rattle.gate_steps.specs.call_events.SeatedTasks.{own_number}
 
 -- the same numbers later, each with actions added of which none is such a one
 abbrev pub AreLater : (Action → Type 0) → DealtNumbers → DealtNumbers → Type 0

@@ -1,14 +1,12 @@
 -- What two tasks that have all numbers know of a freeze that one of them was granted.
-use Rattle.vfs_gates.proofs.Prelude.{Action, Bool, Err, Freeze, Gate, GateError, Grant, Holder, IsHonestAnswer, List, None, NoneIs, Ok, Op, Performs}
-use Rattle.vfs_gates.proofs.Prelude.{Reply, Rests, Result, SeatedTask, Traced, WantWrite, WordName, [], actions_of, ap, arith, cases_Bool, false, inl}
-use Rattle.vfs_gates.proofs.Prelude.{inr, lt-ltb, refl, refusal_at, subst, sym, told_as, unit_of, ℕ, ◌++◌, ◌<◌, ◌∷◌, ◌≡◌}
-use Rattle.vfs_gates.proofs.{Returning.was_done, several_tasks.{Between.{around_both, writable_there}, GrantedFreeze.none_started_later}}
-use Rattle.vfs_gates.{proofs.several_tasks.GrantedFreeze.none_written_later, specs.Meetings.{HaveAll, Meets, NoneDone, Seals, Thaws}}
-use Rattle.std.specs.Prelude.{IfErr}
-use Rattle.access_model.specs.declared.{actions.Action.TheVariants.{Clean, Hold, Pass, Stage as StageAction}, errors.GateError.TheVariants.Again}
-use Rattle.cpu_words.specs.declared.{events.Touch.{TheVariants.And, Touch}, names.WordName.TheVariants.Node}
-use Rattle.gate_world.specs.{declared.operations.Op.TheVariants.Start, traces.Found.{clean_found, cleans, found_complete, found_sealed}}
-use Rattle.mount_counts.specs.Phases.{has_flag}
+use Rattle.vfs_gates.proofs.Prelude.{Action, Bool, Err, Freeze, Gate, GateError, Grant, HaveAll, Hold, Holder, IfErr, IsHonestAnswer, List, Meets}
+use Rattle.vfs_gates.proofs.Prelude.{Node, None, NoneIs, Ok, Op, Performs, Reply, Rests, Result, Seals, SeatedTask, Start, Touch, Traced, WantWrite}
+use Rattle.vfs_gates.proofs.Prelude.{WordName, [], actions_of, ap, arith, cases_Bool, false, found_sealed, has_flag, inl, inr, lt-ltb, refl}
+use Rattle.vfs_gates.proofs.Prelude.{refusal_at, subst, sym, told_as, unit_of, ℕ, ◌++◌, ◌<◌, ◌∷◌, ◌≡◌}
+use Rattle.access_model.specs.declared.{actions.Action.TheVariants.{Clean, Pass, Stage as StageAction}, errors.GateError.TheVariants.Again}
+use Rattle.{cpu_words.specs.declared.events.Touch.TheVariants.And, gate_world.specs.traces.Found.{clean_found, cleans, found_complete}}
+use Rattle.vfs_gates.proofs.{Returning.was_done, several_tasks.Between.{around_both, writable_there}}
+use Rattle.vfs_gates.{proofs.several_tasks.GrantedFreeze.{none_started_later, none_written_later}, specs.Meetings.{NoneDone, Thaws}}
 
 -- a kind of actions of which a freeze that was granted adds none
 module _ (Is : Action → Type 0) (holds : (h : Holder) → Is (Hold h) → ⊥) (stages : (n : ℕ) → Is (StageAction n) → ⊥)

@@ -1,12 +1,9 @@
 -- What two tasks that have all numbers know of a mount that one of them has made read-only.
-use Rattle.vfs_gates.proofs.Prelude.{Bool, ChangeMount, Err, GateError, IsHonestAnswer, List, None, NoneIs, Ok, Op, Performs, Reply, Rests, Result}
-use Rattle.vfs_gates.proofs.Prelude.{SeatedTask, Traced, Want, WantWrite, actions_of, ap, arith, cases_Bool, inl, inr, lt-ltb, refl, refusal_at}
-use Rattle.vfs_gates.proofs.Prelude.{subst, sym, told_as, true, unit_of, ℕ, ◌++◌, ◌<◌, ◌≡◌}
-use Rattle.vfs_gates.{proofs.{Returning.was_done, several_tasks.{Between.around_both, Shut.none_admitted}}, specs.Meetings.{HaveAll, Meets, Reopens}}
-use Rattle.vfs_gates.specs.Meetings.{TakesMount}
-use Rattle.std.specs.Prelude.{IfErr}
+use Rattle.vfs_gates.proofs.Prelude.{Bool, ChangeMount, Err, GateError, HaveAll, IfErr, IsHonestAnswer, List, Meets, None, NoneIs, Ok, Op, Performs}
+use Rattle.vfs_gates.proofs.Prelude.{Reply, Rests, Result, SeatedTask, Traced, Want, WantWrite, actions_of, ap, arith, cases_Bool, found_read_only}
+use Rattle.vfs_gates.proofs.Prelude.{inl, inr, lt-ltb, refl, refusal_at, subst, sym, told_as, true, unit_of, ℕ, ◌++◌, ◌<◌, ◌≡◌}
 use Rattle.access_model.specs.declared.{actions.Action.TheVariants.MountRo, errors.GateError.TheVariants.ReadOnly}
-use Rattle.gate_world.specs.traces.Found.{found_read_only}
+use Rattle.vfs_gates.{proofs.{Returning.was_done, several_tasks.{Between.around_both, Shut.none_admitted}}, specs.Meetings.{Reopens, TakesMount}}
 
 -- a change to read-only, and an operation that takes an access, make no mount writable
 no_reopening : (m : ℕ) → Reopens m (MountRo m) → ⊥

@@ -1,18 +1,15 @@
 -- What stands the same before a call and after it stands so at each moment of the call.
-use Rattle.vfs_gates.proofs.Prelude.{Action, Bool, Config, DealtNumbers, Entry, Grant, HasDone, HaveHistory, IsLegal, IsPrefix, IsWithin, Limits}
-use Rattle.vfs_gates.proofs.Prelude.{List, Mount, State, View, WordName, World, [], actions_append, actions_since, actions_so_far, and_parts, ap}
-use Rattle.vfs_gates.proofs.Prelude.{arith, dite, end_of, eqb_tells, if◌then◌else◌, inl, inr, model_limits, not, own_part, part_more, read, shown}
-use Rattle.vfs_gates.proofs.Prelude.{subst, sym, true, whole_run, world_after, ℕ, ℕ_discrete, ◌++◌, ◌+◌, ◌<◌, ◌==◌, ◌∙◌, ◌∷◌, ◌≡◌, ◌≤◌, ◌⊎◌}
-use Rattle.vfs_gates.proofs.several_tasks.FrozenUntilThawed.{in_between}
-use Rattle.std.{proofs.{Common.{⊎_elim, ◌-◌}, lemmas.Bool.{eq-eqb, false≢true}}, specs.Prelude.◌||◌}
-use Rattle.finite_sums.{proofs.Totals.{update_at, update_off}, specs.Sums.update}
-use Rattle.access_model.specs.{Actions.{IsAllowed, mounts_after}, Histories.{Done, mounts_of}, Laws.IsReadOnly}
-use Rattle.access_model.specs.declared.actions.Action.TheVariants.{Return}
-use Rattle.cpu_words.specs.declared.names.WordName.TheVariants.{MountFlags, Remount, SbFlags}
-use Rattle.mount_counts.{proofs.laws.Bits.read_only_set, specs.{Phases.has_flag, Roles.ro_bit}}
+use Rattle.vfs_gates.proofs.Prelude.{Action, Bool, Config, DealtNumbers, Entry, Grant, HasDone, HaveHistory, IsAllowed, IsLegal, IsPrefix, IsWithin}
+use Rattle.vfs_gates.proofs.Prelude.{Limits, List, Mount, State, View, WordName, World, [], actions_append, actions_since, actions_so_far, and_parts}
+use Rattle.vfs_gates.proofs.Prelude.{ap, arith, dite, end_of, eqb_tells, false≢true, has_flag, if◌then◌else◌, inl, inr, model_limits, mounts_of, not}
+use Rattle.vfs_gates.proofs.Prelude.{numbered, own_part, part_more, read, shown, subst, sym, true, update_at, whole_run, world_after, ℕ, ℕ_discrete}
+use Rattle.vfs_gates.proofs.Prelude.{◌++◌, ◌+◌, ◌-◌, ◌<◌, ◌==◌, ◌∙◌, ◌∷◌, ◌≡◌, ◌≤◌, ◌⊎◌}
+use Rattle.access_model.specs.{Actions.mounts_after, Histories.Done, Laws.IsReadOnly, declared.actions.Action.TheVariants.Return}
+use Rattle.{cpu_words.specs.declared.names.WordName.TheVariants.{MountFlags, Remount, SbFlags}, finite_sums.proofs.Totals.update_off}
+use Rattle.{finite_sums.specs.Sums.update, gate_schedules.proofs.{schedules.HeadlineProof.whole_nobody, traces.Moments.or_true}}
 use Rattle.gate_world.specs.{Headline.IsOneRun, Rules.{AtMount, IsGood, Owner, Stages}, traces.Found.says_read_only}
-use Rattle.gate_schedules.proofs.{schedules.HeadlineProof.whole_nobody, traces.Moments.or_true}
-use Rattle.gate_steps.specs.Seating.{numbered}
+use Rattle.{mount_counts.{proofs.laws.Bits.read_only_set, specs.Roles.ro_bit}, std.proofs.{Common.{⊎_elim, ◌||◌}, lemmas.Bool.eq-eqb}}
+use Rattle.vfs_gates.proofs.several_tasks.FrozenUntilThawed.{in_between}
 
 -- a list that an earlier and a later schedule leave a number is that of each in between
 pub stood : (c : Config) (n : ℕ) (a b d : List Entry) (list : List Action) → IsPrefix a b → IsPrefix b d →

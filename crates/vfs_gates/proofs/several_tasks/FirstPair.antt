@@ -1,10 +1,9 @@
 -- The first two tasks of some gates: they have all numbers between them, and none of these has done anything.
-use Rattle.vfs_gates.proofs.Prelude.{Action, Config, DealtNumbers, NoneIs, SeatedTask, SplitOf, [], ap, arith, deal, dite, false, given_of, kept_of}
-use Rattle.vfs_gates.proofs.Prelude.{subst, suc, sym, times, true, view_in, zero, ℕ, ℕ_discrete, ◌++◌, ◌+◌, ◌<◌, ◌==◌, ◌∙◌, ◌∷◌, ◌≡◌, ◌≤◌}
-use Rattle.vfs_gates.specs.Meetings.{HaveAll, NoneDone}
-use Rattle.std.proofs.Common.{cond}
-use Rattle.gate_steps.{proofs.{Dealing.{one_if-same, times-append}, Giving.times-without_other, Opening.times-deal}, specs.Rules.first_items}
-use Rattle.gate_steps.specs.Seating.{without}
+use Rattle.vfs_gates.proofs.Prelude.{Action, Config, DealtNumbers, HaveAll, NoneIs, SeatedTask, SplitOf, [], ap, arith, cond, deal, dite, false}
+use Rattle.vfs_gates.proofs.Prelude.{first_items, given_of, kept_of, subst, suc, sym, times, true, view_in, zero, ℕ, ℕ_discrete, ◌++◌, ◌+◌, ◌<◌, ◌==◌}
+use Rattle.vfs_gates.proofs.Prelude.{◌∙◌, ◌∷◌, ◌≡◌, ◌≤◌}
+use Rattle.gate_steps.{proofs.{Dealing.{one_if-same, times-append}, Giving.times-without_other, Opening.times-deal}, specs.Seating.without}
+use Rattle.vfs_gates.specs.Meetings.{NoneDone}
 
 -- a number that stands among some is kept or given
 kept_or_given : (given n : ℕ) (items : DealtNumbers) → 1 ≤ times n items → 1 ≤ times n (given_of given items) + times n (kept_of given items)

@@ -1,19 +1,15 @@
 -- A freeze is busy only beside another: what the task finds whose own list has none.
-use Rattle.vfs_gates.proofs.Prelude.{Action, AreMoves, Bool, Called, Config, DealtNumbers, EndedWith, Entry, Err, Event, Freeze, HasSeen, Holder}
-use Rattle.vfs_gates.proofs.Prelude.{IsEventDuring, IsHonestAnswer, IsLegal, IsPrefix, IsWithin, Limits, List, SeatedTask, State, StaySeen, Steps}
-use Rattle.vfs_gates.proofs.Prelude.{Traced, WordName, [], actions_append, actions_since, actions_so_far, after_more, and_parts, ap, end_of}
-use Rattle.vfs_gates.proofs.Prelude.{eqb_tells, false, get_elem?, if◌then◌else◌, inl, inr, is_load, model_limits, next_of, not, own_actions}
-use Rattle.vfs_gates.proofs.Prelude.{own_number, own_part, read, refl, shown, subst, sym, true, whole_run, world_after, ℕ, ◌++◌, ◌<◌, ◌==◌, ◌∙◌, ◌∷◌}
-use Rattle.vfs_gates.proofs.Prelude.{◌≡◌, ◌⊎◌}
-use Rattle.vfs_gates.{proofs.several_tasks.FrozenUntilThawed.{SomeSays, list_during, load_finds, some_of}, specs.Frozen.{IsBesideFreezes, MayFreeze}}
-use Rattle.vfs_gates.specs.Frozen.{NeverFreezes, holders_of, stage_of}
-use Rattle.std.{proofs.lemmas.Bool.false≢true, specs.Prelude.◌&&◌}
-use Rattle.access_model.specs.{Actions.after_action, Histories.Done, Holders.{held_by, with_holder}, declared.actions.Action.TheVariants.Hold}
-use Rattle.access_model.specs.declared.{actions.Action.TheVariants.{Leave, Stage}, errors.GateError.TheVariants.Busy}
-use Rattle.cpu_words.specs.{Words.Words, declared.names.WordName.TheVariants.{Holders as HoldersWord, Stage as StageWord}}
-use Rattle.freeze_levels.specs.Holders.{holders_in}
+use Rattle.vfs_gates.proofs.Prelude.{Action, AreMoves, Bool, Busy, Called, Config, DealtNumbers, EndedWith, Entry, Err, Event, Freeze, HasSeen, Hold}
+use Rattle.vfs_gates.proofs.Prelude.{Holder, IsEventDuring, IsHonestAnswer, IsLegal, IsPrefix, IsWithin, Limits, List, SeatedTask, State, StaySeen}
+use Rattle.vfs_gates.proofs.Prelude.{Steps, Traced, WordName, Words, [], actions_append, actions_since, actions_so_far, after_action, after_more}
+use Rattle.vfs_gates.proofs.Prelude.{and_parts, ap, each_event, end_of, eqb_tells, false, false≢true, get_elem?, held_by, if◌then◌else◌, inl, inr}
+use Rattle.vfs_gates.proofs.Prelude.{is_load, model_limits, next_of, not, own_actions, own_number, own_part, read, refl, shown, subst, sym, true}
+use Rattle.vfs_gates.proofs.Prelude.{whole_run, with_holder, world_after, ℕ, ◌&&◌, ◌++◌, ◌<◌, ◌==◌, ◌∙◌, ◌∷◌, ◌≡◌, ◌⊎◌}
+use Rattle.access_model.specs.{Histories.Done, declared.actions.Action.TheVariants.{Leave, Stage}}
+use Rattle.{cpu_words.specs.declared.names.WordName.TheVariants.{Holders as HoldersWord, Stage as StageWord}, freeze_levels.specs.Holders.holders_in}
 use Rattle.gate_world.specs.{Headline.IsOneRun, traces.Found.{says_held, says_moving}}
-use Rattle.gate_steps.proofs.call_events.Spanning.{each_event}
+use Rattle.vfs_gates.proofs.several_tasks.FrozenUntilThawed.{SomeSays, list_during, load_finds, some_of}
+use Rattle.vfs_gates.specs.Frozen.{IsBesideFreezes, MayFreeze, NeverFreezes, holders_of, stage_of}
 
 -- of a history: each action of a freeze or a thaw is of this number
 abbrev OnlyFreezesBy : ℕ → List Done → Type 0

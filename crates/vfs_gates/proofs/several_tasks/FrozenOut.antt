@@ -1,18 +1,15 @@
 -- While a holder's freeze stands nobody goes inside.
-use Rattle.vfs_gates.proofs.Prelude.{Action, Bool, Called, Config, DealtNumbers, Entry, Gate, Grant, HasSeen, Holder, IsLegal, IsPrefix, IsWithin}
-use Rattle.vfs_gates.proofs.Prelude.{Level, Limits, List, Mount, Ok, Op, Reply, SeatedTask, State, TakesEffect, WantWrite, [], actions_append}
-use Rattle.vfs_gates.proofs.Prelude.{actions_since, actions_so_far, after_more, ap, append-nil, append_assoc, arith, call_effect, end_of, false}
-use Rattle.vfs_gates.proofs.Prelude.{get_elem?, inl, inr, model_limits, only, own_part, part_more, refl, shown, some, state_of_trace, subst, sym}
-use Rattle.vfs_gates.proofs.Prelude.{true, whole_run, ℕ, ◌++◌, ◌+◌, ◌∙◌, ◌∷◌, ◌≡◌}
-use Rattle.vfs_gates.proofs.several_tasks.{Keeping.NoneOfThese, Shut.{legal_at, none_between, none_earlier, none_within, splits_at}}
-use Rattle.vfs_gates.specs.Meetings.{Encloses, IsWritable, NoneSince, Seals, Thaws}
+use Rattle.vfs_gates.proofs.Prelude.{Action, Bool, Called, Config, DealtNumbers, Encloses, Entry, Gate, Grant, HasSeen, Holder, IsAllowed, IsLegal}
+use Rattle.vfs_gates.proofs.Prelude.{IsPrefix, IsWithin, Level, Limits, List, Mount, NoneSince, Ok, Op, Reply, SbRo, SbRw, Seals, SeatedTask, Start}
+use Rattle.vfs_gates.proofs.Prelude.{State, TakesEffect, WantWrite, [], actions_append, actions_since, actions_so_far, after_action, after_more, ap}
+use Rattle.vfs_gates.proofs.Prelude.{append-nil, append_assoc, arith, call_effect, end_of, false, get_elem?, held_by, inl, inr, model_limits, only}
+use Rattle.vfs_gates.proofs.Prelude.{own_part, part_more, refl, shown, some, state_of_trace, subst, sym, true, update_at, whole_run, ℕ, ◌++◌, ◌+◌}
+use Rattle.vfs_gates.proofs.Prelude.{◌∙◌, ◌∷◌, ◌≡◌}
+use Rattle.access_model.{proofs.{Closed.closed, Frozen.{frozen_shut, frozen_still}, Lists.follows}, specs.Histories.{Done, levels_of}}
+use Rattle.{access_model.specs.Laws.{IsFrozenFor, IsFrozenStill, NeverLeaves}, gate_steps.specs.call_events.SeatedTasks.own_number}
 use Rattle.std.proofs.lemmas.Bool.{both_ways}
-use Rattle.finite_sums.proofs.Totals.{update_at}
-use Rattle.access_model.{proofs.{Closed.closed, Frozen.{frozen_shut, frozen_still}, Lists.follows}, specs.Actions.{IsAllowed, after_action}}
-use Rattle.access_model.specs.{Histories.{Done, levels_of}, Holders.held_by, Laws.{IsFrozenFor, IsFrozenStill, NeverLeaves}}
-use Rattle.access_model.specs.declared.actions.Action.TheVariants.{SbRo, SbRw}
-use Rattle.gate_world.specs.declared.operations.Op.TheVariants.{Start}
-use Rattle.gate_steps.specs.call_events.SeatedTasks.{own_number}
+use Rattle.vfs_gates.proofs.several_tasks.{Keeping.NoneOfThese, Shut.{legal_at, none_between, none_earlier, none_within, splits_at}}
+use Rattle.vfs_gates.specs.Meetings.{IsWritable, Thaws}
 
 pub never_leaves : (h : Holder) (log : List Done) → NoneOfThese (Thaws h) log → NeverLeaves h log
 never_leaves h [] none = tt

@@ -1,23 +1,20 @@
 -- A freeze stands until somebody thaws: what the task that has frozen finds.
-use Rattle.vfs_gates.proofs.Prelude.{Action, AreMoves, Bool, Called, Config, DealtNumbers, EndedWith, Entry, Err, Event, GateError, HasSeen}
-use Rattle.vfs_gates.proofs.Prelude.{HaveHistory, Holder, IsEventDuring, IsHonestAnswer, IsLegal, IsPrefix, IsWithin, Limits, List, Numbered, Op}
-use Rattle.vfs_gates.proofs.Prelude.{Reply, Result, SeatedTask, State, StaySeen, Steps, Traced, View, WordName, [], actions_append, actions_of}
-use Rattle.vfs_gates.proofs.Prelude.{actions_since, actions_so_far, after_more, and_parts, ap, append_assoc, arith, cases_Bool, end_of, eqb_tells}
-use Rattle.vfs_gates.proofs.Prelude.{event_of, false, get_elem?, if◌then◌else◌, inl, inr, is_load, length, model_limits, next_of, not, only}
-use Rattle.vfs_gates.proofs.Prelude.{own_actions, own_number, own_part, own_view, part_more, ran_items, read, refl, shown, some, state_of_trace}
-use Rattle.vfs_gates.proofs.Prelude.{subst, sym, true, whole_run, world_after, ℕ, ◌++◌, ◌<◌, ◌==◌, ◌∙◌, ◌∷◌, ◌≡◌, ◌≤◌, ◌⊎◌}
-use Rattle.vfs_gates.{proofs.Holding.{adds, no_move, stays}, specs.Frozen.{NeedsFreeze, NeverThaws, holders_of}}
-use Rattle.std.{proofs.lemmas.{Bool.false≢true, List.append_cancel_right}, specs.Prelude.◌||◌}
-use Rattle.access_model.{proofs.{Frozen.frozen_shut, Held.stays_frozen}, specs.{Actions.after_action, Histories.Done, Holders.{held_by, with_holder}}}
-use Rattle.access_model.specs.{Laws.IsFrozenFor, declared.actions.{Action.TheVariants.{Hold, Leave}, Holder.TheVariants.{Kernel, User}}}
-use Rattle.access_model.specs.declared.{actions.Holders.Holders, errors.GateError.TheVariants.Invalid, replies.Next.TheVariants.Done as Ends}
-use Rattle.cpu_words.specs.{Touches.found_by, Words.Words, declared.events.Touch.{TheVariants.Load, Touch}}
-use Rattle.cpu_words.specs.declared.names.WordName.TheVariants.{Holders as HoldersWord, Stage}
+use Rattle.vfs_gates.proofs.Prelude.{Action, AreMoves, Begins, Bool, Called, Config, DealtNumbers, EndedWith, Entry, Err, Event, GateError, HasSeen}
+use Rattle.vfs_gates.proofs.Prelude.{HaveHistory, Hold, Holder, IsEventDuring, IsHonestAnswer, IsLegal, IsPrefix, IsWithin, Limits, List, Numbered}
+use Rattle.vfs_gates.proofs.Prelude.{Op, Reply, Result, SeatedTask, State, StaySeen, Steps, Thaw, Touch, Traced, View, WordName, Words, []}
+use Rattle.vfs_gates.proofs.Prelude.{actions_append, actions_of, actions_since, actions_so_far, after_action, after_more, and_parts, ap, append_assoc}
+use Rattle.vfs_gates.proofs.Prelude.{append_cancel_right, arith, cases_Bool, each_event, end_of, eqb_tells, event_of, false, false≢true, found_by}
+use Rattle.vfs_gates.proofs.Prelude.{get_elem?, held_by, if◌then◌else◌, inl, inr, is_load, length, model_limits, next_of, not, only, own_actions}
+use Rattle.vfs_gates.proofs.Prelude.{own_number, own_part, own_view, part_more, ran_items, read, refl, shown, some, state_of_trace, subst, sym, true}
+use Rattle.vfs_gates.proofs.Prelude.{whole_run, with_holder, world_after, ℕ, ◌++◌, ◌<◌, ◌==◌, ◌∙◌, ◌∷◌, ◌≡◌, ◌≤◌, ◌⊎◌}
+use Rattle.access_model.{proofs.{Frozen.frozen_shut, Held.stays_frozen}, specs.{Histories.Done, Laws.IsFrozenFor}}
+use Rattle.access_model.specs.declared.actions.{Action.TheVariants.Leave, Holder.TheVariants.{Kernel, User}, Holders.Holders}
+use Rattle.access_model.specs.declared.{errors.GateError.TheVariants.Invalid, replies.Next.TheVariants.Done as Ends}
+use Rattle.cpu_words.specs.declared.{events.Touch.TheVariants.Load, names.WordName.TheVariants.{Holders as HoldersWord, Stage}}
 use Rattle.freeze_levels.specs.Holders.{holders_in}
-use Rattle.gated_tree.specs.Refusals.{finds_thawed, loads_stage}
-use Rattle.gate_world.specs.{Headline.IsOneRun, declared.{entries.Entry.TheVariants.Begins, operations.Op.TheVariants.{Snapshot, Thaw}}}
-use Rattle.gate_world.specs.traces.Found.{says_incomplete, says_unheld, some_event}
-use Rattle.gate_steps.proofs.call_events.Spanning.{each_event}
+use Rattle.gate_world.specs.{Headline.IsOneRun, declared.operations.Op.TheVariants.Snapshot, traces.Found.{says_incomplete, says_unheld, some_event}}
+use Rattle.{gated_tree.specs.Refusals.{finds_thawed, loads_stage}, std.proofs.Common.◌||◌}
+use Rattle.vfs_gates.{proofs.Holding.{adds, no_move, stays}, specs.Frozen.{NeedsFreeze, NeverThaws, holders_of}}
 
 -- of a history: each action by which this holder leaves is of this number
 abbrev pub OnlyThawsBy : Holder → ℕ → List Done → Type 0

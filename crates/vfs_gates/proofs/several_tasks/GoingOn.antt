@@ -1,8 +1,7 @@
 -- An operation under way goes on while its task sees more.
-use Rattle.vfs_gates.proofs.Prelude.{Config, DealtNumbers, Entry, List, None, Op, OpUnderWay, SeatedTask, Some, StaySeen, Traced, [], ap, own_number}
-use Rattle.vfs_gates.proofs.Prelude.{phase_after, refl, state_of_trace, stays_seen_on, subst, sym, ◌∙◌, ◌∷◌, ◌≡◌}
-use Rattle.gate_world.specs.traces.TraceStates.{IsTrace}
-use Rattle.gate_steps.specs.call_events.Runs.{AreMovesSoFar, begins_at, items_at}
+use Rattle.vfs_gates.proofs.Prelude.{Config, DealtNumbers, Entry, IsTrace, List, None, Op, OpUnderWay, SeatedTask, Some, StaySeen, Traced, [], ap}
+use Rattle.vfs_gates.proofs.Prelude.{items_at, own_number, phase_after, refl, state_of_trace, stays_seen_on, subst, sym, ◌∙◌, ◌∷◌, ◌≡◌}
+use Rattle.gate_steps.specs.call_events.Runs.{AreMovesSoFar, begins_at}
 
 -- after its first step
 moves_still : (c : Config) (op : Op) (items : DealtNumbers) (seen : List (List Entry)) (trace : List Traced) (now later : List (List Entry)) →

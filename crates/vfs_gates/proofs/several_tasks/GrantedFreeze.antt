@@ -1,16 +1,15 @@
 -- A freeze that was granted keeps everybody out until its holder thaws.
-use Rattle.vfs_gates.proofs.Prelude.{Action, Bool, Called, Config, DealtNumbers, Entry, Freeze, Gate, Grant, HasSeen, HaveHistory, Holder, IsLegal}
-use Rattle.vfs_gates.proofs.Prelude.{IsPrefix, IsWithin, Level, Limits, List, Mount, Ok, Op, Reply, SeatedTask, State, StaySeen, TakesEffect}
-use Rattle.vfs_gates.proofs.Prelude.{WantWrite, [], actions_append, actions_of, actions_since, actions_so_far, after_more, ap, append-nil}
-use Rattle.vfs_gates.proofs.Prelude.{append_assoc, call_effect, end_of, false, get_elem?, model_limits, only, own_part, refl, shown, some}
-use Rattle.vfs_gates.proofs.Prelude.{state_of_trace, subst, sym, true, whole_run, ℕ, ◌++◌, ◌∙◌, ◌∷◌, ◌≡◌}
-use Rattle.vfs_gates.proofs.several_tasks.FrozenOut.{GrantsFrozen, all_closed, grants_frozen, never_leaves, no_start, no_write, stays_writable}
-use Rattle.vfs_gates.{proofs.several_tasks.{Keeping.NoneOfThese, Shut.{none_between, none_later, none_within, splits_at}}, specs.Meetings.IsWritable}
-use Rattle.vfs_gates.specs.Meetings.{NoneSince, Seals, Thaws}
-use Rattle.access_model.{proofs.Frozen.frozen_still, specs.{Actions.after_action, Histories.Done, Holders.{held_by, with_holder}}}
-use Rattle.access_model.specs.declared.actions.{Action.TheVariants.Hold, Holder.TheVariants.{Kernel, User}, Holders.Holders}
-use Rattle.gate_world.specs.declared.operations.Op.TheVariants.{Start}
+use Rattle.vfs_gates.proofs.Prelude.{Action, Bool, Called, Config, DealtNumbers, Entry, Freeze, Gate, Grant, HasSeen, HaveHistory, Hold, Holder}
+use Rattle.vfs_gates.proofs.Prelude.{IsLegal, IsPrefix, IsWithin, Level, Limits, List, Mount, NoneSince, Ok, Op, Reply, Seals, SeatedTask, Start}
+use Rattle.vfs_gates.proofs.Prelude.{State, StaySeen, TakesEffect, WantWrite, [], actions_append, actions_of, actions_since, actions_so_far}
+use Rattle.vfs_gates.proofs.Prelude.{after_action, after_more, ap, append-nil, append_assoc, call_effect, end_of, false, get_elem?, held_by}
+use Rattle.vfs_gates.proofs.Prelude.{model_limits, only, own_part, refl, shown, some, state_of_trace, subst, sym, true, whole_run, with_holder, ℕ}
+use Rattle.vfs_gates.proofs.Prelude.{◌++◌, ◌∙◌, ◌∷◌, ◌≡◌}
+use Rattle.access_model.{proofs.Frozen.frozen_still, specs.{Histories.Done, declared.actions.{Holder.TheVariants.{Kernel, User}, Holders.Holders}}}
 use Rattle.gate_steps.specs.call_events.SeatedTasks.{own_number}
+use Rattle.vfs_gates.proofs.several_tasks.FrozenOut.{GrantsFrozen, all_closed, grants_frozen, never_leaves, no_start, no_write, stays_writable}
+use Rattle.vfs_gates.proofs.several_tasks.{Keeping.NoneOfThese, Shut.{none_between, none_later, none_within, splits_at}}
+use Rattle.vfs_gates.specs.Meetings.{IsWritable, Thaws}
 
 -- a freeze that was granted has added its holder last
 abbrev first_dropped : List Action → List Action

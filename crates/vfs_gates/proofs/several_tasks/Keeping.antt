@@ -1,20 +1,17 @@
 -- A task that holds an access at a mount keeps it writable.
-use Rattle.vfs_gates.proofs.Prelude.{Action, AreMoves, Bool, Called, ChangeMount, Config, DealtNumbers, Entry, Err, Event, GateError, HasDone}
-use Rattle.vfs_gates.proofs.Prelude.{HasSeen, IsEventDuring, IsLegal, IsPrefix, IsWithin, Limits, List, NoneIs, Ok, Op, RemountSb, Reply, Result}
-use Rattle.vfs_gates.proofs.Prelude.{SeatedTask, Steps, TakesEffect, Traced, WordName, [], actions_append, actions_since, actions_so_far, after_more}
-use Rattle.vfs_gates.proofs.Prelude.{and_parts, ap, append-nil, arith, call_effect, cases_Bool, end_of, eqb_tells, get_elem?, if◌then◌else◌, inl, inr}
-use Rattle.vfs_gates.proofs.Prelude.{is_load, length, model_limits, next_of, only, own_part, part_more, read, refl, some, state_of_trace, subst, sym}
-use Rattle.vfs_gates.proofs.Prelude.{true, whole_run, world_after, ℕ, ◌++◌, ◌+◌, ◌∙◌, ◌∷◌, ◌≡◌, ◌≤◌}
+use Rattle.vfs_gates.proofs.Prelude.{Action, AreMoves, Begins, Bool, Busy, Called, ChangeMount, Config, DealtNumbers, Encloses, Entry, Err, Event}
+use Rattle.vfs_gates.proofs.Prelude.{GateError, HasDone, HasSeen, IsAllowed, IsEventDuring, IsLegal, IsPrefix, IsWithin, Limits, List, NoneIs, Ok, Op}
+use Rattle.vfs_gates.proofs.Prelude.{RemountSb, Reply, Result, SbRo, SbRw, SeatedTask, Steps, TakesEffect, Traced, WordName, Words, []}
+use Rattle.vfs_gates.proofs.Prelude.{actions_append, actions_since, actions_so_far, after_more, and_parts, ap, append-nil, arith, call_effect}
+use Rattle.vfs_gates.proofs.Prelude.{cases_Bool, each_event, end_of, eqb_tells, false≢true, found_read_only, found_sealed, get_elem?, if◌then◌else◌}
+use Rattle.vfs_gates.proofs.Prelude.{inl, inr, is_load, length, model_limits, mounts_of, next_of, only, own_part, part_more, read, refl, some}
+use Rattle.vfs_gates.proofs.Prelude.{state_of_trace, subst, sym, true, whole_rule, whole_run, world_after, ℕ, ◌&&◌, ◌++◌, ◌+◌, ◌∙◌, ◌∷◌, ◌≡◌, ◌≤◌}
+use Rattle.access_model.{proofs.Lists.follows, specs.{Histories.Done, declared.actions.Action.TheVariants.MountRo}}
+use Rattle.{access_model.specs.declared.errors.GateError.TheVariants.Hook, cpu_words.specs.declared.names.WordName.TheVariants.SbFlags}
+use Rattle.gate_steps.specs.call_events.{SeatedTasks.own_number, Spans.GoesOnFromSeen}
+use Rattle.{gate_world.specs.traces.Found.{cleans, says_read_only, says_sealed}, std.proofs.Common.length-append}
 use Rattle.vfs_gates.proofs.several_tasks.Enclosed.{done_there, granted_there, mount_there, not_read_only, read_only_found, stood}
-use Rattle.vfs_gates.{proofs.several_tasks.FrozenUntilThawed.{SomeSays, load_finds, some_of}, specs.Meetings.{Encloses, Shuts}}
-use Rattle.std.{proofs.{Common.length-append, lemmas.Bool.false≢true}, specs.Prelude.◌&&◌}
-use Rattle.access_model.{proofs.Lists.follows, specs.{Actions.IsAllowed, Histories.{Done, mounts_of}, declared.actions.Action.TheVariants.MountRo}}
-use Rattle.access_model.specs.declared.{actions.Action.TheVariants.{SbRo, SbRw}, errors.GateError.TheVariants.{Busy, Hook}}
-use Rattle.cpu_words.specs.{Words.Words, declared.names.WordName.TheVariants.SbFlags}
-use Rattle.gate_world.specs.{declared.entries.Entry.TheVariants.Begins, traces.Found.{cleans, found_read_only, found_sealed, says_read_only}}
-use Rattle.gate_world.specs.traces.Found.{says_sealed}
-use Rattle.gate_schedules.proofs.schedules.HeadlineProof.{whole_rule}
-use Rattle.gate_steps.{proofs.call_events.Spanning.each_event, specs.call_events.{SeatedTasks.own_number, Spans.GoesOnFromSeen}}
+use Rattle.vfs_gates.{proofs.several_tasks.FrozenUntilThawed.{SomeSays, load_finds, some_of}, specs.Meetings.Shuts}
 
 -- none of these actions, of whatever task, is such a one
 abbrev pub NoneOfThese : (Action → Type 0) → List Done → Type 0

@@ -1,21 +1,17 @@
 -- A mount that is read-only, and that nobody makes writable, admits nobody.
-use Rattle.vfs_gates.proofs.Prelude.{Action, AreMoves, Bool, Called, ChangeMount, Config, DealtNumbers, Entry, Event, Grant, HasSeen, HaveHistory}
-use Rattle.vfs_gates.proofs.Prelude.{IsEventDuring, IsLegal, IsPrefix, IsWithin, Level, Limits, List, Mount, NoneIs, Ok, Op, Reply, SeatedTask, State}
-use Rattle.vfs_gates.proofs.Prelude.{StaySeen, Steps, TakesEffect, Traced, Want, WantWrite, [], actions_append, actions_of, actions_since}
-use Rattle.vfs_gates.proofs.Prelude.{actions_so_far, after_more, and_parts, ap, append-nil, append_assoc, call_effect, cases_Bool, dite, end_of}
-use Rattle.vfs_gates.proofs.Prelude.{eqb_tells, false, get_elem?, if◌then◌else◌, inl, inr, is_load, model_limits, next_of, only, own_part, part_more}
-use Rattle.vfs_gates.proofs.Prelude.{read, refl, some, state_of_trace, subst, sym, true, whole_run, world_after, ℕ, ℕ_discrete, ◌++◌, ◌+◌, ◌<◌, ◌∙◌}
-use Rattle.vfs_gates.proofs.Prelude.{◌∷◌, ◌≡◌}
-use Rattle.vfs_gates.proofs.several_tasks.{Enclosed.read_only_found, FrozenUntilThawed.{SomeSays, load_finds, some_of}, Keeping.NoneOfThese}
-use Rattle.vfs_gates.{proofs.several_tasks.Keeping.none_own, specs.Meetings.{NoneSince, Reopens, TakesMount}}
-use Rattle.std.{proofs.lemmas.{Bool.both_ways, List.{append_cancel_left, append_cancel_right}}, specs.Prelude.◌&&◌}
-use Rattle.finite_sums.{proofs.Totals.{update_at, update_off}, specs.Sums.update}
-use Rattle.access_model.specs.{Actions.{IsAllowed, after_action}, Histories.Done, Laws.IsReadOnly, declared.actions.Action.TheVariants.MountRo}
-use Rattle.access_model.specs.declared.actions.Action.TheVariants.{MountRw, SbRo, SbRw}
-use Rattle.cpu_words.specs.Words.{Words}
-use Rattle.gate_world.specs.{declared.entries.Entry.TheVariants.Begins, traces.Found.{found_read_only, says_read_only}}
-use Rattle.gate_schedules.proofs.schedules.HeadlineProof.{whole_rule}
-use Rattle.gate_steps.{proofs.call_events.Spanning.each_event, specs.call_events.SeatedTasks.own_number}
+use Rattle.vfs_gates.proofs.Prelude.{Action, AreMoves, Begins, Bool, Called, ChangeMount, Config, DealtNumbers, Entry, Event, Grant, HasSeen}
+use Rattle.vfs_gates.proofs.Prelude.{HaveHistory, IsAllowed, IsEventDuring, IsLegal, IsPrefix, IsWithin, Level, Limits, List, Mount, NoneIs}
+use Rattle.vfs_gates.proofs.Prelude.{NoneSince, Ok, Op, Reply, SbRo, SbRw, SeatedTask, State, StaySeen, Steps, TakesEffect, Traced, Want, WantWrite}
+use Rattle.vfs_gates.proofs.Prelude.{Words, [], actions_append, actions_of, actions_since, actions_so_far, after_action, after_more, and_parts, ap}
+use Rattle.vfs_gates.proofs.Prelude.{append-nil, append_assoc, append_cancel_right, call_effect, cases_Bool, dite, each_event, end_of, eqb_tells}
+use Rattle.vfs_gates.proofs.Prelude.{false, found_read_only, get_elem?, if◌then◌else◌, inl, inr, is_load, model_limits, next_of, only, own_part}
+use Rattle.vfs_gates.proofs.Prelude.{part_more, read, refl, some, state_of_trace, subst, sym, true, update_at, whole_rule, whole_run, world_after, ℕ}
+use Rattle.vfs_gates.proofs.Prelude.{ℕ_discrete, ◌&&◌, ◌++◌, ◌+◌, ◌<◌, ◌∙◌, ◌∷◌, ◌≡◌}
+use Rattle.access_model.specs.{Histories.Done, Laws.IsReadOnly, declared.actions.Action.TheVariants.{MountRo, MountRw}}
+use Rattle.{finite_sums.{proofs.Totals.update_off, specs.Sums.update}, gate_steps.specs.call_events.SeatedTasks.own_number}
+use Rattle.{gate_world.specs.traces.Found.says_read_only, std.proofs.lemmas.{Bool.both_ways, List.append_cancel_left}}
+use Rattle.vfs_gates.proofs.several_tasks.{Enclosed.read_only_found, FrozenUntilThawed.{SomeSays, load_finds, some_of}}
+use Rattle.vfs_gates.{proofs.several_tasks.Keeping.{NoneOfThese, none_own}, specs.Meetings.{Reopens, TakesMount}}
 
 -- an action that doesn't make a mount writable leaves it read-only
 module _ (l : Limits) (s : State) (t m : ℕ) where

@@ -2,9 +2,8 @@
 use Rattle.vfs_gates.proofs.Prelude.{Action, Called, Config, DealtNumbers, Entry, GateError, HasDone, HasSeen, HaveHistory, IsPrefix, List, Op, Reply}
 use Rattle.vfs_gates.proofs.Prelude.{Result, SeatedTask, StaySeen, TakesEffect, Traced, [], actions_append, actions_since, actions_so_far, after_more}
 use Rattle.vfs_gates.proofs.Prelude.{ap, arith, call_effect, get_elem?, length, own_actions, own_number, own_part, own_view, part_more, ran_items}
-use Rattle.vfs_gates.proofs.Prelude.{refl, state_of_trace, stays_seen_on, subst, sym, ℕ, ◌++◌, ◌∙◌, ◌∷◌, ◌≡◌, ◌≤◌}
+use Rattle.vfs_gates.proofs.Prelude.{refl, same_stays_seen, state_of_trace, stays_seen_on, subst, sym, ℕ, ◌++◌, ◌∙◌, ◌∷◌, ◌≡◌, ◌≤◌}
 use Rattle.vfs_gates.{proofs.several_tasks.{Enclosed.done_there, FrozenUntilThawed.{some_number, some_ran}}, specs.Meetings.{ComesAfterList, SawList}}
-use Rattle.gate_steps.proofs.call_events.Grown.{same_stays_seen}
 
 -- what a task's own number has done after an operation
 ran_list : (c : Config) (op : Op) (trace : List Traced) (items : DealtNumbers) → 1 ≤ length items →

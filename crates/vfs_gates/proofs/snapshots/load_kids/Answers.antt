@@ -1,9 +1,7 @@
 -- each load goes on from what the one before it left
-use Rattle.vfs_gates.proofs.Prelude.{BufferWords, Go, None, Some, arith, at_snapshot, refl, snapshot_at}
+use Rattle.vfs_gates.proofs.Prelude.{BufferWords, Go, LoadsKids, None, Some, arith, at_snapshot, refl, snapshot_at, still_stands}
 use Rattle.vfs_gates.proofs.Loading.{fewer_left, kids_last, kids_noted, kids_on, next_node, noted_nowhere, noted_on, noted_to, taking_leaves}
 use Rattle.vfs_gates.specs.Noted.{with_kids}
-use Rattle.gated_tree.specs.declared.snapshots.SnapshotStep.TheVariants.{LoadsKids}
-use Rattle.gate_steps.proofs.call_events.Leading.{still_stands}
 use Rattle.vfs_gates.proofs.snapshots.load_kids.Goals as goal
 
 pub loop-next-init : goal.loop-next-init

@@ -1,8 +1,6 @@
 -- the loads have led to the children of the node that is next, and are noted
-use Rattle.vfs_gates.proofs.Prelude.{Go, None, snapshot_at, ◌<◌, ◌≡◌}
+use Rattle.vfs_gates.proofs.Prelude.{Go, LoadsKids, None, snapshot_at, ◌-◌, ◌<◌, ◌≡◌}
 use Rattle.vfs_gates.specs.Noted.{Noted, with_kids}
-use Rattle.std.proofs.Common.{◌-◌}
-use Rattle.gated_tree.specs.declared.snapshots.SnapshotStep.TheVariants.{LoadsKids}
 use Rattle.vfs_gates.proofs.snapshots.load_kids.Given as goal
 
 abbrev pub invariant-loop-next : goal.invariant-loop-next

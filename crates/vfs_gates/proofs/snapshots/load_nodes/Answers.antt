@@ -1,9 +1,7 @@
 -- each load goes on from what the one before it left
-use Rattle.vfs_gates.proofs.Prelude.{BufferWords, Go, arith, at_snapshot, refl, snapshot_at, sym, ◌∙◌}
+use Rattle.vfs_gates.proofs.Prelude.{BufferWords, Go, LoadsNode, arith, at_snapshot, refl, snapshot_at, still_stands, sym, ◌∙◌}
 use Rattle.vfs_gates.proofs.Loading.{next_node, node_last, node_none, node_noted, node_on, noted_nowhere, noted_on, noted_to, taking_leaves}
 use Rattle.vfs_gates.specs.Noted.{with_nodes}
-use Rattle.gated_tree.specs.declared.snapshots.SnapshotStep.TheVariants.{LoadsNode}
-use Rattle.gate_steps.proofs.call_events.Leading.{still_stands}
 use Rattle.vfs_gates.proofs.snapshots.load_nodes.Goals as goal
 
 pub loop-snapshot-init : goal.loop-snapshot-init

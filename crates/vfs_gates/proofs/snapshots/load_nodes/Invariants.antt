@@ -1,8 +1,6 @@
 -- the loads have led to the node that is next, and are noted
-use Rattle.vfs_gates.proofs.Prelude.{Go, None, snapshot_at, ◌<◌, ◌≡◌}
+use Rattle.vfs_gates.proofs.Prelude.{Go, LoadsNode, None, snapshot_at, ◌-◌, ◌<◌, ◌≡◌}
 use Rattle.vfs_gates.specs.Noted.{Noted, with_nodes}
-use Rattle.std.proofs.Common.{◌-◌}
-use Rattle.gated_tree.specs.declared.snapshots.SnapshotStep.TheVariants.{LoadsNode}
 use Rattle.vfs_gates.proofs.snapshots.load_nodes.Given as goal
 
 abbrev pub invariant-loop-snapshot : goal.invariant-loop-snapshot

@@ -1,9 +1,7 @@
 -- what was loaded becomes the last snapshot, and the lock is given back
-use Rattle.vfs_gates.proofs.Prelude.{BufferWords, Ok, ap, at_snapshot, refl, sym, words_in, ◌∙◌, ◌≡◌}
-use Rattle.vfs_gates.{proofs.Loading.{noted_as, noted_on, noted_to, unnoted}, specs.Buffers.{completed, with_words}}
-use Rattle.access_model.specs.declared.replies.Reply.TheVariants.{Tree as TreeReply}
-use Rattle.gated_tree.specs.{Trees.words_of, declared.snapshots.SnapshotStep.TheVariants.Releases}
-use Rattle.gate_steps.proofs.call_events.Leading.{still_stands}
+use Rattle.vfs_gates.proofs.Prelude.{BufferWords, Ok, Releases, ap, at_snapshot, completed, refl, still_stands, sym, with_words, words_in, ◌∙◌, ◌≡◌}
+use Rattle.{access_model.specs.declared.replies.Reply.TheVariants.Tree as TreeReply, gated_tree.specs.Trees.words_of}
+use Rattle.vfs_gates.proofs.Loading.{noted_as, noted_on, noted_to, unnoted}
 use Rattle.vfs_gates.proofs.snapshots.load_tree.Goals as goal
 
 pub find-freed-requires-clause-stands : goal.find-freed-requires-clause-stands

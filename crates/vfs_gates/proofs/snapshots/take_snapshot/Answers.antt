@@ -1,8 +1,7 @@
 -- each step goes on from what the one before it left
-use Rattle.vfs_gates.proofs.Prelude.{BufferWords, arith, at_snapshot, refl, sym, words_in, ◌≡◌}
+use Rattle.vfs_gates.proofs.Prelude.{BufferWords, LoadsStage, Locks, arith, at_snapshot, refl, still_stands, sym, words_in, ◌≡◌}
+use Rattle.gate_steps.proofs.call_events.Leading.{led_to}
 use Rattle.vfs_gates.proofs.Loading.{is_frozen, lock_free, noted_as, noted_on, noted_to, unnoted}
-use Rattle.gated_tree.specs.declared.snapshots.SnapshotStep.TheVariants.{LoadsStage, Locks}
-use Rattle.gate_steps.proofs.call_events.Leading.{led_to, still_stands}
 use Rattle.vfs_gates.proofs.snapshots.take_snapshot.Goals as goal
 
 pub returns-then-taken-ne0 : goal.returns-then-taken-ne0

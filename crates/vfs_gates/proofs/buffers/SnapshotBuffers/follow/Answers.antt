@@ -1,7 +1,6 @@
 -- a step of a snapshot is noted, and one of any other operation leaves the room as it is
-use Rattle.vfs_gates.proofs.Prelude.{BufferWords, BuffersMatch, None, Trees, after_of, ap, phase_after, subst, sym, words_in, ◌∙◌}
+use Rattle.vfs_gates.proofs.Prelude.{BufferWords, BuffersMatch, None, Trees, after_of, ap, items_after, phase_after, subst, sym, words_in, ◌∙◌}
 use Rattle.vfs_gates.{proofs.{Noting.follows_taking, Rooming.{follows_other, not_snapshot, not_tree}}, specs.Buffers.is_of_snapshot}
-use Rattle.gate_steps.specs.Seating.{items_after}
 use Rattle.vfs_gates.proofs.buffers.SnapshotBuffers.follow.Goals as goal
 
 pub returns-in_default : goal.returns-in_default

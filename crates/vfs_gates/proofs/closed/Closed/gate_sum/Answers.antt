@@ -1,11 +1,9 @@
-use Rattle.vfs_gates.proofs.Prelude.{Gate, Some, WordName, ap, arith, refl, subst, sym, true≢false, ℕ, ◌<◌, ◌∙◌, ◌≡◌}
+use Rattle.vfs_gates.proofs.Prelude.{Gate, Some, WordName, ap, arith, place, refl, slice_index, slots_items, stride, subst, sym, total, true≢false, ℕ}
+use Rattle.vfs_gates.proofs.Prelude.{◌%◌, ◌*◌, ◌<◌, ◌∙◌, ◌≡◌}
+use Rattle.{cpu_words.specs.Names.IsWord, gate_steps.{proofs.TableWords.lies_inside, specs.Rules.table_index}}
+use Rattle.gate_world.specs.Configs.{extents_kept, extents_of}
 use Rattle.vfs_gates.proofs.closed_gates.{Ending.{level_sums_to_none, sums_to_none}, Gating.{counts_on, counts_one_more, has_count, is_gate}}
 use Rattle.vfs_gates.specs.{Ended.ClosedState, Sums.{IsGate, count_word}}
-use Rattle.std.{proofs.Common.{◌%◌, ◌*◌}, specs.{Prelude.slice_index, Slots.slots_items}}
-use Rattle.finite_sums.specs.Sums.{total}
-use Rattle.cpu_words.specs.Names.{IsWord, place, stride}
-use Rattle.gate_world.specs.Configs.{extents_kept, extents_of}
-use Rattle.gate_steps.{proofs.TableWords.lies_inside, specs.Rules.table_index}
 use Rattle.vfs_gates.proofs.closed.Closed.gate_sum.Goals as goal
 
 pub returns-clause-mounts : goal.returns-clause-mounts

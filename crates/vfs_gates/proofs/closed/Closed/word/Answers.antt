@@ -1,8 +1,6 @@
-use Rattle.vfs_gates.proofs.Prelude.{Some, WordName, ap, refl, subst, sym, ℕ, ◌<◌, ◌∙◌, ◌≡◌}
+use Rattle.vfs_gates.proofs.Prelude.{Some, WordName, ap, place, refl, slice_index, slots_items, stride, subst, sym, ℕ, ◌%◌, ◌*◌, ◌<◌, ◌∙◌, ◌≡◌}
+use Rattle.{cpu_words.specs.Names.IsWord, gate_world.specs.Configs.extents_of}
 use Rattle.vfs_gates.proofs.closed_gates.Ending.{no_hold, no_remount, no_section, none_removed, umount_free}
-use Rattle.std.{proofs.Common.{◌%◌, ◌*◌}, specs.{Prelude.slice_index, Slots.slots_items}}
-use Rattle.cpu_words.specs.Names.{IsWord, place, stride}
-use Rattle.gate_world.specs.Configs.{extents_of}
 use Rattle.vfs_gates.proofs.closed.Closed.word.Goals as goal
 
 pub returns-then-has_word-clause-umount : goal.returns-then-has_word-clause-umount

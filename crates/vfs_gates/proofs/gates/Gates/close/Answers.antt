@@ -1,8 +1,7 @@
 -- the last seat has all numbers, and they rest
-use Rattle.vfs_gates.proofs.Prelude.{Config, DealtNumbers, EndedWith, Entry, List, refl, subst, sym, times, ℕ, ◌<◌, ◌∙◌, ◌≤◌}
+use Rattle.vfs_gates.proofs.Prelude.{AllRest, Config, DealtNumbers, EndedWith, Entry, List, refl, slots_items, subst, sym, times, ℕ, ◌<◌, ◌∙◌, ◌≤◌}
+use Rattle.gate_steps.specs.Tables.{IsClosing}
 use Rattle.vfs_gates.proofs.{closed_gates.Closing.ended, gates.Gates.close.Goals.After-close}
-use Rattle.std.specs.Slots.{slots_items}
-use Rattle.gate_steps.specs.{Tables.IsClosing, call_events.GhostAgrees.AllRest}
 use Rattle.vfs_gates.proofs.gates.Gates.close.Goals as goal
 
 -- what the words and the task's numbers say of each other

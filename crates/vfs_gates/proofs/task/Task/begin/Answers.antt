@@ -1,9 +1,8 @@
 -- a beginning that is refused, and one that isn't
-use Rattle.vfs_gates.proofs.Prelude.{SeatedTask, ap, refl, sym}
+use Rattle.vfs_gates.proofs.Prelude.{SeatedTask, ap, err_from_is_err_and, refl, sym}
+use Rattle.gate_steps.proofs.call_events.Running.{starts}
 use Rattle.vfs_gates.proofs.{Admitting.{admitted_by, refused_by}, Calling.{Call, admitted_call, begun, begun_state}, Rooming.begun_in}
 use Rattle.vfs_gates.proofs.task.Task.begin.Goals.{In_ok-phase}
-use Rattle.std.proofs.lemmas.Result.{err_from_is_err_and}
-use Rattle.gate_steps.proofs.call_events.Running.{starts}
 use Rattle.vfs_gates.proofs.task.Task.begin.Goals as goal
 
 pub returns-in_err-phase-clause-answer : goal.returns-in_err-phase-clause-answer

@@ -1,7 +1,6 @@
 -- it tells of the reply whether the operation was done
-use Rattle.vfs_gates.proofs.Prelude.{true, unit_of}
+use Rattle.vfs_gates.proofs.Prelude.{Close, true, unit_of}
 use Rattle.gate_steps.proofs.call_events.Running.{was_told}
-use Rattle.gate_world.specs.declared.operations.Op.TheVariants.{Close}
 use Rattle.vfs_gates.proofs.task.Task.close_file.Goals as goal
 
 pub returns : goal.returns

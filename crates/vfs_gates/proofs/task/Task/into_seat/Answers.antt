@@ -1,7 +1,6 @@
 -- what a task that rests knows rests
-use Rattle.vfs_gates.proofs.Prelude.{SeatedTask, ap, subst, sym, ◌∙◌}
+use Rattle.vfs_gates.proofs.Prelude.{AllRest, SeatedTask, ap, subst, sym, ◌∙◌}
 use Rattle.vfs_gates.{proofs.Parting.all_rest, specs.TaskStates.HoldsNothing}
-use Rattle.gate_steps.specs.call_events.GhostAgrees.{AllRest}
 use Rattle.vfs_gates.proofs.task.Task.into_seat.Goals as goal
 
 pub returns-clause-rested : goal.returns-clause-rested

@@ -1,7 +1,6 @@
-use Rattle.vfs_gates.proofs.Prelude.{Config, DealtNumbers, Empty, GhostAgrees, None, SeatedTask, ap, arith, length, own_number, own_view, subst, sym}
-use Rattle.vfs_gates.proofs.Prelude.{true, words_in, ◌∙◌, ◌≡◌}
+use Rattle.vfs_gates.proofs.Prelude.{Config, DealtNumbers, Empty, GhostAgrees, None, SeatedTask, ap, arith, length, own_number, own_view, set, subst}
+use Rattle.vfs_gates.proofs.Prelude.{sym, true, words_in, ◌∙◌, ◌≡◌}
 use Rattle.vfs_gates.proofs.{Parting.{below, join_self}, Rooming.{joined_view, room_same}, Waiting.{joined_number, tell_same}}
-use Rattle.std.proofs.Common.{set}
 use Rattle.vfs_gates.proofs.task.Task.leave_to.Goals as goal
 
 pub invariant_of-task : goal.invariant_of-task

@@ -1,13 +1,12 @@
 -- a beginning, and a line of steps whose loads are noted
-use Rattle.vfs_gates.proofs.Prelude.{BuffersMatch, Config, Phase, SeatedTask, Some, Trees, ap, arith, refl, snapshot_at, subst, sym, words_in, ◌∙◌}
-use Rattle.vfs_gates.proofs.Prelude.{◌≡◌, ◌≤◌}
+use Rattle.vfs_gates.proofs.Prelude.{BuffersMatch, Config, Locks, Phase, SeatedTask, Some, Trees, ap, arith, refl, snapshot_at, subst, sym, words_in}
+use Rattle.vfs_gates.proofs.Prelude.{◌∙◌, ◌≡◌, ◌≤◌}
+use Rattle.gate_steps.{proofs.call_events.Onward.{done_at, stands_at}, specs.call_events.Progress.TheVariants.{Done, Going}}
+use Rattle.gate_world.specs.declared.operations.Op.TheVariants.{Snapshot as SnapshotOp}
 use Rattle.vfs_gates.proofs.{Admitting.refused_by, AtOnce.{refused_at_once, told_at_once, went_so}, Calling.{Call, Left, call_with, ended_at}}
 use Rattle.vfs_gates.proofs.Calling.{ghost_agrees_at, ghost_agrees_done, goes_at, has_asked_none, is_agrees, items_of, not_begun}
 use Rattle.vfs_gates.proofs.{Loading.{loaded_buffers, loaded_done, nodes_as_begun}, Rooming.begun_in, Waiting.{left_tells, once}}
 use Rattle.vfs_gates.{proofs.task.Task.load_at_once.Goals.After-snapshot_first-next, specs.{Buffers.IsSized, Noted.of_tree}}
-use Rattle.gate_steps.{proofs.call_events.Onward.{done_at, stands_at}, specs.call_events.Progress.TheVariants.{Done, Going}}
-use Rattle.gate_world.specs.declared.operations.Op.TheVariants.{Snapshot as SnapshotOp}
-use Rattle.gated_tree.specs.declared.snapshots.SnapshotStep.TheVariants.{Locks}
 use Rattle.vfs_gates.proofs.task.Task.load_at_once.Goals as goal
 
 -- the call, and what its line has left

@@ -1,7 +1,6 @@
 -- both tasks are as they were, but for what they have seen
-use Rattle.vfs_gates.proofs.Prelude.{BuffersMatch, Config, DealtNumbers, Entry, GhostAgrees, List, SeatedTask, ap, own_number, own_view, subst, sym}
-use Rattle.vfs_gates.proofs.Prelude.{task_state, words_in, ◌++◌, ◌∙◌, ◌≡◌}
-use Rattle.vfs_gates.specs.{Meetings.Meets, Waits.WaitsTell}
+use Rattle.vfs_gates.proofs.Prelude.{BuffersMatch, Config, DealtNumbers, Entry, GhostAgrees, List, Meets, SeatedTask, WaitsTell, ap, own_number}
+use Rattle.vfs_gates.proofs.Prelude.{own_view, subst, sym, task_state, words_in, ◌++◌, ◌∙◌, ◌≡◌}
 use Rattle.gate_steps.specs.Meetings.{StandsNow}
 use Rattle.vfs_gates.proofs.task.Task.meet.Goals as goal
 

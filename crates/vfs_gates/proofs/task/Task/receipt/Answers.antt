@@ -1,6 +1,5 @@
 -- the task is as it was
-use Rattle.vfs_gates.proofs.Prelude.{BuffersMatch, DealtNumbers, GhostAgrees, ap, own_number, own_view, subst, sym, words_in, ◌∙◌}
-use Rattle.vfs_gates.specs.Waits.{WaitsTell}
+use Rattle.vfs_gates.proofs.Prelude.{BuffersMatch, DealtNumbers, GhostAgrees, WaitsTell, ap, own_number, own_view, subst, sym, words_in, ◌∙◌}
 use Rattle.vfs_gates.proofs.task.Task.receipt.Goals as goal
 
 pub invariant_of-self : goal.invariant_of-self

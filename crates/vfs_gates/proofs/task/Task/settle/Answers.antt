@@ -1,8 +1,7 @@
 -- the three levels, one after the other: an idle task is never refused, and any other is at the first of them
-use Rattle.vfs_gates.proofs.Prelude.{Err, ◌≡◌}
-use Rattle.vfs_gates.proofs.{CallingBack.{none_err, none_ok, settles_then}, Holding.as_before_twice}
-use Rattle.std.proofs.lemmas.Result.{err_from_is_err_and}
+use Rattle.vfs_gates.proofs.Prelude.{Err, err_from_is_err_and, ◌≡◌}
 use Rattle.access_model.specs.declared.errors.GateError.TheVariants.{Order}
+use Rattle.vfs_gates.proofs.{CallingBack.{none_err, none_ok, settles_then}, Holding.as_before_twice}
 use Rattle.vfs_gates.proofs.task.Task.settle.Goals as goal
 
 pub returns-clause-from : goal.returns-clause-from

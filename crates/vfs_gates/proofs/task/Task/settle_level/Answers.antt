@@ -1,10 +1,8 @@
 -- A callback that ran is one more; the first that did not run ends the loop. That of an idle task is not refused, and
 -- that of any other is, as Order.
-use Rattle.vfs_gates.proofs.Prelude.{Ok, false, refl, subst, suc, true, ◌∙◌, ◌≡◌}
-use Rattle.std.proofs.{Common.rules, lemmas.Result.err_from_is_err_and}
+use Rattle.vfs_gates.proofs.Prelude.{Callback, Ok, Replies, err_from_is_err_and, false, refl, rules, subst, suc, true, ◌∙◌, ◌≡◌}
+use Rattle.gate_steps.specs.call_events.Runs.{ran_of}
 use Rattle.vfs_gates.proofs.{CallingBack.{calls_back, never_refused, not_ran, refused_still}, Holding.unchanged}
-use Rattle.gate_world.specs.declared.operations.Op.TheVariants.{Callback}
-use Rattle.gate_steps.specs.call_events.Runs.{Replies, ran_of}
 use Rattle.vfs_gates.proofs.task.Task.settle_level.Goals as goal
 
 pub loop-init : goal.loop-init

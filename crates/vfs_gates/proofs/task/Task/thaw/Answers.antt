@@ -1,7 +1,6 @@
 -- it tells of the reply whether the operation was done
 use Rattle.vfs_gates.proofs.Prelude.{unit_of}
-use Rattle.gate_steps.proofs.call_events.Asking.{was_told_asking}
-use Rattle.gate_world.specs.declared.operations.Op.TheVariants.{Thaw as ThawOp}
+use Rattle.{gate_steps.proofs.call_events.Asking.was_told_asking, gate_world.specs.declared.operations.Op.TheVariants.Thaw as ThawOp}
 use Rattle.vfs_gates.proofs.task.Task.thaw.Goals as goal
 
 pub returns : goal.returns

@@ -1,8 +1,7 @@
 -- the room shows the own view's last snapshot, and a task has a number of its own
-use Rattle.vfs_gates.proofs.Prelude.{SeatedTask, ap, length, own_view, subst, words_in, ◌∙◌, ◌≤◌}
-use Rattle.vfs_gates.proofs.{Parting.has_own, Rooming.shows_last}
-use Rattle.std.specs.Prelude.{option_map}
+use Rattle.vfs_gates.proofs.Prelude.{SeatedTask, ap, length, option_map, own_view, subst, words_in, ◌∙◌, ◌≤◌}
 use Rattle.gate_world.specs.declared.views.Snapshot.{Snapshot}
+use Rattle.vfs_gates.proofs.{Parting.has_own, Rooming.shows_last}
 use Rattle.vfs_gates.proofs.task.Task.tree.Goals as goal
 
 pub returns-clause-last : goal.returns-clause-last

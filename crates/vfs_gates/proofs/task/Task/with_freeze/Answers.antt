@@ -1,8 +1,6 @@
 -- A freeze and a thaw take nothing, and the closure leaves the task as it was.
-use Rattle.vfs_gates.proofs.Prelude.{Freeze, IsAsBefore, refl, unit_of, ◌∙◌}
-use Rattle.std.proofs.Common.{rules}
+use Rattle.vfs_gates.proofs.Prelude.{Freeze, IsAsBefore, Thaw, refl, rules, unit_of, ◌∙◌}
 use Rattle.vfs_gates.proofs.{Holding.{as_before_twice, keeps}, Returning.done_idle}
-use Rattle.gate_world.specs.declared.operations.Op.TheVariants.{Thaw}
 use Rattle.vfs_gates.proofs.task.Task.with_freeze.Goals as goal
 
 pub returns-in_err-freeze-clause-as_before : goal.returns-in_err-freeze-clause-as_before

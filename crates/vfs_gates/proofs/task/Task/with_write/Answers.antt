@@ -1,6 +1,5 @@
 -- The closure leaves the task as it was, so the return is not refused, and the task is then as it was before.
-use Rattle.vfs_gates.proofs.Prelude.{IsAsBefore, WantWrite, unit_of, ◌∙◌}
-use Rattle.std.proofs.Common.{rules}
+use Rattle.vfs_gates.proofs.Prelude.{IsAsBefore, WantWrite, rules, unit_of, ◌∙◌}
 use Rattle.vfs_gates.proofs.{Holding.refused_call_keeps, Returning.{done_idle, written_back}}
 use Rattle.vfs_gates.proofs.task.Task.with_write.Goals as goal
 
