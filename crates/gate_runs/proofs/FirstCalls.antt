@@ -3,23 +3,20 @@ use Rattle.gate_runs.proofs.Prelude.{Action, Again, Bool, Called, Config, Create
 use Rattle.gate_runs.proofs.Prelude.{Reply, Result, SeatedTask, Some, Traced, View, WantWrite, [], adds, ap, arith, false, inl, inr, length}
 use Rattle.gate_runs.proofs.Prelude.{own_actions, own_number, own_view, refl, spare_of, subst, suc, sym, true, zero, ℕ, ◌++◌, ◌+◌, ◌<◌, ◌∙◌, ◌∷◌, ◌≡◌}
 use Rattle.gate_runs.proofs.Prelude.{◌≤◌, ◌⊎◌}
-use Rattle.gate_runs.{proofs.Keeping.called_stays, specs.Refusals.EndsCreate}
-use Rattle.std.{proofs.lemmas.Bool.{Decides.eqb_tells, and_parts, false≢true}, specs.Prelude.{if◌then◌else◌, ◌==◌}}
-use lib.ListN.{get_elem?}
-use Rattle.finite_sums.proofs.Totals.{each_updated}
 use Rattle.access_model.specs.{Actions.after_action, Histories.{Done, IsLegal, end_of, own_part}, Laws.IsReadOnly, States.{IsDirectory, Limits}}
 use Rattle.access_model.specs.{States.State, declared.{actions.Kind.TheVariants.Dir, errors.GateError.TheVariants.{NoEntry, NoSpace, NotDir}}}
 use Rattle.cpu_words.specs.{Words.read, declared.{events.{Event.Event, Touch.{TheVariants.Load, Touch}}, names.WordName.{TheVariants.Node, WordName}}}
-use Rattle.gated_tree.specs.Refusals.{finds_file, finds_free, loads_node}
-use Rattle.node_words.specs.Nodes.{dirty_in, kind_in, node_shown, parent_in, removed_in, size_in}
+use Rattle.{finite_sums.proofs.Totals.each_updated, gate_schedules.proofs.schedules.HeadlineProof.{whole_rule, whole_run}}
+use Rattle.gate_steps.proofs.call_events.{Grown.only, Moments.actions_append, Spanning.each_event}
+use Rattle.gate_steps.specs.{Seating.{DealtNumbers, HaveHistory, HaveViews, one_if, times}, call_events.{Runs.AreMoves, Spans.IsEventDuring}}
 use Rattle.gate_world.specs.{Configs.{IsWithin, model_limits}, Headline.{actions_since, actions_so_far, world_after}, Rules.Tree, Shown.shown}
 use Rattle.gate_world.specs.{Work.next_of, declared.entries.Entry.{Entry, TheVariants.Steps}, traces.Found.{is_load, says_read_only}}
-use Rattle.gate_world.specs.traces.Traces.{IsHonestAnswer, actions_of}
-use Rattle.gate_schedules.proofs.schedules.HeadlineProof.{whole_rule, whole_run}
-use Rattle.gate_steps.{proofs.call_events.{Grown.only, Moments.actions_append, Spanning.each_event}, specs.Seating.{DealtNumbers, HaveHistory}}
-use Rattle.gate_steps.specs.{Seating.{HaveViews, one_if, times}, call_events.{Runs.AreMoves, Spans.IsEventDuring}}
-use Rattle.vfs_gates.proofs.several_tasks.{Enclosed.read_only_found, FrozenUntilThawed.{SomeSays, load_finds, some_of}}
-use Rattle.vfs_gates.specs.Splitting.{HaveDoneNothing}
+use Rattle.{gate_world.specs.traces.Traces.{IsHonestAnswer, actions_of}, gated_tree.specs.Refusals.{finds_file, finds_free, loads_node}}
+use Rattle.{node_words.specs.Nodes.{dirty_in, kind_in, node_shown, parent_in, removed_in, size_in}, std.proofs.Common.{if◌then◌else◌, ◌==◌}}
+use Rattle.{std.proofs.lemmas.Bool.{Decides.eqb_tells, and_parts, false≢true}, vfs_gates.proofs.several_tasks.Enclosed.read_only_found}
+use Rattle.vfs_gates.{proofs.several_tasks.FrozenUntilThawed.{SomeSays, load_finds, some_of}, specs.Splitting.HaveDoneNothing}
+use Rattle.gate_runs.{proofs.Keeping.called_stays, specs.Refusals.EndsCreate}
+use lib.ListN.{get_elem?}
 
 -- A load of a call that says this, and the schedule after which it happened: that with which the call returns goes on from there.
 record LoadedSo (first last : SeatedTask) (Says : Event → Type 0) : Type 0 where

@@ -2,17 +2,15 @@
 use Rattle.gate_runs.proofs.Prelude.{Action, Called, Config, DealtNumbers, Err, Freeze, GateError, GaveUp, List, MayFreeze, None, Ok, Option, Reply}
 use Rattle.gate_runs.proofs.Prelude.{Result, SeatedTask, Some, Traced, User, [], adds, ap, inl, inr, own_actions, refl, refusal_at, subst, suc, sym}
 use Rattle.gate_runs.proofs.Prelude.{zero, ℕ, ◌++◌, ◌∙◌, ◌∷◌, ◌≡◌, ◌⊎◌}
-use Rattle.gate_runs.specs.Patience.{FreezesWith, with_patience}
 use Rattle.access_model.specs.{Holders.held_by, declared.actions.Action.TheVariants.{Clean, Hold, Leave, Pass, Reopen, Stage}}
 use Rattle.access_model.specs.declared.errors.GateError.TheVariants.{Busy, Hook}
 use Rattle.cpu_words.specs.{Hooks.HookAnswer, declared.{events.Touch.{TheVariants.And, Touch}, names.WordName.{TheVariants.Node, WordName}}}
 use Rattle.freeze_levels.specs.declared.hooks.HookCall.{HookCall, TheVariants.KeepWaiting}
 use Rattle.gate_steps.{proofs.call_events.{Asked.either_way, FreezeAsks.refused_freeze}, specs.call_events.Asked.{AskedByRefusedFreeze, failed}}
-use Rattle.gate_steps.specs.call_events.Asking.{Ask, WereAsked, asks_of}
-use Rattle.gate_world.specs.{Operations.{all_levels_closed, failed_adds, two_levels_closed}, traces.Found.{clean_found, cleans, gave_up}}
-use Rattle.gate_world.specs.traces.{Found.stored_stage, Traces.IsHonestAnswer}
-use Rattle.mount_counts.specs.Phases.{has_flag}
-use Rattle.vfs_gates.specs.{Frozen.{holders_of, stage_of}, Patience.found_somebody, Runs.{told_as, unit_of}}
+use Rattle.{gate_steps.specs.call_events.Asking.{Ask, WereAsked, asks_of}, gate_world.specs.Operations.{all_levels_closed, failed_adds}}
+use Rattle.gate_world.specs.{Operations.two_levels_closed, traces.{Found.{clean_found, cleans, gave_up, stored_stage}, Traces.IsHonestAnswer}}
+use Rattle.{mount_counts.specs.Phases.has_flag, vfs_gates.specs.{Frozen.{holders_of, stage_of}, Patience.found_somebody, Runs.{told_as, unit_of}}}
+use Rattle.gate_runs.specs.Patience.{FreezesWith, with_patience}
 
 -- what was asked of who has so much patience, and what was left of it
 abbrev WerePatient : List Ask → Option ℕ → Option ℕ → Type 0

@@ -4,12 +4,11 @@ use Rattle.gate_runs.proofs.Prelude.{GateError, Grow, HaveNotFrozen, IsRefused, 
 use Rattle.gate_runs.proofs.Prelude.{Remounts, Repeats, Reply, Result, SeatedTask, Some, Traced, Waits, WantWrite, WriterRound, Writes, [], adds, ap}
 use Rattle.gate_runs.proofs.Prelude.{arith, false, inl, inr, length, own_actions, own_number, own_view, refl, refusal_at, spare_of, subst, suc, sym}
 use Rattle.gate_runs.proofs.Prelude.{true, zero, ℕ, ◌++◌, ◌+◌, ◌∙◌, ◌∷◌, ◌≡◌, ◌≤◌}
-use Rattle.gate_runs.specs.{Keeping.{FreezesNothing, KeepsNumbers}, Rounds.{CreatesFiles, Retries, Takes, Tries}}
-use Rattle.std.proofs.lemmas.Bool.{cases_Bool}
 use Rattle.access_model.specs.declared.replies.Reply.TheVariants.{Node}
 use Rattle.gate_world.specs.{declared.operations.Op.TheVariants.ChangeMount, traces.{Found.found_read_only, Traces.actions_of}}
+use Rattle.{run_plans.specs.declared.counts.Tried.{TheVariants.{Copied, GaveUp as GivenUp}, Tried}, std.proofs.lemmas.Bool.cases_Bool}
 use Rattle.vfs_gates.specs.{Runs.{Replies, ran_items}, Splitting.HaveDoneNothing}
-use Rattle.run_plans.specs.declared.counts.Tried.{TheVariants.{Copied, GaveUp as GivenUp}, Tried}
+use Rattle.gate_runs.specs.{Keeping.{FreezesNothing, KeepsNumbers}, Rounds.{CreatesFiles, Retries, Takes, Tries}}
 
 pub stays_so : (s : SeatedTask) → KeepsNumbers s s
 stays_so s = record { config = refl; own = refl; spare = refl; idle = λ i. i; there = λ h. h }

@@ -1,8 +1,7 @@
 -- Tasks at rest: one that begins, and one that takes back the numbers of another.
 use Rattle.gate_runs.proofs.Prelude.{Action, DealtNumbers, HasBegun, List, Rests, SeatedTask, [], ap, arith, length, own_view, refl, subst, sym, ℕ}
 use Rattle.gate_runs.proofs.Prelude.{◌++◌, ◌∙◌, ◌∷◌, ◌≡◌, ◌≤◌}
-use Rattle.access_model.specs.Histories.{levels_of, mounts_of, opens_of}
-use Rattle.vfs_gates.specs.TaskStates.{HoldsNothing, IsIdle}
+use Rattle.{access_model.specs.Histories.{levels_of, mounts_of, opens_of}, vfs_gates.specs.TaskStates.{HoldsNothing, IsIdle}}
 
 -- a task that is idle and has done nothing rests
 pub begun_rests : (number : ℕ) (s : SeatedTask) → IsIdle s → HasBegun number s → Rests s

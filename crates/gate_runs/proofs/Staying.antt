@@ -2,10 +2,9 @@
 use Rattle.gate_runs.proofs.Prelude.{Among, DealtNumbers, Gives, HasBegun, List, Option, RemountRound, Remounts, Repeats, SeatedTask, View}
 use Rattle.gate_runs.proofs.Prelude.{WriterRound, Writes, [], ap, arith, inl, inr, length, own_number, own_view, refl, subst, suc, sym, ℕ, ◌++◌, ◌+◌}
 use Rattle.gate_runs.proofs.Prelude.{◌-◌, ◌∙◌, ◌∷◌, ◌≡◌, ◌≤◌}
+use Rattle.{run_plans.specs.declared.counts.Details.Details, vfs_gates.specs.{Seating.{HaveViews, numbered, times}, Splitting.HaveDoneNothing}}
 use Rattle.gate_runs.{proofs.Keeping.{remounts_freeze_none, writes_freeze_none}, specs.Counts.{both, no_remounts, no_writes, remounts_of}}
 use Rattle.gate_runs.specs.{Homes.TookBack, Keeping.KeepsNumbers, Observers.was_held, Parts.{AllDid, AllWrote, EachFrom, EndsAs, Remounted, Wrote}}
-use Rattle.vfs_gates.specs.{Seating.{HaveViews, numbered, times}, Splitting.HaveDoneNothing}
-use Rattle.run_plans.specs.declared.counts.Details.{Details}
 
 -- who stands among these does so among more
 pub among_more : (s : SeatedTask) (items more : DealtNumbers) → Among items s → Among (items ++ more) s

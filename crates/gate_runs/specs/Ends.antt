@@ -1,9 +1,8 @@
 -- How the threads of a run end.
-use Rattle.std.specs.Prelude.{ℕ, ◌⊎◌, Result, IfErr, IfOk}
-use Rattle.access_model.specs.declared.errors.GateError.{GateError}
-use Rattle.run_plans.specs.declared.{counts.Details.{Details}, plans.Plan.{Plan}}
-use Rattle.vfs_gates.specs.{declared.Gates.{Gates}, Ended.{HasAll}, TaskStates.{IsFrom, SeatedTask, spare_of}}
-use Rattle.gate_runs.specs.{Counts.{CountsRounds}, Keeping.{HaveNotFrozen}, Parts.{AllDid, Among}, Refusals.{FoundOthers, WriterRefused}}
+use Rattle.{access_model.specs.declared.errors.GateError.GateError, run_plans.specs.declared.{counts.Details.Details, plans.Plan.Plan}}
+use Rattle.std.specs.Prelude.{IfErr, IfOk, Result, ℕ, ◌⊎◌}
+use Rattle.vfs_gates.specs.{Ended.HasAll, TaskStates.{IsFrom, SeatedTask, spare_of}, declared.Gates.Gates}
+use Rattle.gate_runs.specs.{Counts.CountsRounds, Keeping.HaveNotFrozen, Parts.{AllDid, Among}, Refusals.{FoundOthers, WriterRefused}}
 
 -- All tasks were joined, whatever they met. The task that took them back is from these gates, rests and has all numbers, and none of the others has
 -- frozen or thawed. Each has done its part; or a writer was refused so, or the backup found that others had frozen or thawed.

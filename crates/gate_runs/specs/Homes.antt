@@ -1,12 +1,11 @@
 -- What the task of a thread comes home with: the remounter, which has number 1, and each writer.
-use Rattle.std.specs.Prelude.{◌≡◌, ℕ, ◌+◌, ◌<◌, ◌≤◌, ◌++◌, Result, IfErr, IfOk, length}
 use Rattle.access_model.specs.declared.errors.GateError.{GateError}
-use Rattle.run_plans.specs.{Plans.{run_config}, declared.{plans.Plan.{Plan}, counts.{Remounts.{Remounts}, Writes.{Writes}}}}
-use Rattle.gate_runs.specs.{Counts.{both, no_remounts, no_writes}, Keeping.{HaveNotFrozen}, Observers.{was_held}, Refusals.{WriterRefused}}
-use Rattle.gate_runs.specs.Rounds.{RemountRound, Repeats, WriterRound}
-use Rattle.gate_runs.specs.{declared.threads.Met.{Met, TheVariants.{Remounter, Writer}}, Parts.{Remounted, Wrote}}
-use Rattle.vfs_gates.specs.{Held.{Rests}, declared.Gates.{Gates}, Seating.{times}, Splitting.{HasBegun}}
-use Rattle.vfs_gates.specs.{TaskStates.{IsFrom, SeatedTask, own_number, spare_of}, Grown.{StaySeen}}
+use Rattle.run_plans.specs.{Plans.run_config, declared.{counts.{Remounts.Remounts, Writes.Writes}, plans.Plan.Plan}}
+use Rattle.{std.specs.Prelude.{IfErr, IfOk, Result, length, ℕ, ◌++◌, ◌+◌, ◌<◌, ◌≡◌, ◌≤◌}, vfs_gates.specs.{Grown.StaySeen, Held.Rests, Seating.times}}
+use Rattle.vfs_gates.specs.{Splitting.HasBegun, TaskStates.{IsFrom, SeatedTask, own_number, spare_of}, declared.Gates.Gates}
+use Rattle.gate_runs.specs.{Counts.{both, no_remounts, no_writes}, Keeping.HaveNotFrozen, Observers.was_held, Parts.{Remounted, Wrote}}
+use Rattle.gate_runs.specs.{Refusals.WriterRefused, Rounds.{RemountRound, Repeats, WriterRound}, declared.threads.Met.Met}
+use Rattle.gate_runs.specs.declared.threads.Met.TheVariants.{Remounter, Writer}
 
 -- all rounds of the task with this number, and nothing else, which met this
 abbrev pub DoesRounds : (ℕ → ℕ → Type 0) → ℕ → ℕ → ℕ → SeatedTask → SeatedTask → Met → Type 0

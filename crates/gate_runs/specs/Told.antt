@@ -1,9 +1,8 @@
 -- What a run tells of its gates once they are closed.
-use Rattle.std.specs.Prelude.{◌≡◌, ℕ, ◌*◌, Option, None, slice_index}
-use Rattle.cpu_words.specs.{Names.{place, stride}, declared.names.WordName.TheVariants.{Used}}
-use Rattle.run_plans.specs.{declared.counts.{Totals.{Totals}, Details.{Details}}, Plans.{run_config}}
+use Rattle.cpu_words.specs.{Names.{place, stride}, declared.names.WordName.TheVariants.Used}
+use Rattle.run_plans.specs.{Plans.run_config, declared.counts.{Details.Details, Totals.Totals}}
+use Rattle.{std.specs.Prelude.{None, Option, slice_index, ℕ, ◌*◌, ◌≡◌}, vfs_gates.specs.Ended.{ClosedState, Ended}}
 use Rattle.gate_runs.specs.{Counts.{CountsRounds, gave_up_told}, Parts.{AllDid, EndsAs}}
-use Rattle.vfs_gates.specs.Ended.{Ended, ClosedState}
 
 -- What a run tells of gates that are closed: the blocks that their files have in the end, and that nothing is held. In the state that they
 -- leave, each task has done its part from where it began, and nothing else: the backup all its rounds, each a freeze with a snapshot, a call of the

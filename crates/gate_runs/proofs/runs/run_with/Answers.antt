@@ -1,8 +1,7 @@
 -- the plan is what was asked for
 use Rattle.gate_runs.proofs.Prelude.{None, Option, Plan, err_from_is_err_and, refl, subst, ℕ, ◌≡◌}
+use Rattle.{access_model.specs.declared.errors.GateError.TheVariants.Invalid, run_plans.specs.Meetings.unseen}
 use Rattle.gate_runs.specs.{Refusals.RunRefused, Told.TellsRun}
-use Rattle.access_model.specs.declared.errors.GateError.TheVariants.{Invalid}
-use Rattle.run_plans.specs.Meetings.{unseen}
 use Rattle.gate_runs.proofs.runs.run_with.Goals as goal
 
 -- what is said of a plan's numbers is said of those that were asked for

@@ -1,8 +1,7 @@
 -- one level more
 use Rattle.gate_runs.proofs.Prelude.{Bool, CallsBack, Repeats, SeatedTask, arith, false, refl, rules, subst, true, ℕ, ◌+◌, ◌-◌, ◌∙◌, ◌≡◌, ◌≤◌}
+use Rattle.{gate_world.specs.declared.operations.Op.TheVariants.Callback, vfs_gates.proofs.CallingBack.never_refused}
 use Rattle.gate_runs.{proofs.{Answering.rests_by, Repeating.one_more}, specs.Counts.with_ran}
-use Rattle.gate_world.specs.declared.operations.Op.TheVariants.{Callback}
-use Rattle.vfs_gates.proofs.CallingBack.{never_refused}
 use Rattle.gate_runs.proofs.workers.call_back.Goals as goal
 
 ran_once : (ran : Bool) (so_far : ℕ) → with_ran ran so_far ≤ so_far + 1

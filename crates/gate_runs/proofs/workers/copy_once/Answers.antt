@@ -1,14 +1,11 @@
 -- a copy, or a freeze that gave up
 use Rattle.gate_runs.proofs.Prelude.{Action, Bool, Called, DealtNumbers, Does, Err, FoundOthers, Freeze, GateError, GaveUp, List, Ok, Option}
 use Rattle.gate_runs.proofs.Prelude.{Performs, Rests, Result, SeatedTask, User, err_from_is_err_and, inl, own_actions, refl, subst, sym, true, ℕ, ◌≡◌}
+use Rattle.{access_model.specs.{Holders.held_by, declared.errors.GateError.TheVariants.Invalid}, cpu_words.specs.Hooks.HookAnswer}
+use Rattle.{freeze_levels.specs.declared.hooks.HookCall.HookCall, gate_steps.specs.call_events.Asking.PerformsAsking}
+use Rattle.{gate_world.specs.declared.operations.Op.TheVariants.{Snapshot, Thaw}, vfs_gates.{proofs.Grown.same_stays_seen, specs.Frozen.holders_of}}
 use Rattle.gate_runs.proofs.Answering.{done_stays_seen, freeze_begins, freezes_list, may_again, rests_by, thaw_begins, thaw_refused}
 use Rattle.gate_runs.{proofs.{GivingUp.may_after_giving_up, Keeping.{called_stays, stays, stays_on}}, specs.Patience.{Froze, TriedToFreeze}}
-use Rattle.access_model.specs.{Holders.held_by, declared.errors.GateError.TheVariants.Invalid}
-use Rattle.gate_world.specs.declared.operations.Op.TheVariants.{Snapshot, Thaw}
-use Rattle.cpu_words.specs.Hooks.{HookAnswer}
-use Rattle.freeze_levels.specs.declared.hooks.HookCall.{HookCall}
-use Rattle.gate_steps.specs.call_events.Asking.{PerformsAsking}
-use Rattle.vfs_gates.{proofs.Grown.same_stays_seen, specs.Frozen.holders_of}
 use Rattle.gate_runs.proofs.workers.copy_once.Goals as goal
 
 -- a thaw leaves the task at rest

@@ -1,9 +1,8 @@
 -- a snapshot that was taken is sound and clean
 use Rattle.gate_runs.proofs.Prelude.{Called, Err, Performs, Some, ap, err_from_is_err_and, refl, subst, sym, true, ◌∙◌}
+use Rattle.{gate_world.specs.declared.operations.Op.TheVariants.Snapshot as SnapshotOp, vfs_gates.proofs.Taking.took_whole}
 use Rattle.gate_runs.proofs.{Answering.{rests_by, snapshot_begins, snapshot_list, snapshot_refused, was_whole}, Keeping.stays}
 use Rattle.gate_runs.specs.Counts.{blocks_in}
-use Rattle.gate_world.specs.declared.operations.Op.TheVariants.{Snapshot as SnapshotOp}
-use Rattle.vfs_gates.proofs.Taking.{took_whole}
 use Rattle.gate_runs.proofs.workers.take_snapshot.Goals as goal
 
 pub returns-clause-whole : goal.returns-clause-whole

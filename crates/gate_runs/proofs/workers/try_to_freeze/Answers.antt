@@ -1,11 +1,10 @@
 -- it froze, gave up, or found that others had frozen
 use Rattle.gate_runs.proofs.Prelude.{Called, Err, FoundOthers, Freeze, GateError, GaveUp, MayFreeze, None, Option, Performs, Rests, Result}
 use Rattle.gate_runs.proofs.Prelude.{SeatedTask, User, inl, inr, own_actions, refl, refusal_at, rules, subst, sym, ℕ, ◌∙◌, ◌≡◌}
-use Rattle.gate_runs.{proofs.{Answering.{freeze_begins, rests_by}, GivingUp.why_refused, Keeping.{called_stays, stays}}, specs.Patience.FreezesWith}
-use Rattle.gate_runs.specs.{Patience.with_patience, declared.patience.Patience.Patience}
-use Rattle.access_model.specs.declared.errors.GateError.TheVariants.{Busy, Hook}
-use Rattle.gate_steps.specs.call_events.Asking.{PerformsAsking}
+use Rattle.{access_model.specs.declared.errors.GateError.TheVariants.{Busy, Hook}, gate_steps.specs.call_events.Asking.PerformsAsking}
 use Rattle.vfs_gates.{proofs.{Grown.same_stays_seen, OwnHooks.own_end}, specs.Patience.found_somebody}
+use Rattle.gate_runs.proofs.{Answering.{freeze_begins, rests_by}, GivingUp.why_refused, Keeping.{called_stays, stays}}
+use Rattle.gate_runs.specs.{Patience.{FreezesWith, with_patience}, declared.patience.Patience.Patience}
 use Rattle.gate_runs.proofs.workers.try_to_freeze.Goals as goal
 
 -- what a run's hooks are asked is asked of their patience
