@@ -1,12 +1,9 @@
 -- A core whose tasks are idle is in no grace period.
-use Rattle.std.proofs.Common.{◌≡◌, ◌∙◌, ℕ, ◌<◌, None, Option, sym, subst, arith, refl, true, IfSome, List}
-use Rattle.std.proofs.lemmas.{Bool.lt-ltb, List.get_or_default}
-use Rattle.gate_core.specs.{Drivers.{CoreShows}, Memory.{IsSound, Memory, no_seat, seat_of}, Moves.{phase_in}}
-use Rattle.gate_transitions.specs.declared.task_states.TaskState.{TaskState}
-use Rattle.gate_world.specs.declared.{config.Config.{Config}, work.Phase.{Phase}}
+use Rattle.gate_core.specs.{Drivers.CoreShows, Memory.{IsSound, Memory, no_seat, seat_of}, Moves.phase_in}
+use Rattle.{gate_transitions.specs.declared.task_states.TaskState.TaskState, gate_world.specs.declared.{config.Config.Config, work.Phase.Phase}}
+use Rattle.{races.specs.Counts.is_recent, std.proofs.Common.{IfSome, List, None, Option, arith, refl, subst, sym, true, ℕ, ◌<◌, ◌∙◌, ◌≡◌}}
+use Rattle.{std.proofs.lemmas.{Bool.lt-ltb, List.get_or_default}, transcripts.specs.Transcript.ReplayState}
 use Rattle.race_files.specs.Races.{AllAreIdle, IsRecent}
-use Rattle.races.specs.Counts.{is_recent}
-use Rattle.transcripts.specs.Transcript.{ReplayState}
 
 -- where a task stands
 pub phase_there : (core : Memory) (t : ℕ) → t < core.config.tasks → phase_in core t ≡ (seat_of core t).phase

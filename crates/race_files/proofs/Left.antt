@@ -1,9 +1,8 @@
 -- The lines of a text, by what it begins with.
-use Rattle.std.proofs.Common.{◌≡◌, ◌∙◌, sym, ap, refl, ℕ, zero, suc, ◌+◌, ◌-◌, ◌<◌, ◌≤◌, arith, List, [], ◌∷◌, length, take, drop, false, None, Some}
-use Rattle.std.specs.Bool.{◌==◌}
-use Rattle.race_files.specs.Left.{Left, none_left, part_left, line_before, behind, lines_in}
-use Rattle.schedule_lines.specs.{Lines.{front_of}, declared.faults.Fault.{Fault, TheVariants.{TooManyLines, LineTooLong, CutOff}}}
-use Rattle.schedule_lines.specs.declared.lines.Front.{Front, TheVariants.{Line as WholeLine, TooLong, Part}}
+use Rattle.schedule_lines.specs.{Lines.front_of, declared.{faults.Fault.{Fault, TheVariants.{CutOff, LineTooLong, TooManyLines}}, lines.Front.Front}}
+use Rattle.{schedule_lines.specs.declared.lines.Front.TheVariants.{Line as WholeLine, Part, TooLong}, std.proofs.Common.{List, None, Some, [], ap}}
+use Rattle.std.{proofs.Common.{arith, drop, false, length, refl, suc, sym, take, zero, ℕ, ◌+◌, ◌-◌, ◌<◌, ◌∙◌, ◌∷◌, ◌≡◌, ◌≤◌}, specs.Bool.◌==◌}
+use Rattle.race_files.specs.Left.{Left, behind, line_before, lines_in, none_left, part_left}
 
 -- a line may follow
 may_follow : (done : ℕ) → done < 1048576 → 1048576 - done ≡ suc (1048576 - (done + 1))

@@ -1,10 +1,9 @@
 -- What all lines call, by the first of them; and lines that are left.
-use Rattle.std.proofs.Common.{◌≡◌, ◌∙◌, ◌⊎◌, sym, ap, refl, ℕ, zero, suc, List, [], ◌∷◌, ◌++◌, append_assoc, Option, Some, None, Result, Ok, Err, inl, inr}
-use Rattle.std.specs.Result.{OnOk, result_and}
-use Rattle.race_files.specs.{Calls.{TaskCalls, calls_after, calls_of, ended, no_calls}, Faults.{IsToldOrMemory}}
-use Rattle.race_files.specs.FirstFaults.{AreCalled, FailsInCalls, IsMemory, calls_with_next}
-use Rattle.race_files.specs.{Left.{AreLeftOf, BeginRace, Left, after_lines, behind, none_left}, declared.faults.RaceFault.{RaceFault, TheVariants.{Schedule}}}
-use Rattle.schedule_lines.specs.declared.faults.Fault.{Fault}
+use Rattle.{schedule_lines.specs.declared.faults.Fault.Fault, std.proofs.Common.{Err, List, None, Ok, Option, Result, Some, [], ap, append_assoc}}
+use Rattle.std.{proofs.Common.{inl, inr, refl, suc, sym, zero, ℕ, ◌++◌, ◌∙◌, ◌∷◌, ◌≡◌, ◌⊎◌}, specs.Result.{OnOk, result_and}}
+use Rattle.race_files.specs.{Calls.{TaskCalls, calls_after, calls_of, ended, no_calls}, Faults.IsToldOrMemory, FirstFaults.{AreCalled, FailsInCalls}}
+use Rattle.race_files.specs.{FirstFaults.{IsMemory, calls_with_next}, Left.{AreLeftOf, BeginRace, Left, after_lines, behind, none_left}}
+use Rattle.race_files.specs.declared.faults.RaceFault.{RaceFault, TheVariants.Schedule}
 
 -- behind a line after which this is called
 abbrev behind_call : ℕ → Option Fault → List (List ℕ) → Result (List TaskCalls) RaceFault → Result (List TaskCalls) RaceFault

@@ -1,10 +1,7 @@
 -- The race of a text.
-use Rattle.std.specs.Prelude.{◌≡◌, ℕ, ◌<◌, List, Option, Some, None, Ok}
-use Rattle.gate_core.specs.{Drivers.{CoreShows}, Memory.{Memory}}
-use Rattle.race_files.specs.{Left.{BeginRace, Left, behind, calls_left}, SettingUp.{SetsUp}}
-use Rattle.races.specs.declared.calls.Call.{Call}
-use Rattle.races.specs.Counts.{AreRecent}
-use Rattle.transcripts.specs.Transcript.{ReplayState}
+use Rattle.{gate_core.specs.{Drivers.CoreShows, Memory.Memory}, races.specs.{Counts.AreRecent, declared.calls.Call.Call}}
+use Rattle.{std.specs.Prelude.{List, None, Ok, Option, Some, ℕ, ◌<◌, ◌≡◌}, transcripts.specs.Transcript.ReplayState}
+use Rattle.race_files.specs.{Left.{BeginRace, Left, behind, calls_left}, SettingUp.SetsUp}
 
 -- no task has an operation under way
 abbrev pub AllAreIdle : ReplayState → Type 0

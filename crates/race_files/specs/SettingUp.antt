@@ -1,8 +1,7 @@
 -- What the lines before a race set up.
-use Rattle.std.specs.Prelude.{◌≡◌, ℕ, false, Option, Some, None, Ok, List, [], ◌∷◌, ◌++◌}
-use Rattle.race_files.specs.{Calls.{is_race}, Left.{Left, behind}}
-use Rattle.schedule_text.specs.{Parsing.{parsed}, declared.commands.Line.{Line}}
-use Rattle.transcripts.specs.Transcript.{ReplayState, line_effect, tasks_of}
+use Rattle.{schedule_text.specs.{Parsing.parsed, declared.commands.Line.Line}, std.specs.Prelude.{List, None, Ok, Option, Some, [], false, ℕ, ◌++◌}}
+use Rattle.{std.specs.Prelude.{◌∷◌, ◌≡◌}, transcripts.specs.Transcript.{ReplayState, line_effect, tasks_of}}
+use Rattle.race_files.specs.{Calls.is_race, Left.{Left, behind}}
 
 -- A line that is no `race` is understood, and has no fault: it makes this of the play that there was, or of none, as its transcript has it.
 pub record IsDone (from : Option ReplayState) (text : List ℕ) (to : Option ReplayState) : Type 0 where

@@ -1,7 +1,6 @@
 -- Where a byte is first found.
-use Rattle.std.proofs.{Common.{◌≡◌, ℕ, ◌<◌, Bool, false, List, length, get_or, None, arith}, lemmas.Bool.Decides.{nat_tests}}
-use Rattle.std.proofs.lemmas.List.Sums.{position_or_len_is}
-use Rattle.std.specs.List.{position, position_or_len}
+use Rattle.std.proofs.{Common.{Bool, List, None, arith, false, get_or, length, ℕ, ◌<◌, ◌≡◌}, lemmas.Bool.Decides.nat_tests}
+use Rattle.std.{proofs.lemmas.List.Sums.position_or_len_is, specs.List.{position, position_or_len}}
 
 -- what is nowhere is first found at the end
 pub nowhere_is_end : (p : ℕ → Bool) (xs : List ℕ) → ((k : ℕ) → k < length xs → p (get_or xs k 0) ≡ false) → position_or_len p xs ≡ length xs

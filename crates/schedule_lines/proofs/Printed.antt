@@ -1,7 +1,6 @@
 -- Texts that are printed one behind the other.
-use Rattle.std.proofs.{Common.{◌≡◌, ℕ, ◌∙◌, sym, ap, List, [], ◌++◌, append_assoc, append-nil}, lemmas.Result.{on_ok_weaker}}
-use Rattle.std.specs.Prelude.{true, Result, OnOk}
-use Rattle.schedule_lines.specs.{declared.output.Output.{Output}, Printed.{Prints}}
+use Rattle.std.proofs.{Common.{List, OnOk, Result, [], ap, append-nil, append_assoc, sym, true, ℕ, ◌++◌, ◌∙◌, ◌≡◌}, lemmas.Result.on_ok_weaker}
+use Rattle.schedule_lines.specs.{Printed.Prints, declared.output.Output.Output}
 
 -- nothing is printed
 pub prints_nothing : (out : Output) → Prints out out []

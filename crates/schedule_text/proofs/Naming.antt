@@ -1,7 +1,6 @@
 -- The verb that a word names.
-use Rattle.std.proofs.{Common.{◌≡◌, ℕ, true, List, Some, sym, ap, ◌∙◌}, lemmas.Slice.Eq.{bytes_eq-Decides}}
-use Rattle.std.specs.Prelude.{bytes_eq}
-use Rattle.schedule_text.specs.{Verbs.{verb_of}, declared.verbs.Verb.{Verb}}
+use Rattle.std.proofs.{Common.{List, Some, ap, bytes_eq, sym, true, ℕ, ◌∙◌, ◌≡◌}, lemmas.Slice.Eq.bytes_eq-Decides}
+use Rattle.schedule_text.specs.{Verbs.verb_of, declared.verbs.Verb.Verb}
 
 -- a word that is the name of a verb names it
 pub named : (word name : List ℕ) (verb : Verb) → bytes_eq word name ≡ true → verb_of name ≡ Some verb → Some verb ≡ verb_of word

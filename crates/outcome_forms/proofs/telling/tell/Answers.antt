@@ -1,6 +1,5 @@
-use Rattle.std.proofs.Common.{subst, Bool, length}
-use Rattle.outcome_forms.specs.Told.{AsksNone, TellsListed, head_text, margin_of, mark_of}
-use Rattle.outcome_forms.proofs.Parts.{is_all, is_part, tells_all, tells_some}
+use Rattle.std.proofs.Common.{Bool, length, subst}
+use Rattle.outcome_forms.{proofs.Parts.{is_all, is_part, tells_all, tells_some}, specs.Told.{AsksNone, TellsListed, head_text, margin_of, mark_of}}
 use Rattle.outcome_forms.proofs.telling.tell.Goals as goal
 
 pub returns-clause-all : goal.returns-clause-all

@@ -1,5 +1,4 @@
-use Rattle.outcome_forms.specs.Told.{AsksNone, margin_of, mark_of}
-use Rattle.outcome_forms.proofs.Parts.{ToldSoFar}
+use Rattle.outcome_forms.{proofs.Parts.ToldSoFar, specs.Told.{AsksNone, margin_of, mark_of}}
 use Rattle.outcome_forms.proofs.telling.tell_outcomes.Given as goal
 
 -- the lines and details so far

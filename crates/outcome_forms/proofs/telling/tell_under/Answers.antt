@@ -1,6 +1,5 @@
-use Rattle.std.proofs.Common.{List, ℕ, subst}
-use Rattle.outcome_forms.specs.Told.{TellsDetails}
-use Rattle.outcome_forms.proofs.Parts.{asked_lines, no_details, not_asked}
+use Rattle.std.proofs.Common.{List, subst, ℕ}
+use Rattle.outcome_forms.{proofs.Parts.{asked_lines, no_details, not_asked}, specs.Told.TellsDetails}
 use Rattle.outcome_forms.proofs.telling.tell_under.Goals as goal
 
 pub returns-then-are_none : goal.returns-then-are_none

@@ -1,6 +1,5 @@
 -- the tasks so far are idle
-use Rattle.std.proofs.Common.{◌≡◌, ℕ, ◌<◌, None}
-use Rattle.gate_core.specs.Moves.{phase_in}
+use Rattle.{gate_core.specs.Moves.phase_in, std.proofs.Common.{None, ℕ, ◌<◌, ◌≡◌}}
 use Rattle.race_files.proofs.files.expect_idle.Given as goal
 
 abbrev pub invariant-loop-task : goal.invariant-loop-task

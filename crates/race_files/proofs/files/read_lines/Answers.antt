@@ -1,9 +1,7 @@
-use Rattle.std.proofs.Common.{◌⊎◌, None, Some, inl, inr}
-use Rattle.exploration.proofs.Lists.{err_from}
-use Rattle.race_files.specs.FirstFaults.{FailsBeforeRace, FailsFromRace, IsFirstFault, IsFirstFault.{BeforeRace, FromRace}, IsMemory}
-use Rattle.race_files.specs.{Left.{BeginRace, Left, left_in}, SettingUp.{SetsUp}, declared.faults.RaceFault.{RaceFault}}
-use Rattle.transcripts.specs.Transcript.{ReplayState}
-use Rattle.race_files.proofs.FirstFaults.{fault_weaker}
+use Rattle.{exploration.proofs.Lists.err_from, std.proofs.Common.{None, Some, inl, inr, ◌⊎◌}, transcripts.specs.Transcript.ReplayState}
+use Rattle.race_files.{proofs.FirstFaults.fault_weaker, specs.FirstFaults.{FailsBeforeRace, FailsFromRace, IsFirstFault}}
+use Rattle.race_files.specs.{FirstFaults.{IsFirstFault.{BeforeRace, FromRace}, IsMemory}, Left.{BeginRace, Left, left_in}, SettingUp.SetsUp}
+use Rattle.race_files.specs.declared.faults.RaceFault.{RaceFault}
 use Rattle.race_files.proofs.files.read_lines.Goals as goal
 
 before_race : (all left : Left) (fault : RaceFault) → FailsBeforeRace None all left fault ⊎ IsMemory fault → IsFirstFault all left fault ⊎ IsMemory fault

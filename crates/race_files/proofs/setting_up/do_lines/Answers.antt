@@ -1,11 +1,10 @@
-use Rattle.std.proofs.Common.{◌≡◌, ◌∙◌, sym, ap, subst, refl, ◌∷◌, None, Some, Ok, Err, IfSome, false, inr}
-use Rattle.exploration.proofs.Lists.{err_from}
-use Rattle.race_files.specs.{Left.{behind, left_in, line_count}, Calls.{is_race}}
-use Rattle.race_files.specs.declared.faults.RaceFault.TheVariants.{Schedule}
-use Rattle.race_files.proofs.{FirstFaults.{at_end, no_request_line, no_word}, Reading.{all_left, one_less}, Observed.{before_others, err_is, none_shown, one_shown, unshown}, SettingUp.{no_request, none_yet, one_more, request_done}}
-use Rattle.race_files.proofs.setting_up.do_lines.Goals.{in-Request+in_ok-do_request, in_default-2}
-use Rattle.schedule_text.specs.{Parsing.{parsed}, declared.commands.Line.TheVariants.{Request as RequestLine}}
+use Rattle.{exploration.proofs.Lists.err_from, schedule_text.specs.{Parsing.parsed, declared.commands.Line.TheVariants.Request as RequestLine}}
+use Rattle.std.proofs.Common.{Err, IfSome, None, Ok, Some, ap, false, inr, refl, subst, sym, ◌∙◌, ◌∷◌, ◌≡◌}
 use Rattle.transcripts.specs.Transcript.{ReplayState, request_outcome}
+use Rattle.race_files.proofs.{FirstFaults.{at_end, no_request_line, no_word}, Observed.{before_others, err_is, none_shown, one_shown, unshown}}
+use Rattle.race_files.proofs.{Reading.{all_left, one_less}, SettingUp.{no_request, none_yet, one_more, request_done}}
+use Rattle.race_files.{proofs.setting_up.do_lines.Goals.{in-Request+in_ok-do_request, in_default-2}, specs.Calls.is_race}
+use Rattle.race_files.specs.{Left.{behind, left_in, line_count}, declared.faults.RaceFault.TheVariants.Schedule}
 use Rattle.race_files.proofs.setting_up.do_lines.Goals as goal
 
 pub loop-line-init : goal.loop-line-init

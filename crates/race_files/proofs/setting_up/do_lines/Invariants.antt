@@ -1,7 +1,5 @@
-use Rattle.std.proofs.Common.{◌≡◌, length, Some}
-use Rattle.gate_core.specs.Drivers.{CoreShows}
-use Rattle.race_files.specs.{Left.{AreLeftOf, left_in, line_count}, Observed.{ShowsLines}, SettingUp.{SetsUp}}
-use Rattle.transcripts.specs.{Sessions.{ShowsPlay}, Transcript.{ReplayState}}
+use Rattle.{gate_core.specs.Drivers.CoreShows, std.proofs.Common.{Some, length, ◌≡◌}, transcripts.specs.{Sessions.ShowsPlay, Transcript.ReplayState}}
+use Rattle.race_files.specs.{Left.{AreLeftOf, left_in, line_count}, Observed.ShowsLines, SettingUp.SetsUp}
 use Rattle.race_files.proofs.setting_up.do_lines.Given as goal
 
 -- some lines were taken, and the session shows what they make

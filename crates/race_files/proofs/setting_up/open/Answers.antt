@@ -1,11 +1,8 @@
 -- lines that are no configuration make no play, and none of them is `race`
-use Rattle.std.proofs.Common.{◌≡◌, ◌∙◌, sym, ap, subst, refl, ◌∷◌, None, Some, Ok, IfSome}
-use Rattle.race_files.specs.Left.{behind, left_in}
-use Rattle.exploration.proofs.Lists.{err_from}
-use Rattle.race_files.specs.declared.faults.RaceFault.TheVariants.{Schedule}
-use Rattle.race_files.proofs.{FirstFaults.{at_end, no_line, not_opened}, Reading.{all_left, one_less}, SettingUp.{config_opens, no_config, none_yet, one_more}}
-use Rattle.schedule_text.specs.Parsing.{parsed}
-use Rattle.transcripts.specs.Transcript.{opening_play}
+use Rattle.{exploration.proofs.Lists.err_from, schedule_text.specs.Parsing.parsed}
+use Rattle.{std.proofs.Common.{IfSome, None, Ok, Some, ap, refl, subst, sym, ◌∙◌, ◌∷◌, ◌≡◌}, transcripts.specs.Transcript.opening_play}
+use Rattle.race_files.proofs.{FirstFaults.{at_end, no_line, not_opened}, Reading.{all_left, one_less}, SettingUp.{config_opens, no_config, none_yet}}
+use Rattle.race_files.{proofs.SettingUp.one_more, specs.{Left.{behind, left_in}, declared.faults.RaceFault.TheVariants.Schedule}}
 use Rattle.race_files.proofs.setting_up.open.Goals as goal
 
 pub loop-line-init : goal.loop-line-init

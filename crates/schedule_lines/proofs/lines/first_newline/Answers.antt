@@ -1,6 +1,5 @@
-use Rattle.std.proofs.Common.{sym, arith}
-use Rattle.schedule_lines.proofs.Positions.{nowhere_is_none}
-use Rattle.schedule_lines.specs.Lines.{is_newline}
+use Rattle.std.proofs.Common.{arith, sym}
+use Rattle.schedule_lines.{proofs.Positions.nowhere_is_none, specs.Lines.is_newline}
 use Rattle.schedule_lines.proofs.lines.first_newline.Goals as goal
 
 pub returns : goal.returns

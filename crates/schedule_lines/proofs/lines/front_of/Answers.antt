@@ -1,5 +1,4 @@
-use Rattle.std.proofs.{Common.{◌≡◌, ◌∙◌, sym, ap, arith, take, Some}, lemmas.List.{length-take, Quantifiers.{position-Some}}}
-use Rattle.std.specs.List.{position}
+use Rattle.std.{proofs.{Common.{Some, ap, arith, sym, take, ◌∙◌, ◌≡◌}, lemmas.List.{Quantifiers.position-Some, length-take}}, specs.List.position}
 use Rattle.schedule_lines.specs.Lines.{is_newline}
 use Rattle.schedule_lines.proofs.lines.front_of.Goals as goal
 

@@ -1,5 +1,4 @@
-use Rattle.std.proofs.Common.{◌≡◌, true, take}
-use Rattle.std.specs.{Char.{is_ascii_digit}, List.{list_all}}
+use Rattle.std.{proofs.Common.{take, true, ◌≡◌}, specs.{Char.is_ascii_digit, List.list_all}}
 use Rattle.schedule_lines.proofs.numbers.is_digits.Given as goal
 
 -- the bytes so far are digits

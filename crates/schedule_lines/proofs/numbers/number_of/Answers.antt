@@ -1,6 +1,5 @@
-use Rattle.std.proofs.Common.{◌≡◌, ◌∙◌, sym, length, arith, rules}
-use Rattle.schedule_lines.specs.Numbers.{is_digits}
-use Rattle.schedule_lines.proofs.Digits.{one_digit, second_holds}
+use Rattle.std.proofs.Common.{arith, length, rules, sym, ◌∙◌, ◌≡◌}
+use Rattle.schedule_lines.{proofs.Digits.{one_digit, second_holds}, specs.Numbers.is_digits}
 use Rattle.schedule_lines.proofs.numbers.number_of.Goals as goal
 
 pub value_of-requires-clause-digits : goal.value_of-requires-clause-digits

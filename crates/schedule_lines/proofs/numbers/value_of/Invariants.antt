@@ -1,5 +1,4 @@
-use Rattle.std.proofs.Common.{◌≡◌, take}
-use Rattle.std.specs.Str.Parse.{digits_value}
+use Rattle.std.{proofs.Common.{take, ◌≡◌}, specs.Str.Parse.digits_value}
 use Rattle.schedule_lines.proofs.numbers.value_of.Given as goal
 
 -- what the digits so far write

@@ -1,5 +1,4 @@
-use Rattle.std.proofs.Common.{◌-◌, ◌≤◌, length, take}
-use Rattle.std.specs.Io.KnownBytes.{Appends}
+use Rattle.std.{proofs.Common.{length, take, ◌-◌, ◌≤◌}, specs.Io.KnownBytes.Appends}
 use Rattle.schedule_lines.proofs.output.write_out.Given as goal
 
 -- what is written is in the writer

@@ -1,5 +1,4 @@
-use Rattle.std.proofs.Common.{◌≡◌, ◌+◌, take}
-use Rattle.std.specs.Prelude.{count_by}
+use Rattle.std.proofs.Common.{count_by, take, ◌+◌, ◌≡◌}
 use Rattle.schedule_lines.specs.Words.{is_space}
 use Rattle.schedule_lines.proofs.words.word_count.Given as goal
 

@@ -1,6 +1,5 @@
-use Rattle.std.proofs.Common.{sym, arith}
-use Rattle.schedule_lines.proofs.Positions.{nowhere_is_end}
-use Rattle.schedule_lines.specs.Words.{is_space}
+use Rattle.std.proofs.Common.{arith, sym}
+use Rattle.schedule_lines.{proofs.Positions.nowhere_is_end, specs.Words.is_space}
 use Rattle.schedule_lines.proofs.words.word_end.Goals as goal
 
 pub returns-clause-end : goal.returns-clause-end

@@ -1,7 +1,5 @@
-use Rattle.std.proofs.Common.{rules, ◌≡◌, ◌+◌, ap, sym, ◌∙◌, length}
-use Rattle.schedule_lines.specs.Words.{first_word, word_count}
-use Rattle.schedule_text.specs.Parsing.{command_line}
-use Rattle.schedule_text.proofs.Counting.{is_one_word, is_more, one_word_more}
+use Rattle.{schedule_lines.specs.Words.{first_word, word_count}, std.proofs.Common.{ap, length, rules, sym, ◌+◌, ◌∙◌, ◌≡◌}}
+use Rattle.schedule_text.{proofs.Counting.{is_more, is_one_word, one_word_more}, specs.Parsing.command_line}
 use Rattle.schedule_text.proofs.commands.command_line.Goals as goal
 
 pub returns-then-first-line : goal.returns-then-first-line

@@ -1,9 +1,7 @@
-use Rattle.std.proofs.Common.{◌≡◌, ◌∙◌, sym, ap, refl, subst, ◌∷◌, Ok, IfSome, inl}
-use Rattle.exploration.proofs.Lists.{err_from}
-use Rattle.race_files.specs.{Calls.{calls_of, no_calls}, Left.{Left, behind, left_in}}
-use Rattle.race_files.specs.declared.faults.RaceFault.TheVariants.{Schedule}
-use Rattle.race_files.proofs.Reading.{at_end, at_line, end_fails, line_fails, none_called, one_called}
+use Rattle.{exploration.proofs.Lists.err_from, std.proofs.Common.{IfSome, Ok, ap, inl, refl, subst, sym, ◌∙◌, ◌∷◌, ◌≡◌}}
 use Rattle.transcripts.proofs.Opening.{answer_mapped}
+use Rattle.race_files.{proofs.Reading.{at_end, at_line, end_fails, line_fails, none_called, one_called}, specs.Calls.{calls_of, no_calls}}
+use Rattle.race_files.specs.{Left.{Left, behind, left_in}, declared.faults.RaceFault.TheVariants.Schedule}
 use Rattle.race_files.proofs.calls.Calls.read.Goals as goal
 
 pub loop-calls-init : goal.loop-calls-init

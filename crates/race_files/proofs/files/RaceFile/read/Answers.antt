@@ -1,17 +1,11 @@
 -- The core is a twin of the gates that were set up.
-use Rattle.exploration.proofs.Lists.{err_from}
-use Rattle.std.proofs.{Common.{◌≡◌, ◌∙◌, ◌⊎◌, inl, inr, ℕ, ◌<◌, None, IfErr, ap, refl, subst, sym}, lemmas.Result.IfOk-weaker}
-use Rattle.gate_core.specs.{Drivers.{CoreShows}, Memory.{Memory}, Moves.{phase_in}}
-use Rattle.access_model.specs.declared.errors.GateError.TheVariants.{NoMemory}
-use Rattle.schedule_lines.specs.declared.faults.Fault.TheVariants.{Refused}
-use Rattle.gate_world.specs.declared.config.Config.{Config}
-use Rattle.race_files.specs.Races.{AllAreIdle}
-use Rattle.race_files.specs.FirstFaults.{FailsFromRace, FailsFromRace.{InCalls, NotIdle}, FailsInCalls, IsMemory}
-use Rattle.race_files.specs.{Left.{Left, behind}, declared.faults.RaceFault.{RaceFault, TheVariants.{Schedule}}}
-use Rattle.race_files.proofs.FirstFaults.{any_fault, fault_mapped}
-use Rattle.race_files.proofs.Idle.{idle_recent, phase_there}
-use Rattle.transcripts.proofs.Opening.{answer_mapped}
-use Rattle.transcripts.specs.Transcript.{ReplayState}
+use Rattle.{access_model.specs.declared.errors.GateError.TheVariants.NoMemory, exploration.proofs.Lists.err_from}
+use Rattle.{gate_core.specs.{Drivers.CoreShows, Memory.Memory, Moves.phase_in}, gate_world.specs.declared.config.Config.Config}
+use Rattle.{schedule_lines.specs.declared.faults.Fault.TheVariants.Refused, std.proofs.Common.{IfErr, None, ap, inl, inr, refl, subst, sym, ℕ, ◌<◌}}
+use Rattle.{std.proofs.{Common.{◌∙◌, ◌≡◌, ◌⊎◌}, lemmas.Result.IfOk-weaker}, transcripts.{proofs.Opening.answer_mapped, specs.Transcript.ReplayState}}
+use Rattle.race_files.{proofs.{FirstFaults.{any_fault, fault_mapped}, Idle.{idle_recent, phase_there}}, specs.FirstFaults.FailsFromRace}
+use Rattle.race_files.specs.{FirstFaults.{FailsFromRace.{InCalls, NotIdle}, FailsInCalls, IsMemory}, Left.{Left, behind}, Races.AllAreIdle}
+use Rattle.race_files.specs.declared.faults.RaceFault.{RaceFault, TheVariants.Schedule}
 use Rattle.race_files.proofs.files.RaceFile.read.Goals as goal
 
 pub returns-clause-core : goal.returns-clause-core

@@ -1,8 +1,7 @@
-use Rattle.std.proofs.{Common.{◌∙◌, sym, ap, ℕ, ◌-◌, ◌∷◌, List}, lemmas.Bool.{eqb-true}}
-use Rattle.race_files.proofs.Left.{of_front, first_of, some_part, some_bytes, too_many, no_bytes}
-use Rattle.race_files.specs.Left.{left_in, behind}
+use Rattle.schedule_lines.specs.declared.faults.Fault.TheVariants.{CutOff, TooManyLines}
+use Rattle.std.proofs.{Common.{List, ap, sym, ℕ, ◌-◌, ◌∙◌, ◌∷◌}, lemmas.Bool.eqb-true}
+use Rattle.race_files.{proofs.Left.{first_of, no_bytes, of_front, some_bytes, some_part, too_many}, specs.Left.{behind, left_in}}
 use Rattle.race_files.proofs.lines.Lines.line.Goals as goal
-use Rattle.schedule_lines.specs.declared.faults.Fault.TheVariants.{TooManyLines, CutOff}
 
 pub returns-then-is_empty-clause-none : goal.returns-then-is_empty-clause-none
 returns-then-is_empty-clause-none c e =

@@ -1,8 +1,7 @@
-use Rattle.std.proofs.Common.{◌∙◌, refl, sym, ap, ◌+◌, ◌-◌}
+use Rattle.{schedule_lines.specs.declared.faults.Fault.TheVariants.CutOff, std.proofs.Common.{ap, refl, sym, ◌+◌, ◌-◌, ◌∙◌}}
 use Rattle.race_files.proofs.Left.{first_of, front_behind, no_first, none_behind, of_front, one_taken, part_lines}
 use Rattle.race_files.specs.Left.{behind, left_in, lines_in}
 use Rattle.race_files.proofs.lines.Lines.take.Goals as goal
-use Rattle.schedule_lines.specs.declared.faults.Fault.TheVariants.{CutOff}
 
 pub returns-then-self-ge-LINES-clause-left : goal.returns-then-self-ge-LINES-clause-left
 returns-then-self-ge-LINES-clause-left c = none_behind c.args.self.now.done c.args.self.now.rest.now c.if-self-ge-LINES.true

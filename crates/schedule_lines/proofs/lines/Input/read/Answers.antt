@@ -1,6 +1,5 @@
-use Rattle.std.proofs.Common.{◌≡◌, refl, ◌∙◌, ap, arith, length}
-use Rattle.std.specs.List.{slice_range}
-use Rattle.schedule_lines.proofs.bytes.Blocks.{written_whole, pending_grow}
+use Rattle.std.{proofs.Common.{ap, arith, length, refl, ◌∙◌, ◌≡◌}, specs.List.slice_range}
+use Rattle.schedule_lines.proofs.bytes.Blocks.{pending_grow, written_whole}
 use Rattle.schedule_lines.proofs.lines.Input.read.Goals as goal
 
 pub returns-clause-grows : goal.returns-clause-grows

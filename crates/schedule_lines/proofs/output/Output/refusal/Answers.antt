@@ -1,5 +1,4 @@
-use Rattle.std.proofs.Common.{◌≡◌, ℕ, ◌++◌, codes, decimal}
-use Rattle.access_model.specs.declared.errors.GateError.{GateError, TheVariants.{Hook}}
+use Rattle.{access_model.specs.declared.errors.GateError.{GateError, TheVariants.Hook}, std.proofs.Common.{codes, decimal, ℕ, ◌++◌, ◌≡◌}}
 use Rattle.schedule_lines.specs.Printing.{refusal_text}
 use Rattle.schedule_lines.proofs.output.Output.refusal.Goals as goal
 

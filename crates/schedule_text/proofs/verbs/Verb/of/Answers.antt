@@ -1,7 +1,5 @@
-use Rattle.std.proofs.{Common.{◌∙◌, refl, sym, codes, rules, tests, bytes_eq}, lemmas.Iterator.{YieldsList-from_slice, Search.{find_from_yields_List}}}
-use Rattle.schedule_text.specs.Verbs.{verb_name, verb_of}
-use Rattle.schedule_text.specs.declared.verbs.Verb.TheVariants.{Run, Step, Want, Drop, Change}
-use Rattle.schedule_text.proofs.Naming.{named}
+use Rattle.std.proofs.{Common.{bytes_eq, codes, refl, rules, sym, tests, ◌∙◌}, lemmas.Iterator.{Search.find_from_yields_List, YieldsList-from_slice}}
+use Rattle.schedule_text.{proofs.Naming.named, specs.{Verbs.{verb_name, verb_of}, declared.verbs.Verb.TheVariants.{Change, Drop, Run, Step, Want}}}
 use Rattle.schedule_text.proofs.verbs.Verb.of.Goals as goal
 
 pub returns-then-is_word : goal.returns-then-is_word
