@@ -1,8 +1,7 @@
 -- What a backup with a deadline has done.
-use Rattle.std.specs.Prelude.{ℕ, true, Ok}
+use Rattle.{access_model.specs.declared.actions.Holder.TheVariants.User, std.specs.Prelude.{Ok, true, ℕ}}
 use Rattle.vfs_gates.specs.Op.TheVariants.{Freeze as FreezeOp, Snapshot as SnapshotOp, Thaw as ThawOp}
 use Rattle.vfs_gates.specs.Rounds.{BothDone, Performs, Rounds, SeatedTask}
-use Rattle.access_model.specs.declared.actions.Holder.TheVariants.{User}
 
 -- A snapshot was taken, and then all was thawed.
 abbrev pub CopiesAndThaws : SeatedTask → SeatedTask → Type 0

@@ -1,15 +1,14 @@
 -- A copy has what its task was told of.
-use Rattle.std.{proofs.{Common.{List, ap, arith, refl, subst, sym, true, ℕ, ◌++◌, ◌+◌, ◌∙◌, ◌∷◌, ◌≡◌, ◌≤◌}, Math.Logic.∥∥₁_map}, specs.Prelude.Err}
-use Rattle.std.specs.Prelude.{IfOk, Ok, Result}
-use lib.ListN.{get_elem?}
 use Rattle.access_model.specs.{Histories.own_part, declared.{actions.Action.Action, errors.GateError.GateError}}
-use Rattle.gate_world.specs.{Headline.{actions_since, actions_so_far}, declared.{entries.Entry.{Entry, TheVariants.Begins}, operations.Op.Op}}
-use Rattle.gate_world.specs.declared.{operations.Op.TheVariants.Snapshot as SnapshotOp, views.Traced.Traced}
 use Rattle.gate_steps.{proofs.call_events.{Grown.after_more, Moments.{actions_append, part_more}}, specs.Seating.{DealtNumbers, IsPrefix}}
 use Rattle.gate_steps.specs.call_events.{Grown.{HasSeen, StaySeen}, Spans.IsEventDuring}
+use Rattle.gate_world.specs.{Headline.{actions_since, actions_so_far}, declared.{entries.Entry.{Entry, TheVariants.Begins}, operations.Op.Op}}
+use Rattle.gate_world.specs.declared.{operations.Op.TheVariants.Snapshot as SnapshotOp, views.Traced.Traced}
+use Rattle.std.proofs.{Common.{Err, IfOk, List, Ok, Result, ap, arith, refl, subst, sym, true, ℕ, ◌++◌, ◌+◌, ◌∙◌, ◌∷◌, ◌≡◌, ◌≤◌}, Math.Logic.∥∥₁_map}
 use Rattle.vfs_gates.proofs.{Returning.was_done, call_laws.Timing.taken_during, several_tasks.{Enclosed.done_there, FrozenUntilThawed.some_number}}
 use Rattle.vfs_gates.{proofs.several_tasks.Told.sent_list, specs.{Meetings.{Config, SawList}, TaskStates.{SeatedTask, own_number}}}
 use Rattle.example_message.{proofs.Writing.writes_more, specs.Words.{CopiesNow, HadWritten, HasEveryWrite, writes_in}}
+use lib.ListN.{get_elem?}
 
 -- what was told of stays told of
 pub told_on : (c : Config) (n writes : ℕ) (seen now : List (List Entry)) → HadWritten c n writes seen → StaySeen seen now → HadWritten c n writes now

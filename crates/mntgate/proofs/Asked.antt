@@ -1,20 +1,17 @@
 -- How the program ends that did what was asked for.
-use Rattle.std.proofs.Common.{◌≡◌, ◌⊎◌, inl, inr, refl, sym, ap, subst, ◌∙◌, ℕ, zero, suc, Bool, true, false, List, Option, Some, None, Result, Ok, Err, IfOk}
-use Rattle.std.specs.Borrow.{Bor}
-use mathlib.Core.Bool.{true≢false}
-use Rattle.command_line.specs.{CommandLine.{IsPlainOfInput}, declared.words.{ProgramRequest.{ProgramRequest}, ReplayForm.{ReplayForm}}}
-use Rattle.command_line.specs.declared.words.{ReplayForm.TheVariants.{Plain, Events, Columns, Json, Html}, OutcomeForm.TheVariants.{Text}}
-use Rattle.command_line.specs.declared.words.{Numbers.{Numbers}, Outcomes.{Outcomes}, Replay.{Replay}, Validation.{Validation}}
-use Rattle.command_line.specs.declared.words.ProgramRequest.TheVariants as ask
-use Rattle.exit_status.specs.{Endings.{of_file}, declared.ends.ProgramEnding.{ProgramEnding}}
-use Rattle.exit_status.specs.declared.ends.ProgramEnding.TheVariants.{Done, DoneOfFile, DoneOverGates, Shown, Passed, Blessed, Listed, Possible, Ran, Told, Refused, Misused}
-use Rattle.program_checks.specs.Checks.{TellsPassed, count_checked}
-use Rattle.program_replay.specs.Replays.{EndsReplayed, done_in, done_of, ending_of}
-use Rattle.mntgate.specs.{Outcomes.{EndsTold}, Validated.{EndsValidated}}
-use Rattle.mntgate.specs.Validated.EndsValidated.{HasNoVerdict, IsCutOff, IsImpossible, IsPossible, IsUnread}
-use Rattle.mntgate.specs.Asking.{EndsAsked, EndsOutcomes, EndsReplay, EndsRun, TellsSomePassed}
-use Rattle.schedule_lines.specs.declared.bytes.replay_faults.ReplayFault.{ReplayFault}
+use Rattle.command_line.specs.{CommandLine.IsPlainOfInput, declared.words.{Numbers.Numbers, OutcomeForm.TheVariants.Text, Outcomes.Outcomes}}
+use Rattle.command_line.specs.declared.words.{ProgramRequest.ProgramRequest, Replay.Replay, ReplayForm.ReplayForm}
+use Rattle.command_line.specs.declared.words.{ReplayForm.TheVariants.{Columns, Events, Html, Json, Plain}, Validation.Validation}
+use Rattle.exit_status.specs.{Endings.of_file, declared.ends.ProgramEnding.{ProgramEnding, TheVariants.{Blessed, Done, DoneOfFile, DoneOverGates}}}
+use Rattle.exit_status.specs.declared.ends.ProgramEnding.TheVariants.{Listed, Misused, Passed, Possible, Ran, Refused, Shown, Told}
+use Rattle.{program_checks.specs.Checks.{TellsPassed, count_checked}, program_replay.specs.Replays.{EndsReplayed, done_in, done_of, ending_of}}
+use Rattle.{schedule_lines.specs.declared.bytes.replay_faults.ReplayFault.ReplayFault, std.proofs.Common.{Bool, Err, IfOk, List, None, Ok, Option}}
+use Rattle.std.{proofs.Common.{Result, Some, ap, false, inl, inr, refl, subst, suc, sym, true, zero, ℕ, ◌∙◌, ◌≡◌, ◌⊎◌}, specs.Borrow.Bor}
 use Rattle.transcripts.specs.Replayed.{Replayed}
+use Rattle.mntgate.specs.{Asking.{EndsAsked, EndsOutcomes, EndsReplay, EndsRun, TellsSomePassed}, Outcomes.EndsTold, Validated.EndsValidated}
+use Rattle.mntgate.specs.Validated.EndsValidated.{HasNoVerdict, IsCutOff, IsImpossible, IsPossible, IsUnread}
+use mathlib.Core.Bool.{true≢false}
+use Rattle.command_line.specs.declared.words.ProgramRequest.TheVariants as ask
 
 -- a file's replay never ends with `Done`
 never_of_file : (ending : ProgramEnding) → of_file ending ≡ Done → ⊥

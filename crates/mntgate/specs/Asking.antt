@@ -1,15 +1,12 @@
 -- What the program does that is asked for something, and how it ends.
-use Rattle.std.specs.{Prelude.{◌≡◌, ◌⊎◌, ℕ, suc, false, List, Option, Some, None, codes, vec_len}, Borrow.{Bor}}
-use Rattle.program_replay.specs.Replays.{EndsReplayed, EndsReplayedFile, EndsReplayedNamed, IsRefusedUnread, done_in, done_of}
-use Rattle.program_checks.specs.Checks.{TellsPassed, count_checked}
-use Rattle.mntgate.specs.{Outcomes.{EndsTold}, Validated.{EndsValidated}}
-use Rattle.command_line.specs.declared.words.{OutcomeForm.TheVariants.{Text}, Numbers.{Numbers}}
-use Rattle.command_line.specs.declared.words.ReplayForm.TheVariants.{Plain}
-use Rattle.command_line.specs.declared.words.{Outcomes.{Outcomes}, Replay.{Replay}, ProgramRequest.{ProgramRequest}}
+use Rattle.command_line.specs.declared.words.{Numbers.Numbers, OutcomeForm.TheVariants.Text, Outcomes.Outcomes, ProgramRequest.ProgramRequest}
+use Rattle.command_line.specs.declared.words.{Replay.Replay, ReplayForm.TheVariants.Plain}
+use Rattle.exit_status.specs.declared.ends.ProgramEnding.{ProgramEnding, TheVariants.{Blessed, Listed, Misused, Passed, Ran, Refused, Told}}
+use Rattle.{gate_runs.specs.Told.WasRun, program_checks.specs.Checks.{TellsPassed, count_checked}, program_replay.specs.Replays.EndsReplayed}
+use Rattle.{program_replay.specs.Replays.{EndsReplayedFile, EndsReplayedNamed, IsRefusedUnread, done_in, done_of}, run_plans.specs.Meetings.unseen}
+use Rattle.{run_plans.specs.Plans.MayRun, std.specs.{Borrow.Bor, Prelude.{List, None, Option, Some, codes, false, suc, vec_len, ℕ, ◌≡◌, ◌⊎◌}}}
+use Rattle.mntgate.specs.{Outcomes.EndsTold, Validated.EndsValidated}
 use Rattle.command_line.specs.declared.words.ProgramRequest.TheVariants as ask
-use Rattle.exit_status.specs.declared.ends.ProgramEnding.{ProgramEnding, TheVariants.{Listed, Passed, Blessed, Ran, Told, Refused, Misused}}
-use Rattle.gate_runs.specs.Told.{WasRun}
-use Rattle.run_plans.specs.{Meetings.{unseen}, Plans.{MayRun}}
 
 -- How a replay ends, where its reader had and has this left, and its writer held and holds this.
 pub record EndsReplay (r : Replay) (input left held holds : Option (List ℕ)) (ending : ProgramEnding) : Type 0 where

@@ -1,15 +1,14 @@
 -- A task that was split, and took the numbers back, has all its numbers still.
-use Rattle.std.proofs.Common.{[], ap, arith, cond, eq-eqb, eqb, inl, inr, length, ne_eqb, refl, subst, sym, ℕ, ◌++◌, ◌+◌, ◌↔◌, ◌∙◌, ◌∷◌, ◌≡◌, ◌≢◌}
-use Rattle.std.{proofs.{Common.◌≤◌, lemmas.Bool.Decides.eqb_tells}, specs.Prelude.{false, true}}
-use mathlib.Core.Logic.{dite}
-use native.Mathlib.Decide.{ℕ_discrete}
-use Rattle.gate_world.specs.{Views.opening_view, declared.views.View.View}
+use Rattle.access_model.specs.declared.errors.GateError.{GateError, TheVariants.{NoMemory, Order, TooMany}}
+use Rattle.{gate_steps.proofs.Giving.times-without_other, gate_world.specs.{Views.opening_view, declared.views.View.View}}
+use Rattle.std.proofs.Common.{[], ap, arith, cond, eq-eqb, eqb, false, inl, inr, length, ne_eqb, refl, subst, sym, true, ℕ, ◌++◌, ◌+◌, ◌↔◌, ◌∙◌, ◌∷◌}
+use Rattle.std.proofs.{Common.{◌≡◌, ◌≢◌, ◌≤◌}, lemmas.Bool.Decides.eqb_tells}
 use Rattle.vfs_gates.{proofs.{Grown.{both_stay_seen, same_stays_seen}, Rounds.{joined_rests, times-append}}, specs.{Grown.StaySeen, Held.Rests}}
 use Rattle.vfs_gates.specs.{Parts.{SplitOf, SplitRefused}, Seating.{DealtNumbers, given_of, kept_of, numbered, renewed, times, view_in, without}}
 use Rattle.vfs_gates.specs.TaskStates.{SeatedTask, own_number, own_view, spare_of}
-use Rattle.gate_steps.proofs.Giving.{times-without_other}
-use Rattle.access_model.specs.declared.errors.GateError.{GateError, TheVariants.{NoMemory, Order, TooMany}}
 use Rattle.mntgate_c.specs.Openings.{HasAllStill, SplitIsRefused}
+use mathlib.Core.Logic.{dite}
+use native.Mathlib.Decide.{ℕ_discrete}
 
 pub still_has_all : (s : SeatedTask) → Rests s → HasAllStill s s
 still_has_all s rests = record {

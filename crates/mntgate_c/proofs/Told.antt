@@ -1,10 +1,9 @@
 -- Values that are told one after the other.
-use Rattle.std.{proofs.Common.{List, arith, get_or-set_other, get_or-set_same, length, subst, sym, ℕ, ◌+◌, ◌<◌}, specs.Prelude.slice_index}
-use Rattle.std.specs.Prelude.{slice_index_or, slice_set}
-use mathlib.Core.Logic.{dite}
-use native.Mathlib.Decide.{ℕ_discrete}
+use Rattle.std.proofs.Common.{List, arith, get_or-set_other, get_or-set_same, length, slice_index, slice_index_or, slice_set, subst, sym, ℕ, ◌+◌, ◌<◌}
 use Rattle.vfs_gates.specs.Ended.{ClosedState}
 use Rattle.mntgate_c.specs.{Closings.{IsValue, no_word}, declared.events.WordRecord.WordRecord}
+use mathlib.Core.Logic.{dite}
+use native.Mathlib.Decide.{ℕ_discrete}
 
 -- one more
 pub told_more : (e : ClosedState) (asked : List WordRecord) (values : List ℕ) (i v : ℕ) → i < length values → IsValue e (slice_index_or asked i no_word) v →

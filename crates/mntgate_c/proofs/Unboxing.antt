@@ -1,15 +1,14 @@
 -- The machine value of an `Unboxed`: its pointer and its allocator's. Assumes `Logic`.
-use Rattle.std.proofs.Common.{List, [], refl, subst, ℕ, ◌++◌, ◌∷◌, ◌≡◌}
-use mathlib.Core.Bool.{true, ◌&&◌}
-use lib.Dec.{T}
-use seplogic.Ra.Ura.{Ura}
-use base.Logic.{fst∗, never}
-use denote.{Builtin.RawPtr, Memory.lone, Param.{Laws.Laws, layout}, RattleType.{RattleType, Valss}, RawPtr.{Ptr, block_ptr, in_a_block, null_ptr}}
-use denote.{RawPtr.ptr_val, Steps.nothing, Struct.{Owning.shape, Struct.within}}
-use mir.{Raw.raw as bare, Syntax.{dnil, impl, tnil}, Val.{Val, WT, has_ty, of_list, vcons, vnil, vptr, vstruct}}
-use types.{Kit.{Goal, Item, Seq, Step, drop, feq_i, feq_l, fjoin, fpack, fpick, fsplit, move, step, ‵, ◌$◌}, Logic.{Logic, sem}}
 use Rattle.core.{proofs.{alloc.Calls.{Al, handle_tells}, cell.Inside.Good}, specs.declared.alloc.Allocator.Ghosts}
-use Rattle.std_alloc.{proofs.ResultValues.and_tt, specs.Box.Ownership.box_owns}
+use Rattle.{std.proofs.Common.{List, [], refl, subst, ℕ, ◌++◌, ◌∷◌, ◌≡◌}, std_alloc.{proofs.ResultValues.and_tt, specs.Box.Ownership.box_owns}}
+use base.Logic.{fst∗, never}
+use denote.{Builtin.RawPtr, Memory.lone, Param.{Laws.Laws, layout}, RattleType.{RattleType, Valss}}
+use denote.{RawPtr.{Ptr, block_ptr, in_a_block, null_ptr, ptr_val}, Steps.nothing, Struct.{Owning.shape, Struct.within}}
+use lib.Dec.{T}
+use mathlib.Core.Bool.{true, ◌&&◌}
+use mir.{Raw.raw as bare, Syntax.{dnil, impl, tnil}, Val.{Val, WT, has_ty, of_list, vcons, vnil, vptr, vstruct}}
+use seplogic.Ra.Ura.{Ura}
+use types.{Kit.{Goal, Item, Seq, Step, drop, feq_i, feq_l, fjoin, fpack, fpick, fsplit, move, step, ‵, ◌$◌}, Logic.{Logic, sem}}
 use Rattle.mntgate_c.specs.contracts.unboxed.Unboxed as unboxed
 
 abbrev pub pair : Val → Val → Val

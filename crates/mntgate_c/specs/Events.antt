@@ -1,15 +1,13 @@
 -- What the numbers of a record tell C of a step.
-use Rattle.std.specs.Prelude.{ℕ, ◌+◌, ◌^◌, ◌==◌, if◌then◌else◌, Option, Some, None}
-use Rattle.access_model.specs.declared.actions.Action.{Action}
-use Rattle.access_model.specs.declared.actions.Action.TheVariants.{Grant, Return, MountRo, MountRw, SbRo, SbRw, Stage as StageAction, Hold, Leave, Pass, Reopen, Create, Remove, Grow, MoveTo, Dirty, Clean, Open, Close}
-use Rattle.access_model.specs.declared.actions.{Gate.TheVariants.{Mount, Level}, Holder.TheVariants.{Kernel, User}}
-use Rattle.access_model.specs.declared.actions.Kind.TheVariants.{File, Dir}
-use Rattle.cpu_words.specs.declared.events.{Event.{Event}, Touch.{Touch, TheVariants.{Load, Store, Add, Sub, Or, And, Swap, Cas}}}
-use Rattle.cpu_words.specs.declared.names.WordName.{WordName}
-use Rattle.cpu_words.specs.declared.names.WordName.TheVariants.{Umount, Stage, Holders, SbFlags, Remount, Removed, MountFlags, MountCount, Block, Sync, LevelCount, Section, Used, Node, Kids}
-use Rattle.gate_transitions.specs.declared.steps.Step.{Step}
-use Rattle.mntgate_c.specs.{Codes.{progress_at}, declared.events.{ActionRecord.{ActionRecord}, EventRecord.{EventRecord}}}
-use Rattle.mntgate_c.specs.declared.events.{StepRecord.{StepRecord}, WordRecord.{WordRecord}}
+use Rattle.access_model.specs.declared.actions.Action.{Action, TheVariants.{Clean, Close, Create, Dirty, Grant, Grow, Hold, Leave, MountRo, MountRw}}
+use Rattle.access_model.specs.declared.actions.Action.TheVariants.{MoveTo, Open, Pass, Remove, Reopen, Return, SbRo, SbRw, Stage as StageAction}
+use Rattle.access_model.specs.declared.actions.{Gate.TheVariants.{Level, Mount}, Holder.TheVariants.{Kernel, User}, Kind.TheVariants.{Dir, File}}
+use Rattle.cpu_words.specs.declared.events.{Event.Event, Touch.{TheVariants.{Add, And, Cas, Load, Or, Store, Sub, Swap}, Touch}}
+use Rattle.cpu_words.specs.declared.names.WordName.TheVariants.{Block, Holders, Kids, LevelCount, MountCount, MountFlags, Node, Remount, Removed}
+use Rattle.cpu_words.specs.declared.names.WordName.{TheVariants.{SbFlags, Section, Stage, Sync, Umount, Used}, WordName}
+use Rattle.{gate_transitions.specs.declared.steps.Step.Step, std.specs.Prelude.{None, Option, Some, if◌then◌else◌, ℕ, ◌+◌, ◌==◌, ◌^◌}}
+use Rattle.mntgate_c.specs.{Codes.progress_at, declared.events.{ActionRecord.ActionRecord, EventRecord.EventRecord, StepRecord.StepRecord}}
+use Rattle.mntgate_c.specs.declared.events.WordRecord.{WordRecord}
 
 -- The word of a kind, and of what. Any other kind is read as a node's word that no file system has: no step touches it.
 abbrev pub word_named : ℕ → ℕ → ℕ → WordName

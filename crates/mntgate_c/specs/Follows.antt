@@ -1,10 +1,9 @@
 -- What a handle has once its task comes back that it lent.
-use Rattle.std.specs.Prelude.{true}
+use Rattle.{std.specs.Prelude.true, vfs_gates.specs.TaskStates.SeatedTask}
+use Rattle.mntgate_c.specs.contracts.{handles.TaskHandle.the_row as handle_row, members.Member.the_row as member_row}
+use Rattle.mntgate_c.specs.declared.handles.TaskHandle.{TaskHandle}
 use base.Fml.{Fml}
-use denote.{Ref.{MutBor}, Follow.{follows}}
-use Rattle.vfs_gates.specs.TaskStates.{SeatedTask}
-use Rattle.mntgate_c.specs.{declared.handles.TaskHandle.{TaskHandle}, contracts.members.Member.{the_row as member_row}}
-use Rattle.mntgate_c.specs.contracts.handles.TaskHandle.{the_row as handle_row}
+use denote.{Follow.follows, Ref.MutBor}
 
 -- the handle of a task that came to this state
 abbrev pub with_state : TaskHandle → SeatedTask → TaskHandle

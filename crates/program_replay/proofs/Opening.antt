@@ -1,12 +1,10 @@
 -- The gates as they begin show the opening.
-use Rattle.std.proofs.Common.{◌≡◌, ℕ, zero, suc, ◌+◌, ◌<◌, ◌≤◌, All, List, [], ◌∷◌, None, length, get_or, cond, eqb, true, false, refl, sym, ap, subst, arith}
-use Rattle.cpu_words.{proofs.Places.{opening_listed}, specs.{Lists.{AreOpening}, Names.{words_in_all}}}
-use Rattle.gate_schedules.proofs.frames.Places.{are_few}
-use Rattle.gate_world.specs.{Configs.{IsWithin, extents_kept}, Fits.{Fits}, Views.{held_of, opening_view}, Worlds.{opening}}
-use Rattle.gate_world.specs.declared.{config.Config.{Config}, views.View.{View}}
-use Rattle.gate_steps.specs.{Rules.{first_items}, Seating.{DealtNumbers, deal, given_of, kept_of, renewed, view_in, without}, call_events.Grown.{HasSeen}}
-use Rattle.gate_steps.proofs.call_events.Grown.{only_seen}
-use Rattle.vfs_gates.specs.{Splitting.{AreNumbered}, TaskStates.{SeatedTask, own_number, own_view}}
+use Rattle.{cpu_words.{proofs.Places.opening_listed, specs.{Lists.AreOpening, Names.words_in_all}}, gate_schedules.proofs.frames.Places.are_few}
+use Rattle.gate_steps.{proofs.call_events.Grown.only_seen, specs.{Rules.first_items, Seating.{DealtNumbers, deal, given_of, kept_of, renewed}}}
+use Rattle.{gate_steps.specs.{Seating.{view_in, without}, call_events.Grown.HasSeen}, gate_world.specs.{Configs.{IsWithin, extents_kept}, Fits.Fits}}
+use Rattle.gate_world.specs.{Views.{held_of, opening_view}, Worlds.opening, declared.{config.Config.Config, views.View.View}}
+use Rattle.std.proofs.Common.{All, List, None, [], ap, arith, cond, eqb, false, get_or, length, refl, subst, suc, sym, true, zero, ℕ, ◌+◌, ◌<◌, ◌∷◌}
+use Rattle.{std.proofs.Common.{◌≡◌, ◌≤◌}, vfs_gates.specs.{Splitting.AreNumbered, TaskStates.{SeatedTask, own_number, own_view}}}
 use Rattle.program_replay.specs.Shown.{AreUntouched, IsNew, IsShown, TasksShow}
 
 own_untouched : (items : DealtNumbers) → AreUntouched items → own_view items ≡ opening_view

@@ -1,12 +1,10 @@
 -- A law of drivers, of the gates that one thread drives: what they tell of a word is its value in the state that they show. It is the core's law, of a
 -- core with these words.
-use Rattle.std.specs.Prelude.{◌≡◌, ℕ, Option, Some, List, [], slice_get}
-use Rattle.std.proofs.{Common.{ap, refl, ◌∙◌, arith}, lemmas.Option.{slice_get-get_or}}
-use Rattle.cpu_words.proofs.Places.{place_small}
-use Rattle.cpu_words.specs.{Names.{IsWord, place}, Words.{read}, declared.names.WordName.{WordName}}
-use Rattle.gate_core.specs.{Drivers.{listed_word, where_there}, Memory.{Memory}, Tells.{core_tells}}
-use Rattle.gate_world.specs.{Configs.{extents_of}, Views.{opening_view}, Worlds.{World}, declared.config.Config.{Config}}
-use Rattle.program_replay.specs.{Driven.{GatesShow}, declared.gates_driver.GatesDriver.{GatesDriver}}
+use Rattle.cpu_words.{proofs.Places.place_small, specs.{Names.{IsWord, place}, Words.read, declared.names.WordName.WordName}}
+use Rattle.gate_core.specs.{Drivers.{listed_word, where_there}, Memory.Memory, Tells.core_tells}
+use Rattle.gate_world.specs.{Configs.extents_of, Views.opening_view, Worlds.World, declared.config.Config.Config}
+use Rattle.std.{proofs.{Common.{ap, arith, refl, ◌∙◌}, lemmas.Option.slice_get-get_or}, specs.Prelude.{List, Option, Some, [], slice_get, ℕ, ◌≡◌}}
+use Rattle.program_replay.specs.{Driven.GatesShow, declared.gates_driver.GatesDriver.GatesDriver}
 
 pub gates_tell : (driver : GatesDriver) (c : Config) (w : World) (name : WordName) → GatesShow driver c w → IsWord (extents_of c) name →
     listed_word driver.config driver.words.items name ≡ Some (read w.words name)

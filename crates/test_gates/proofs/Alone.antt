@@ -1,16 +1,14 @@
 -- What closed gates tell of a task with their only number.
-use Rattle.std.proofs.Common.{◌≡◌, ℕ, ◌<◌, true, false, List, [], ◌∷◌, inl, refl, sym, ap, ◌∙◌, subst, arith}
-use Rattle.std.specs.Prelude.{Option, Some, None, Result, Ok, Err, OnOk}
-use Rattle.access_model.specs.declared.{actions.{Action.{Action}, Holder.{Holder, TheVariants.{Kernel, User}}, Holders.{Holders}}, errors.GateError.{GateError, TheVariants.{Busy, Invalid}}, replies.Reply.{Reply}}
-use Rattle.access_model.specs.Holders.{held_by, nobody, with_holder}
+use Rattle.access_model.specs.{Holders.{held_by, nobody, with_holder}, declared.actions.{Action.Action, Holder.{Holder, TheVariants.{Kernel, User}}}}
+use Rattle.access_model.specs.declared.{actions.Holders.Holders, errors.GateError.{GateError, TheVariants.{Busy, Invalid}}, replies.Reply.Reply}
 use Rattle.gate_steps.specs.Seating.{DealtNumbers, HaveHistory}
-use Rattle.gate_world.specs.declared.{config.Config.{Config}, operations.Op.{Op, TheVariants.{Freeze as FreezeOp, Snapshot as SnapshotOp}}}
-use Rattle.vfs_gates.specs.{Ended.{EndedWith}, Frozen.{holders_of, MayFreeze}, Held.{own_actions}, Meetings.{Entry, HasDone}}
-use Rattle.vfs_gates.specs.{Runs.{told_as, unit_of, Called, Performs}, TaskStates.{SeatedTask, own_number, own_view, refusal_at}}
-use Rattle.vfs_gates.proofs.{Grown.{same_stays_seen}, Returning.{was_done}, Rounds.{own_stays}}
-use Rattle.vfs_gates.proofs.{call_laws.TreeStays.{tree_stays, tree_stays_between}, Holding.{adds}, several_tasks.{FreezesBeside.{not_busy}, FrozenUntilThawed.{stands}}}
-use Rattle.test_gates.specs.InTime.{LeftFrozen, StayedFrozen}
-use Rattle.test_gates.proofs.InTime.{where_done}
+use Rattle.gate_world.specs.declared.{config.Config.Config, operations.Op.{Op, TheVariants.{Freeze as FreezeOp, Snapshot as SnapshotOp}}}
+use Rattle.std.proofs.Common.{Err, List, None, Ok, OnOk, Option, Result, Some, [], ap, arith, false, inl, refl, subst, sym, true, ℕ, ◌<◌, ◌∙◌, ◌∷◌}
+use Rattle.{std.proofs.Common.◌≡◌, vfs_gates.proofs.{Grown.same_stays_seen, Holding.adds, Returning.was_done, Rounds.own_stays}}
+use Rattle.vfs_gates.proofs.{call_laws.TreeStays.{tree_stays, tree_stays_between}, several_tasks.{FreezesBeside.not_busy, FrozenUntilThawed.stands}}
+use Rattle.vfs_gates.specs.{Ended.EndedWith, Frozen.{MayFreeze, holders_of}, Held.own_actions, Meetings.{Entry, HasDone}}
+use Rattle.vfs_gates.specs.{Runs.{Called, Performs, told_as, unit_of}, TaskStates.{SeatedTask, own_number, own_view, refusal_at}}
+use Rattle.test_gates.{proofs.InTime.where_done, specs.InTime.{LeftFrozen, StayedFrozen}}
 
 -- there is no other number
 no_other : (own t tasks : ℕ) → own ≡ 0 → tasks ≡ 1 → t < tasks → (t ≡ own → ⊥) → ⊥

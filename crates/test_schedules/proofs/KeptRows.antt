@@ -1,13 +1,10 @@
 -- Worked executions in which an operation is kept, by computing: what an idle task keeps, and what a frozen file system does.
-use Rattle.std.{proofs.Common.{◌≡◌, true, List, [], ◌∷◌, ◌++◌, refl, arith}, specs.Prelude.Some}
-use Rattle.access_model.specs.declared.actions.{Holder.Holder, Kind.Kind}
+use Rattle.{access_model.specs.declared.actions.{Holder.Holder, Kind.Kind}, composite_ops.specs.declared.file_closes.phases.ClosePhase.ClosePhase}
+use Rattle.gate_schedules.specs.operations.Progress.{AFreezeIsKept, CloseIsBlocked, LockIsBlocked, StartIsBlocked}
+use Rattle.gate_world.specs.{Worlds.{opening, run}, declared.{entries.Entry.{Entry, TheVariants.Begins}, operations.Op.Op, work.Phase.Phase}}
 use Rattle.percpu_rwsem.specs.declared.readers.{DownRead.DownRead, DownReadStep.DownReadStep}
-use Rattle.composite_ops.specs.declared.file_closes.phases.ClosePhase.{ClosePhase}
-use Rattle.gate_world.specs.{Worlds.{run, opening}, declared.{operations.Op.Op, work.Phase.Phase}}
-use Rattle.gate_world.specs.declared.entries.Entry.{Entry, TheVariants.{Begins}}
-use Rattle.gate_schedules.specs.operations.Progress.{StartIsBlocked, CloseIsBlocked, LockIsBlocked, AFreezeIsKept}
-use Rattle.test_schedules.specs.Schedules.{small, steps}
-use Rattle.test_schedules.proofs.Rows.{freezes}
+use Rattle.std.proofs.Common.{List, Some, [], arith, refl, true, ◌++◌, ◌∷◌, ◌≡◌}
+use Rattle.test_schedules.{proofs.Rows.freezes, specs.Schedules.{small, steps}}
 
 -- a freeze beside an idle task inside level 1
 abbrev beside_idle : List Entry

@@ -1,10 +1,9 @@
 -- Worked executions, by computing, on two processors and one mount.
-use Rattle.std.{proofs.Common.{◌≡◌, true, List, [], ◌∷◌, ◌++◌, refl, false}, specs.Prelude.{Ok, Err}}
 use Rattle.access_model.specs.declared.{actions.{Action.Action, Gate.Gate, Holder.Holder}, errors.GateError.GateError, replies.Reply.Reply}
-use Rattle.gate_world.specs.{Worlds.{run, history, opening}, declared.operations.Op.Op}
-use Rattle.gate_world.specs.declared.entries.Entry.{Entry, TheVariants.{Begins, Steps}}
-use Rattle.gate_transitions.specs.{Answers.{step_answer}, declared.steps.Progress.{Progress}}
-use Rattle.test_schedules.specs.Schedules.{small, steps, moves}
+use Rattle.gate_transitions.specs.{Answers.step_answer, declared.steps.Progress.Progress}
+use Rattle.gate_world.specs.{Worlds.{history, opening, run}, declared.{entries.Entry.{Entry, TheVariants.{Begins, Steps}}, operations.Op.Op}}
+use Rattle.std.proofs.Common.{Err, List, Ok, [], false, refl, true, ◌++◌, ◌∷◌, ◌≡◌}
+use Rattle.test_schedules.specs.Schedules.{moves, small, steps}
 
 -- a change of an idle mount to read-only
 abbrev closes : List Entry

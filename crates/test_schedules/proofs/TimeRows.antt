@@ -1,20 +1,15 @@
 -- Worked executions in the order of time, by computing: what an execution alone allows, and what one that goes on from all that was seen refuses.
-use Rattle.std.{proofs.Common.{◌≡◌, ◌+◌, ◌*◌, ◌<◌, ℕ, zero, suc, true, false, List, [], ◌∷◌, ◌++◌, refl, sym, ap, ◌∙◌, arith}, specs.Prelude.{Ok, Err, Option, Some, None, slice_index}}
-use Rattle.std.proofs.lemmas.List.{append_assoc}
-use Rattle.access_model.specs.declared.{actions.Holder.Holder, errors.GateError.GateError}
-use Rattle.gated_tree.specs.{declared.trees.TreeWords.{TreeWords}, Trees.{node_at}}
-use Rattle.gate_world.specs.refusals.Causes.{trail_of, since_begun, last_question, WantRefused}
-use Rattle.gate_world.specs.{Configs.IsWithin, Moments.IsPresentTree, Views.with_hook, Work.next_of, Worlds.{run, opening, found_at, task_of}}
-use Rattle.gate_world.specs.declared.{operations.Op.Op, views.Traced.Traced, work.Phase.Phase}
-use Rattle.gate_world.specs.declared.entries.Entry.{Entry, TheVariants.{Begins}}
-use Rattle.cpu_words.specs.Touches.{event_of}
-use Rattle.mount_counts.specs.declared.phases.MountPhase.{MountPhase}
-use Rattle.node_words.specs.Nodes.{node_shown}
-use Rattle.gate_transitions.specs.{Answers.{step_answer}, declared.steps.Progress.{Progress}}
-use Rattle.gate_steps.specs.{Seating.{DealtNumbers, IsPrefix}, call_events.Caused.{IsCausedBy}}
-use Rattle.gate_steps.specs.call_events.{Spans.{IsEventDuring, IsCausedDuring, IsTreeDuring}, SeatedTasks.{own_number}}
-use Rattle.test_schedules.specs.Schedules.{small, steps}
-use Rattle.test_schedules.proofs.TreeRows.{freezes as frozen, snapshots}
+use Rattle.{access_model.specs.declared.{actions.Holder.Holder, errors.GateError.GateError}, cpu_words.specs.Touches.event_of}
+use Rattle.gate_steps.specs.{Seating.{DealtNumbers, IsPrefix}, call_events.{Caused.IsCausedBy, SeatedTasks.own_number}}
+use Rattle.gate_steps.specs.call_events.Spans.{IsCausedDuring, IsEventDuring, IsTreeDuring}
+use Rattle.gate_transitions.specs.{Answers.step_answer, declared.steps.Progress.Progress}
+use Rattle.gate_world.specs.{Configs.IsWithin, Moments.IsPresentTree, Views.with_hook, Work.next_of, Worlds.{found_at, opening, run, task_of}}
+use Rattle.gate_world.specs.declared.{entries.Entry.{Entry, TheVariants.Begins}, operations.Op.Op, views.Traced.Traced, work.Phase.Phase}
+use Rattle.gate_world.specs.refusals.Causes.{WantRefused, last_question, since_begun, trail_of}
+use Rattle.{gated_tree.specs.{Trees.node_at, declared.trees.TreeWords.TreeWords}, mount_counts.specs.declared.phases.MountPhase.MountPhase}
+use Rattle.{node_words.specs.Nodes.node_shown, std.proofs.Common.{Err, List, None, Ok, Option, Some, [], ap, arith, false, refl, slice_index, suc}}
+use Rattle.std.proofs.{Common.{sym, true, zero, ℕ, ◌*◌, ◌++◌, ◌+◌, ◌<◌, ◌∙◌, ◌∷◌, ◌≡◌}, lemmas.List.append_assoc}
+use Rattle.test_schedules.{proofs.TreeRows.{freezes as frozen, snapshots}, specs.Schedules.{small, steps}}
 
 -- whose transition stands at a place; past the end, nobody's, which 64 is
 abbrev task_at : List Entry → ℕ → ℕ

@@ -1,9 +1,7 @@
 -- The two tasks have all numbers; the writer holds an access, and rests again once it has given it back.
-use Rattle.std.proofs.Common.{◌<◌, sym, ap, ◌∙◌, subst, arith}
-use Rattle.vfs_gates.proofs.several_tasks.Beside.{write_held}
-use Rattle.vfs_gates.proofs.several_tasks.FirstPair.{all_stay, first_pair_has_all}
-use Rattle.vfs_gates.proofs.Rounds.{from_after, from_met, rests_written, times_stay}
-use Rattle.vfs_gates.specs.{Meetings.{Config}, Rounds.{SeatedTask, times}}
+use Rattle.std.proofs.Common.{ap, arith, subst, sym, ◌<◌, ◌∙◌}
+use Rattle.vfs_gates.proofs.{Rounds.{from_after, from_met, rests_written, times_stay}, several_tasks.Beside.write_held}
+use Rattle.vfs_gates.{proofs.several_tasks.FirstPair.{all_stay, first_pair_has_all}, specs.{Meetings.Config, Rounds.{SeatedTask, times}}}
 use Rattle.example_first.proofs.main.Goals as goal
 
 pub change_while_held-early-requires : goal.change_while_held-early-requires

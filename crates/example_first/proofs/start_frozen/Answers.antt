@@ -1,8 +1,7 @@
 -- The two tasks have all numbers, and none of these has done anything.
-use Rattle.std.proofs.Common.{◌<◌, false, sym, ap, ◌∙◌, subst, arith}
-use Rattle.vfs_gates.proofs.several_tasks.BothFrozen.{start_begins}
-use Rattle.vfs_gates.proofs.several_tasks.FirstPair.{first_pair_has_all, first_pair_has_done_none}
-use Rattle.vfs_gates.specs.{Meetings.{Config, Seals}, Rounds.{SeatedTask}}
+use Rattle.std.proofs.Common.{ap, arith, false, subst, sym, ◌<◌, ◌∙◌}
+use Rattle.vfs_gates.proofs.several_tasks.{BothFrozen.start_begins, FirstPair.{first_pair_has_all, first_pair_has_done_none}}
+use Rattle.vfs_gates.specs.{Meetings.{Config, Seals}, Rounds.SeatedTask}
 use Rattle.example_first.proofs.start_frozen.Goals as goal
 
 pub start_while_frozen-requires : goal.start_while_frozen-requires

@@ -1,8 +1,6 @@
 -- a freeze that gave up leaves the task at rest, and the copy comes after freezes that did
-use Rattle.std.proofs.Common.{refl}
-use Rattle.std.proofs.lemmas.Result.{on_ok_weaker}
-use Rattle.vfs_gates.proofs.Rounds.{from_after, rests_after}
-use Rattle.vfs_gates.specs.Rounds.{none, refused, round}
+use Rattle.std.proofs.{Common.refl, lemmas.Result.on_ok_weaker}
+use Rattle.vfs_gates.{proofs.Rounds.{from_after, rests_after}, specs.Rounds.{none, refused, round}}
 use Rattle.example_backup.proofs.deadline.copy_within.Goals as goal
 
 pub loop-try-init : goal.loop-try-init

@@ -1,9 +1,7 @@
 -- The backup's task rests once the writer's is joined to it, and its first change comes after all that the writer had done.
-use Rattle.std.proofs.Common.{ap, ◌∙◌}
-use Rattle.std.specs.Prelude.{Bool, Result, Ok, Err, OnOk}
-use Rattle.vfs_gates.specs.Seating.{times}
-use Rattle.vfs_gates.proofs.Rounds.{GateError, SeatedTask, done_after, joined_rests, times-append}
-use Rattle.example_backup.specs.Reports.{HasEveryWrite, HasCopied}
+use Rattle.std.proofs.Common.{Bool, Err, Ok, OnOk, Result, ap, ◌∙◌}
+use Rattle.vfs_gates.{proofs.Rounds.{GateError, SeatedTask, done_after, joined_rests, times-append}, specs.Seating.times}
+use Rattle.example_backup.specs.Reports.{HasCopied, HasEveryWrite}
 use Rattle.example_backup.proofs.run.copy_at_the_end.Goals as goal
 
 -- where a copy was made, it is one of all writes

@@ -1,6 +1,5 @@
 use Rattle.exploration.proofs.Lists.{err_from}
-use Rattle.mntgate.proofs.Listed.{cut_off, kept, listed}
-use Rattle.mntgate.specs.Outcomes.IsUnlisted.{IsRefused}
+use Rattle.mntgate.{proofs.Listed.{cut_off, kept, listed}, specs.Outcomes.IsUnlisted.IsRefused}
 use Rattle.mntgate.proofs.outcomes.answer_outcomes.Goals as goal
 
 pub returns-clause-listed : goal.returns-clause-listed

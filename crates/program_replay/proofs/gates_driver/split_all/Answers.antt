@@ -1,9 +1,7 @@
 -- A split leaves its task at the same gates with the next numbers to give, and the new one comes from them too; it is refused for memory.
-use Rattle.std.proofs.{Common.{◌∙◌, arith}, lemmas.{List.Elements.{All-push}, Result.{err_from_is_err_and}}}
-use Rattle.vfs_gates.specs.TaskStates.{IsFrom}
-use Rattle.vfs_gates.proofs.Splitting.{gives_on, has_next, numbered_more, refused_for_memory}
-use Rattle.program_replay.specs.Shown.{IsNew}
-use Rattle.program_replay.proofs.Opening.{new_given, new_kept}
+use Rattle.std.proofs.{Common.{arith, ◌∙◌}, lemmas.{List.Elements.All-push, Result.err_from_is_err_and}}
+use Rattle.vfs_gates.{proofs.Splitting.{gives_on, has_next, numbered_more, refused_for_memory}, specs.TaskStates.IsFrom}
+use Rattle.program_replay.{proofs.Opening.{new_given, new_kept}, specs.Shown.IsNew}
 use Rattle.program_replay.proofs.gates_driver.split_all.Goals as goal
 
 pub returns-in_err-other-clause-memory : goal.returns-in_err-other-clause-memory

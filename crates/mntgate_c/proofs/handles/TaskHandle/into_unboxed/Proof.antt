@@ -1,20 +1,18 @@
 -- `into_unboxed` makes a unboxed box box of the pointer again.
-use Rattle.std.proofs.{Common.{List, [], refl, subst, sym, ◌++◌, ◌∷◌, ◌≡◌}, raw_atomic.Walks.{leaves, proved_at}}
-use mathlib.Core.Bool.{Bool, true}
-use mir.{Raw.raw as bare, Val.{Val, vptr}}
-use base.Logic.{SProp, emp, ent, fst∗, id⊢, never}
-use prog.Wp.{WpFn}
-use types.{ByLocal.{alloc_all, free_all, get, get_in, look_at, pass_all, sets}, Kit.{ !, by, fjoin, fsplit, keep, move, qed, raw, rewrite, split}}
-use types.{Kit.{suffices, use0, ‵, ◌$◌, ◌∵◌, ◌⊛◌}, Logic.sem, Part.{agg, sub, whole}, Run.{and_then, enter, fld, no_more, of_opd, returns, stop}}
-use contract.{Monad.{fact, fact_i}, Running.tables}
-use denote.{Exit.yes, Memory.lone, RattleType.owns, RawPtr.{Ptr, block_ptr, in_a_block, null_ptr}, Signature.{plain, types_at}, Steps.heard}
-use denote.{Steps.nothing, Triple.{Entry.alive, Walked.{Goes-dropped, Stays, stay_dropped, walk_of}}}
-use Rattle.core.proofs.alloc.Calls.{handle_tells}
-use Rattle.std_alloc.specs.Box.Ownership.{box_owns}
-use Rattle.std_heap.specs.contracts.GlobalAllocator.TheImpl.{ghosts}
+use Rattle.{core.proofs.alloc.Calls.handle_tells, std.proofs.{Common.{List, [], refl, subst, sym, ◌++◌, ◌∷◌, ◌≡◌}, raw_atomic.Walks.leaves}}
+use Rattle.{std.proofs.raw_atomic.Walks.proved_at, std_alloc.specs.Box.Ownership.box_owns, std_heap.specs.contracts.GlobalAllocator.TheImpl.ghosts}
 use Rattle.mntgate_c.proofs.{HandleSteps.{H', handle_out, word}, Unboxing.{heap_of, pair, pair_fits, put_together}}
 use Rattle.mntgate_c.{proofs.handles.TaskHandle.into_unboxed.Statement.statement, specs.Handles.{heap, holds}}
 use Rattle.mntgate_c.specs.contracts.handles.TaskHandle.into_unboxed.{Key.name as #self, clauses, ended}
+use base.Logic.{SProp, emp, ent, fst∗, id⊢, never}
+use contract.{Monad.{fact, fact_i}, Running.tables}
+use denote.{Exit.yes, Memory.lone, RattleType.owns, RawPtr.{Ptr, block_ptr, in_a_block, null_ptr}, Signature.{plain, types_at}}
+use denote.{Steps.{heard, nothing}, Triple.{Entry.alive, Walked.{Goes-dropped, Stays, stay_dropped, walk_of}}}
+use mathlib.Core.Bool.{Bool, true}
+use mir.{Raw.raw as bare, Val.{Val, vptr}}
+use prog.Wp.{WpFn}
+use types.{ByLocal.{alloc_all, free_all, get, get_in, look_at, pass_all, sets}, Kit.{!, by, fjoin, fsplit, keep, move, qed, raw, rewrite, split}}
+use types.{Kit.{suffices, use0, ‵, ◌$◌, ◌∵◌, ◌⊛◌}, Logic.sem, Part.{agg, sub, whole}, Run.{and_then, enter, fld, no_more, of_opd, returns, stop}}
 use Rattle.std_heap.specs.contracts.Global as global
 use Rattle.std_heap.proofs.Global.TheLaws as heap_laws
 use Rattle.mntgate_c.specs.contracts.members.Member as member

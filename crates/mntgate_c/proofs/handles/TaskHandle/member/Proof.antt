@@ -1,20 +1,19 @@
 -- `member` lends what the pointer of a handle points at, and the handle follows it.
 use Rattle.std.proofs.{Common.{List, [], ap, refl, sym, ℕ, ◌∙◌, ◌∷◌, ◌≡◌}, VecSteps.Shapes.after, raw_atomic.Walks.proved}
-use mathlib.Core.Bool.{Bool, true}
-use seplogic.Ra.Ura.{Ura}
-use base.{Fml.{Fml, GName, flft, fsep, ftrue}, Fraction.full_share, Logic.{ent, fst∗, never, sep}}
-use contract.{Monad.fact, Running.tables}
-use denote.{Exit.no, Follow.{Part, follows, lends_Part}, Memory.{cell_at, lone, mem, part_at, part_of}, RattleType.RattleType, RawPtr.Ptr}
-use denote.{RawPtr.{block_ptr, in_a_block, null_ptr}, Ref.{MutRef, mut_Tells, mut_vals}, Signature.{mut_ref_to, plain}, Steps.{heard, nothing, opens}}
-use denote.Triple.Walked.{Goes-spent_ref, Stays, ends_at, says, stay_dropped, walk_of}
-use mir.{Raw.raw as bare, Syntax.named, Val.{Val, vptr}}
-use types.{ByLocal.{alloc_all, env, free_all, get, look_at, pass_all, sets, sets_last, through}, Kit.{ !, at_ret, await, done, fjoin, fpack, frame}}
-use types.{Kit.{fsplit, fsplit3, group, join, keep, later, move, pick, qed, raw, rewrite, some, split, suffices, use1, ‵, ◌$◌, ◌∵◌, ◌⊛◌}, Logic.Logic}
-use types.{Logic.sem, Part.{look_in, sub, whole}, Run.{addr, blocks, enter, exec, first, fld, load, of_opd, returns, stop}}
-use Rattle.std_alloc.specs.Box.Ownership.{box_owns}
-use Rattle.std_heap.specs.contracts.GlobalAllocator.TheImpl.{ghosts}
+use Rattle.{std_alloc.specs.Box.Ownership.box_owns, std_heap.specs.contracts.GlobalAllocator.TheImpl.ghosts}
 use Rattle.mntgate_c.{proofs.{HandleSteps.{H', handle_in, handle_out, word}, handles.TaskHandle.member.Statement.statement}, specs.Follows.with_state}
 use Rattle.mntgate_c.specs.Handles.{heap, holds}
+use base.{Fml.{Fml, GName, flft, fsep, ftrue}, Fraction.full_share, Logic.{ent, fst∗, never, sep}}
+use contract.{Monad.fact, Running.tables}
+use denote.{Exit.no, Follow.{Part, follows, lends_Part}, Memory.{cell_at, lone, mem, part_at, part_of}, RattleType.RattleType}
+use denote.{RawPtr.{Ptr, block_ptr, in_a_block, null_ptr}, Ref.{MutRef, mut_Tells, mut_vals}, Signature.{mut_ref_to, plain}}
+use denote.{Steps.{heard, nothing, opens}, Triple.Walked.{Goes-spent_ref, Stays, ends_at, says, stay_dropped, walk_of}}
+use mathlib.Core.Bool.{Bool, true}
+use mir.{Raw.raw as bare, Syntax.named, Val.{Val, vptr}}
+use seplogic.Ra.Ura.{Ura}
+use types.{ByLocal.{alloc_all, env, free_all, get, look_at, pass_all, sets, sets_last, through}, Kit.{!, at_ret, await, done, fjoin, fpack, frame}}
+use types.Kit.{fsplit, fsplit3, group, join, keep, later, move, pick, qed, raw, rewrite, some, split, suffices, use1, ‵, ◌$◌, ◌∵◌, ◌⊛◌}
+use types.{Logic.{Logic, sem}, Part.{look_in, sub, whole}, Run.{addr, blocks, enter, exec, first, fld, load, of_opd, returns, stop}}
 use Rattle.mntgate_c.specs.contracts.members.Member as task
 use Rattle.mntgate_c.specs.contracts.handles.TaskHandle.member as f
 use Rattle.mntgate_c.proofs.handles.TaskHandle.member.Code as code

@@ -1,10 +1,9 @@
 -- The first task has met the one that stepped, if it is another, and then each other.
-use Rattle.std.proofs.{Common.{◌≡◌, ◌-◌, ◌<◌, ◌∙◌, List, ◌∷◌, length, suc, ap, subst, sym, arith}, lemmas.List.{with_items_is}}
+use Rattle.std.proofs.{Common.{List, ap, arith, length, subst, suc, sym, ◌-◌, ◌<◌, ◌∙◌, ◌∷◌, ◌≡◌}, lemmas.List.with_items_is}
 use Rattle.vfs_gates.specs.TaskStates.{SeatedTask}
-use Rattle.program_replay.specs.Standing.{AreGathered}
 use Rattle.program_replay.proofs.Gathering.{gathered_from_first, gathered_from_other}
+use Rattle.program_replay.{proofs.gates_driver.GatesDriver.gather.Goals.{else-number-gt0, then-number-gt0}, specs.Standing.AreGathered}
 use Rattle.program_replay.proofs.gates_driver.GatesDriver.gather.Goals as goal
-use Rattle.program_replay.proofs.gates_driver.GatesDriver.gather.Goals.{then-number-gt0, else-number-gt0}
 
 pub returns-clause-gathered : goal.returns-clause-gathered
 returns-clause-gathered c =

@@ -1,5 +1,4 @@
-use Rattle.std.specs.Prelude.{IfSome}
-use Rattle.vfs_gates.specs.TaskStates.{IsFrom}
+use Rattle.{std.proofs.Common.IfSome, vfs_gates.specs.TaskStates.IsFrom}
 use Rattle.test_gates.proofs.tests.cases.split.Given as goal
 
 abbrev pub invariant-loop-other : goal.invariant-loop-other

@@ -1,9 +1,7 @@
 -- what the other's change left is seen over the join
-use Rattle.std.proofs.Common.{sym, ap, ◌∙◌, subst, false, true}
-use Rattle.vfs_gates.proofs.Grown.{both_stay_seen}
-use Rattle.vfs_gates.specs.{Grown.{StaySeen}, Op.TheVariants.{ChangeMount}, Runs.{Performs}, TaskStates.{SeatedTask}}
-use Rattle.test_gates.specs.InTime.{ComesAfterTheOther}
-use Rattle.test_gates.proofs.InTime.{behind_it, where_done}
+use Rattle.std.proofs.Common.{ap, false, subst, sym, true, ◌∙◌}
+use Rattle.vfs_gates.{proofs.Grown.both_stay_seen, specs.{Grown.StaySeen, Op.TheVariants.ChangeMount, Runs.Performs, TaskStates.SeatedTask}}
+use Rattle.test_gates.{proofs.InTime.{behind_it, where_done}, specs.InTime.ComesAfterTheOther}
 use Rattle.test_gates.proofs.tests.in_time.reopen_for_both.Goals as goal
 
 pub returns : goal.returns

@@ -1,7 +1,6 @@
 -- the backup's receipt goes to the writer before its change
-use Rattle.std.proofs.Common.{◌++◌, sym, ap, ◌∙◌, subst, false, true}
-use Rattle.std.specs.Prelude.{Ok}
-use Rattle.vfs_gates.specs.{Op.TheVariants.{ChangeMount}, Runs.{Performs}, TaskStates.{SeatedTask}}
+use Rattle.std.proofs.Common.{Ok, ap, false, subst, sym, true, ◌++◌, ◌∙◌}
+use Rattle.vfs_gates.specs.{Op.TheVariants.ChangeMount, Runs.Performs, TaskStates.SeatedTask}
 use Rattle.test_gates.proofs.InTime.{done_in_order}
 use Rattle.test_gates.proofs.tests.in_time.shut_and_tell.Goals as goal
 

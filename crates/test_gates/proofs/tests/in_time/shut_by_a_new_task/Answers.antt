@@ -1,8 +1,6 @@
 -- what the first change left is seen over a further call and the split
-use Rattle.std.proofs.Common.{sym, ap, ◌∙◌, subst, true}
-use Rattle.std.specs.Prelude.{Ok}
-use Rattle.vfs_gates.proofs.Rounds.{seen_after}
-use Rattle.vfs_gates.specs.{Grown.{StaySeen}, Op.TheVariants.{ChangeMount}, TaskStates.{SeatedTask}}
+use Rattle.std.proofs.Common.{Ok, ap, subst, sym, true, ◌∙◌}
+use Rattle.vfs_gates.{proofs.Rounds.seen_after, specs.{Grown.StaySeen, Op.TheVariants.ChangeMount, TaskStates.SeatedTask}}
 use Rattle.test_gates.proofs.InTime.{behind_it}
 use Rattle.test_gates.proofs.tests.in_time.shut_by_a_new_task.Goals as goal
 

@@ -1,7 +1,6 @@
 -- the operation goes on across the meeting
-use Rattle.std.proofs.Common.{List, sym, ap, ◌∙◌}
-use Rattle.vfs_gates.proofs.{AtOnce.{goes_by}, several_tasks.Beside.{met_stays}, several_tasks.GoingOn.{goes_on_still}}
-use Rattle.vfs_gates.specs.{Grown.{StaySeen}, Meetings.{Entry}, Op.{Op}, Rounds.{SeatedTask}, Runs.{OpUnderWay}}
+use Rattle.{std.proofs.Common.{List, ap, sym, ◌∙◌}, vfs_gates.proofs.{AtOnce.goes_by, several_tasks.{Beside.met_stays, GoingOn.goes_on_still}}}
+use Rattle.vfs_gates.specs.{Grown.StaySeen, Meetings.Entry, Op.Op, Rounds.SeatedTask, Runs.OpUnderWay}
 use Rattle.test_gates.proofs.tests.meetings.step_across_a_meeting.Goals as goal
 
 pub returns : goal.returns

@@ -1,7 +1,6 @@
 -- A snapshot takes nothing, so it leaves the task as it was.
-use Rattle.std.proofs.Common.{rules, of_calls, true, refl, sym, subst}
-use Rattle.vfs_gates.specs.{Op.TheVariants.{Snapshot}, Runs.{Replies, unit_of}, TaskStates.{IsIdle}, Held.{IsAsBefore}}
-use Rattle.vfs_gates.proofs.Holding.{keeps}
+use Rattle.std.proofs.Common.{of_calls, refl, rules, subst, sym, true}
+use Rattle.vfs_gates.{proofs.Holding.keeps, specs.{Held.IsAsBefore, Op.TheVariants.Snapshot, Runs.{Replies, unit_of}, TaskStates.IsIdle}}
 use Rattle.test_gates.proofs.tests.pairs.copies_inside.Goals as goal
 
 pub with_freeze-copied-requires-clause-keeps : goal.with_freeze-copied-requires-clause-keeps

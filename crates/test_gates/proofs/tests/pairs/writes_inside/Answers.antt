@@ -1,8 +1,6 @@
 -- A create takes nothing, so it leaves the task as it was.
-use Rattle.std.proofs.Common.{rules, of_calls, refl, sym, subst}
-use Rattle.access_model.specs.declared.actions.Kind.TheVariants.{File}
-use Rattle.vfs_gates.specs.{Op.TheVariants.{Create}, Runs.{Replies, node_of}, TaskStates.{IsIdle}, Held.{IsAsBefore}}
-use Rattle.vfs_gates.proofs.Holding.{keeps}
+use Rattle.{access_model.specs.declared.actions.Kind.TheVariants.File, std.proofs.Common.{of_calls, refl, rules, subst, sym}}
+use Rattle.vfs_gates.{proofs.Holding.keeps, specs.{Held.IsAsBefore, Op.TheVariants.Create, Runs.{Replies, node_of}, TaskStates.IsIdle}}
 use Rattle.test_gates.proofs.tests.pairs.writes_inside.Goals as goal
 
 pub with_write-made-requires-clause-keeps : goal.with_write-made-requires-clause-keeps
