@@ -1,7 +1,20 @@
 -- What a task holds is what its own list leaves.
-use Rattle.std.proofs.{Common.{List, [], ap, arith, cond, inl, inr, refl, subst, sym, ℕ, ◌∙◌, ◌∷◌, ◌≡◌}, lemmas.Bool.Decides.eqb_tells}
+use Rattle.std.proofs.Common.{List, [], ap, arith, cond, false, if◌then◌else◌, inl, inr, refl, subst, sym, true, ℕ, ◌++◌, ◌==◌, ◌∙◌, ◌∷◌, ◌≡◌}
+use Rattle.std.proofs.lemmas.Bool.Decides.{eqb_tells}
 use Rattle.access_model.specs.{Actions.{after_action, levels_after, mounts_after, opens_after}, Histories.{Done, end_of, levels_of, mounts_of}}
 use Rattle.access_model.specs.{Histories.{opens_of, own_part}, Laws.FollowsOwnList, States.State, declared.actions.Action.Action}
+
+-- an own part is that of the later actions, and before it that of the first ones
+pub part_append : (t : ℕ) (later earlier : List Done) → own_part t (later ++ earlier) ≡ own_part t later ++ own_part t earlier
+part_append t [] earlier = refl
+part_append t (a ∷ later) earlier =
+    let more : own_part t (later ++ earlier) ≡ own_part t later ++ own_part t earlier = part_append t later earlier in
+    let whole : List Action = own_part t (later ++ earlier) in
+    let own : List Action = own_part t later in
+    elim (a.0 == t) as (λ b. (if b then a.1 ∷ whole else whole) ≡ (if b then a.1 ∷ own else own) ++ own_part t earlier) [
+      | true ↦ ap (λ l. a.1 ∷ l) more
+      | false ↦ more
+    ]
 
 -- an action leaves its own task's accesses as `mounts_after` says
 mounts_own : (s : State) (t : ℕ) (a : Action) → (after_action s t a).mounts t ≡ mounts_after a (s.mounts t)

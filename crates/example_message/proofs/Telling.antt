@@ -1,6 +1,6 @@
 -- A copy has what its task was told of.
-use Rattle.access_model.specs.{Histories.own_part, declared.{actions.Action.Action, errors.GateError.GateError}}
-use Rattle.gate_steps.{proofs.call_events.{Grown.after_more, Moments.{actions_append, part_more}}, specs.Seating.{DealtNumbers, IsPrefix}}
+use Rattle.access_model.{proofs.Lists.part_append, specs.{Histories.own_part, declared.{actions.Action.Action, errors.GateError.GateError}}}
+use Rattle.gate_steps.{proofs.call_events.{Grown.after_more, Moments.actions_append}, specs.Seating.{DealtNumbers, IsPrefix}}
 use Rattle.gate_steps.specs.call_events.{Grown.{HasSeen, StaySeen}, Spans.IsEventDuring}
 use Rattle.gate_world.specs.{Headline.{actions_since, actions_so_far}, declared.{entries.Entry.{Entry, TheVariants.Begins}, operations.Op.Op}}
 use Rattle.gate_world.specs.declared.{operations.Op.TheVariants.Snapshot as SnapshotOp, views.Traced.Traced}
@@ -30,7 +30,7 @@ told_by c items op earlier e seen left n writes during told =
     let all : own_part n (actions_so_far c during.entries) ≡ own_part n gap ++ told.list =
     ap (λ (l : List Entry). own_part n (actions_so_far c l)) on.1 ∙
     (ap (own_part n) (actions_append c one on.0) ∙
-    (part_more n gap (actions_so_far c one) ∙
+    (part_append n gap (actions_so_far c one) ∙
     ap (λ (l : List Action). own_part n gap ++ l) (done_there c saw.items saw.then saw.history n told.list saw.there))) in
     let more : writes_in (own_part n (actions_so_far c during.entries)) ≡ writes_in (own_part n gap) + writes_in told.list =
     ap writes_in all ∙ writes_more (own_part n gap) told.list in

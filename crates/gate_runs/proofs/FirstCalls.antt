@@ -1,8 +1,7 @@
 -- What the calls of a run's first task can't find: that the mount is read-only before any task has done anything, or that the root is no directory.
 use Rattle.gate_runs.proofs.Prelude.{Action, Again, Bool, Called, Config, Create, Err, File, GateError, Gives, HasBegun, List, None, Op, ReadOnly}
-use Rattle.gate_runs.proofs.Prelude.{Reply, Result, SeatedTask, Some, Traced, View, WantWrite, [], adds, ap, arith, false, inl, inr, length}
-use Rattle.gate_runs.proofs.Prelude.{own_actions, own_number, own_view, refl, spare_of, subst, suc, sym, true, zero, ℕ, ◌++◌, ◌+◌, ◌<◌, ◌∙◌, ◌∷◌, ◌≡◌}
-use Rattle.gate_runs.proofs.Prelude.{◌≤◌, ◌⊎◌}
+use Rattle.gate_runs.proofs.Prelude.{Reply, Result, SeatedTask, Some, Traced, View, WantWrite, [], adds, ap, arith, false, inl, inr, own_actions}
+use Rattle.gate_runs.proofs.Prelude.{own_number, own_view, refl, spare_of, subst, suc, sym, true, zero, ℕ, ◌++◌, ◌+◌, ◌<◌, ◌∙◌, ◌∷◌, ◌≡◌, ◌≤◌, ◌⊎◌}
 use Rattle.access_model.specs.{Actions.after_action, Histories.{Done, IsLegal, end_of, own_part}, Laws.IsReadOnly, States.{IsDirectory, Limits}}
 use Rattle.access_model.specs.{States.State, declared.{actions.Kind.TheVariants.Dir, errors.GateError.TheVariants.{NoEntry, NoSpace, NotDir}}}
 use Rattle.cpu_words.specs.{Words.read, declared.{events.{Event.Event, Touch.{TheVariants.Load, Touch}}, names.WordName.{TheVariants.Node, WordName}}}
@@ -12,9 +11,10 @@ use Rattle.gate_steps.specs.{Seating.{DealtNumbers, HaveHistory, HaveViews, one_
 use Rattle.gate_world.specs.{Configs.{IsWithin, model_limits}, Headline.{actions_since, actions_so_far, world_after}, Rules.Tree, Shown.shown}
 use Rattle.gate_world.specs.{Work.next_of, declared.entries.Entry.{Entry, TheVariants.Steps}, traces.Found.{is_load, says_read_only}}
 use Rattle.{gate_world.specs.traces.Traces.{IsHonestAnswer, actions_of}, gated_tree.specs.Refusals.{finds_file, finds_free, loads_node}}
-use Rattle.{node_words.specs.Nodes.{dirty_in, kind_in, node_shown, parent_in, removed_in, size_in}, std.proofs.Common.{if◌then◌else◌, ◌==◌}}
-use Rattle.{std.proofs.lemmas.Bool.{Decides.eqb_tells, and_parts, false≢true}, vfs_gates.proofs.several_tasks.Enclosed.read_only_found}
-use Rattle.vfs_gates.{proofs.several_tasks.FrozenUntilThawed.{SomeSays, load_finds, some_of}, specs.Splitting.HaveDoneNothing}
+use Rattle.node_words.specs.Nodes.{dirty_in, kind_in, node_shown, parent_in, removed_in, size_in}
+use Rattle.std.proofs.{Common.{if◌then◌else◌, ◌==◌}, lemmas.Bool.{Decides.eqb_tells, and_parts, false≢true}}
+use Rattle.vfs_gates.proofs.{Rounds.own_ends, several_tasks.{Enclosed.read_only_found, FrozenUntilThawed.{SomeSays, load_finds, some_of}}}
+use Rattle.vfs_gates.specs.Splitting.{HaveDoneNothing}
 use Rattle.gate_runs.{proofs.Keeping.called_stays, specs.Refusals.EndsCreate}
 use lib.ListN.{get_elem?}
 
@@ -165,10 +165,6 @@ idle_there views (x ∷ xs) have nothing t some = elim (eqb_tells x.number t) [
       idle_there views xs (λ k y at. have (suc k) y at) nothing.1 t (omega (arith, more))
 ]
 
-own_there : (views : ℕ → View) (items : DealtNumbers) → 1 ≤ length items → HaveViews views items → views (own_number items) ≡ own_view items
-own_there views [] there have = absurd (omega arith)
-own_there views (x ∷ xs) there have = have 0 x refl
-
 spare_there : (views : ℕ → View) (items : DealtNumbers) → HaveViews views items → HaveViews views (spare_of items)
 spare_there views [] have = have
 spare_there views (x ∷ xs) have = λ k. have (suc k)
@@ -188,7 +184,7 @@ module _ (cpu : ℕ) (first last : SeatedTask) (called : Called (WantWrite 0 cpu
   own_list =
       let stays = called_stays (WantWrite 0 cpu) first last (Err ReadOnly) called in
       let own : whole.world.views (own_number last.items) ≡ own_view last.items =
-      own_there whole.world.views last.items (stays.there begun.there) whole.mine in
+      own_ends whole.world.views last.items (stays.there begun.there) whole.mine in
       let added : NeverCloses (actions_of (WantWrite 0 cpu) (Err ReadOnly) called.trace ++ own_actions first) =
       subst (λ (l : List Action). NeverCloses (actions_of (WantWrite 0 cpu) (Err ReadOnly) called.trace ++ l)) (sym begun.nothing) (tt, (tt, tt)) in
       subst (λ n. NeverCloses (whole.world.views n).actions) (stays.own ∙ begun.own)

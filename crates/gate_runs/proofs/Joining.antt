@@ -3,7 +3,7 @@ use Rattle.gate_runs.proofs.Prelude.{Action, Config, DealtNumbers, FoundOthers, 
 use Rattle.gate_runs.proofs.Prelude.{false, inl, inr, length, own_number, refl, spare_of, subst, suc, sym, zero, ℕ, ◌++◌, ◌+◌, ◌<◌, ◌∙◌, ◌∷◌, ◌≡◌}
 use Rattle.gate_runs.proofs.Prelude.{◌≤◌}
 use Rattle.{access_model.specs.declared.actions.Action.TheVariants.Leave, std.proofs.lemmas.Bool.Decides.eqb_tells}
-use Rattle.vfs_gates.proofs.{Grown.{both_stay_seen, same_stays_seen, stays_seen_on}, Rounds.{own_times, times-append}}
+use Rattle.vfs_gates.proofs.{Grown.{both_stay_seen, same_stays_seen, stays_seen_on}, Rounds.{own_number_same, own_times, times-append}}
 use Rattle.vfs_gates.{proofs.several_tasks.{FreezesBeside.not_busy, FrozenUntilThawed.stands}, specs.Ended.{EndedWith, HasAll}}
 use Rattle.vfs_gates.specs.{Frozen.{IsBesideFreezes, NeverThaws}, Grown.StaySeen, Seating.{HaveViews, one_if, times}}
 use Rattle.gate_runs.specs.Homes.{HasBack, NeverFroze, TookBack}
@@ -12,11 +12,7 @@ have_not_both : (a b : DealtNumbers) → HaveNotFrozen a → HaveNotFrozen b →
 have_not_both [] b none more = more
 have_not_both (x ∷ a) b none more = (none.0, have_not_both a b none.1 more)
 
-own_both : (a b : DealtNumbers) → 1 ≤ length a → own_number (a ++ b) ≡ own_number a
-own_both [] b there = absurd (omega arith)
-own_both (x ∷ a) b there = refl
-
-some_both : (a b : DealtNumbers) → 1 ≤ length a → 1 ≤ length (a ++ b)
+pub some_both : (a b : DealtNumbers) → 1 ≤ length a → 1 ≤ length (a ++ b)
 some_both [] b there = absurd (omega arith)
 some_both (x ∷ a) b there = omega arith
 
@@ -40,7 +36,7 @@ pub has_back_more : (from next count : ℕ) (first old other new : SeatedTask) �
 has_back_more from next count first old other new is there never took before =
     let joined : SeatedTask = record old { items = old.items ++ other.items; seen = old.seen ++ other.seen } in
     subst (HasBack from count first) (sym took) (let has : HasBack from count first joined = record {
-      own = own_both old.items other.items there ∙ before.own;
+      own = own_number_same old.items other.items there ∙ before.own;
       there = λ some. some_both old.items other.items there;
       back = λ n low high.
           let all = times-append n old.items other.items in

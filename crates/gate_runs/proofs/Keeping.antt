@@ -1,13 +1,14 @@
 -- What calls of its own leave a task: its numbers, and that it has frozen and thawed nothing unless a call is a freeze or a thaw.
-use Rattle.gate_runs.proofs.Prelude.{Action, BackupRound, Called, CallsBack, Config, Copies, Create, CreatesFile, DealtNumbers, DropWrite, Err, File}
+use Rattle.gate_runs.proofs.Prelude.{Action, BackupRound, Called, CallsBack, Copies, Create, CreatesFile, DealtNumbers, DropWrite, Err, File}
 use Rattle.gate_runs.proofs.Prelude.{GateError, Grow, HaveNotFrozen, IsRefused, List, NeverFreezes, None, Ok, Op, Option, ReadOnly, RemountRound}
 use Rattle.gate_runs.proofs.Prelude.{Remounts, Repeats, Reply, Result, SeatedTask, Some, Traced, Waits, WantWrite, WriterRound, Writes, [], adds, ap}
-use Rattle.gate_runs.proofs.Prelude.{arith, false, inl, inr, length, own_actions, own_number, own_view, refl, refusal_at, spare_of, subst, suc, sym}
-use Rattle.gate_runs.proofs.Prelude.{true, zero, ℕ, ◌++◌, ◌+◌, ◌∙◌, ◌∷◌, ◌≡◌, ◌≤◌}
+use Rattle.gate_runs.proofs.Prelude.{false, inl, inr, length, own_actions, own_number, own_view, refl, refusal_at, spare_of, subst, suc, sym, true}
+use Rattle.gate_runs.proofs.Prelude.{zero, ℕ, ◌++◌, ◌+◌, ◌∙◌, ◌∷◌, ◌≡◌, ◌≤◌}
 use Rattle.access_model.specs.declared.replies.Reply.TheVariants.{Node}
 use Rattle.gate_world.specs.{declared.operations.Op.TheVariants.ChangeMount, traces.{Found.found_read_only, Traces.actions_of}}
 use Rattle.{run_plans.specs.declared.counts.Tried.{TheVariants.{Copied, GaveUp as GivenUp}, Tried}, std.proofs.lemmas.Bool.cases_Bool}
-use Rattle.vfs_gates.specs.{Runs.{Replies, ran_items}, Splitting.HaveDoneNothing}
+use Rattle.vfs_gates.{proofs.{Holding.same_own, Rounds.ran_spare, several_tasks.FrozenUntilThawed.some_ran}, specs.Runs.{Replies, ran_items}}
+use Rattle.vfs_gates.specs.Splitting.{HaveDoneNothing}
 use Rattle.gate_runs.specs.{Keeping.{FreezesNothing, KeepsNumbers}, Rounds.{CreatesFiles, Retries, Takes, Tries}}
 
 pub stays_so : (s : SeatedTask) → KeepsNumbers s s
@@ -22,27 +23,14 @@ stays_on one two = record {
   there = λ h. two.there (one.there h);
 }
 
--- what has run has its numbers
-own_ran : (c : Config) (op : Op) (trace : List Traced) (items : DealtNumbers) → own_number (ran_items c op trace items) ≡ own_number items
-own_ran c op trace [] = refl
-own_ran c op trace (x ∷ xs) = refl
-
-spare_ran : (c : Config) (op : Op) (trace : List Traced) (items : DealtNumbers) → spare_of (ran_items c op trace items) ≡ spare_of items
-spare_ran c op trace [] = refl
-spare_ran c op trace (x ∷ xs) = refl
-
-there_ran : (c : Config) (op : Op) (trace : List Traced) (items : DealtNumbers) → 1 ≤ length items → 1 ≤ length (ran_items c op trace items)
-there_ran c op trace [] h = h
-there_ran c op trace (x ∷ xs) h = omega arith
-
 pub called_stays : (op : Op) (first last : SeatedTask) (answer : Result Reply GateError) → Called op first last answer → KeepsNumbers first last
 called_stays op first last answer called =
     let items : last.items ≡ ran_items first.config op called.trace first.items = ap (λ (s : SeatedTask). s.items) called.after in record {
       config = ap (λ (s : SeatedTask). s.config) called.after;
-      own = ap own_number items ∙ own_ran first.config op called.trace first.items;
-      spare = ap spare_of items ∙ spare_ran first.config op called.trace first.items;
+      own = ap own_number items ∙ same_own first.config op called.trace first.items;
+      spare = ap spare_of items ∙ ran_spare first.config op called.trace first.items;
       idle = λ i. ap (λ (s : SeatedTask). s.phase) called.after;
-      there = λ h. subst (λ (l : DealtNumbers). 1 ≤ length l) (sym items) (there_ran first.config op called.trace first.items h);
+      there = λ h. subst (λ (l : DealtNumbers). 1 ≤ length l) (sym items) (some_ran first.config op called.trace first.items h);
     }
 
 -- a call leaves what a whole one leaves, if that is also left where nothing is done

@@ -2,6 +2,7 @@
 use Rattle.gate_runs.proofs.Prelude.{Action, DealtNumbers, HasBegun, List, Rests, SeatedTask, [], ap, arith, length, own_view, refl, subst, sym, ℕ}
 use Rattle.gate_runs.proofs.Prelude.{◌++◌, ◌∙◌, ◌∷◌, ◌≡◌, ◌≤◌}
 use Rattle.{access_model.specs.Histories.{levels_of, mounts_of, opens_of}, vfs_gates.specs.TaskStates.{HoldsNothing, IsIdle}}
+use Rattle.gate_runs.proofs.Joining.{some_both}
 
 -- a task that is idle and has done nothing rests
 pub begun_rests : (number : ℕ) (s : SeatedTask) → IsIdle s → HasBegun number s → Rests s
@@ -30,9 +31,5 @@ joined_rests old other new there rests is =
     ) in
     subst Rests (sym is) (rests.0, same)
 
-there_still : (items more : DealtNumbers) → 1 ≤ length items → 1 ≤ length (items ++ more)
-there_still [] more there = absurd (omega arith)
-there_still (x ∷ xs) more there = omega arith
-
 pub joined_there : (old other new : SeatedTask) → 1 ≤ length old.items → new ≡ record old { items = old.items ++ other.items; seen = old.seen ++ other.seen } → 1 ≤ length new.items
-joined_there old other new there is = subst (λ (s : SeatedTask). 1 ≤ length s.items) (sym is) (there_still old.items other.items there)
+joined_there old other new there is = subst (λ (s : SeatedTask). 1 ≤ length s.items) (sym is) (some_both old.items other.items there)

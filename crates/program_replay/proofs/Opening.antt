@@ -1,10 +1,11 @@
 -- The gates as they begin show the opening.
 use Rattle.{cpu_words.{proofs.Places.opening_listed, specs.{Lists.AreOpening, Names.words_in_all}}, gate_schedules.proofs.frames.Places.are_few}
-use Rattle.gate_steps.{proofs.call_events.Grown.only_seen, specs.{Rules.first_items, Seating.{DealtNumbers, deal, given_of, kept_of, renewed}}}
-use Rattle.{gate_steps.specs.{Seating.{view_in, without}, call_events.Grown.HasSeen}, gate_world.specs.{Configs.{IsWithin, extents_kept}, Fits.Fits}}
-use Rattle.gate_world.specs.{Views.{held_of, opening_view}, Worlds.opening, declared.{config.Config.Config, views.View.View}}
-use Rattle.std.proofs.Common.{All, List, None, [], ap, arith, cond, eqb, false, get_or, length, refl, subst, suc, sym, true, zero, ℕ, ◌+◌, ◌<◌, ◌∷◌}
-use Rattle.{std.proofs.Common.{◌≡◌, ◌≤◌}, vfs_gates.specs.{Splitting.AreNumbered, TaskStates.{SeatedTask, own_number, own_view}}}
+use Rattle.gate_steps.{proofs.call_events.Grown.only_seen, specs.Rules.first_items}
+use Rattle.gate_steps.specs.{Seating.{DealtNumbers, deal, given_of, kept_of, renewed, view_in, without}, call_events.Grown.HasSeen}
+use Rattle.gate_world.specs.{Configs.{IsWithin, extents_kept}, Fits.Fits, Views.{held_of, opening_view}, Worlds.opening}
+use Rattle.{gate_world.specs.declared.{config.Config.Config, views.View.View}, std.proofs.Common.{All, List, None, [], ap, arith, cond, eqb, false}}
+use Rattle.std.proofs.Common.{get_or, length, refl, subst, suc, sym, true, zero, ℕ, ◌+◌, ◌<◌, ◌∷◌, ◌≡◌, ◌≤◌}
+use Rattle.vfs_gates.{proofs.Splitting.there_kept, specs.{Splitting.AreNumbered, TaskStates.{SeatedTask, own_number, own_view}}}
 use Rattle.program_replay.specs.Shown.{AreUntouched, IsNew, IsShown, TasksShow}
 
 own_untouched : (items : DealtNumbers) → AreUntouched items → own_view items ≡ opening_view
@@ -31,10 +32,6 @@ untouched_in n (x ∷ xs) h =
 -- the first task is new
 pub first_new : (s : SeatedTask) (c : Config) → 1 ≤ length s.items → s.phase ≡ None → s.seen ≡ [] ∷ [] → s.items ≡ first_items c → IsNew s
 first_new s c there idle seen all = record { there = there; idle = idle; seen = seen; items = subst AreUntouched (sym all) (untouched_dealt 0 c.tasks) }
-
-there_kept : (n : ℕ) (items : DealtNumbers) → 1 ≤ length items → 1 ≤ length (kept_of n items)
-there_kept n [] there = there
-there_kept n (x ∷ xs) there = omega arith
 
 untouched_kept : (n : ℕ) (items : DealtNumbers) → AreUntouched items → AreUntouched (kept_of n items)
 untouched_kept n [] h = tt

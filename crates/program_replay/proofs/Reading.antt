@@ -1,13 +1,13 @@
 -- What a step says of the execution before it and of the one after it.
 use Rattle.{cpu_words.specs.{Hooks.HookAnswer, Words.Words}, finite_sums.proofs.Totals.update_at}
-use Rattle.gate_steps.{proofs.call_events.{Grown.{after_more, only_seen}, Moments.run_append}, specs.Histories.then_begins}
+use Rattle.gate_steps.{proofs.call_events.{Going.entered_actions, Grown.{after_more, only_seen}, Moments.run_append}, specs.Histories.then_begins}
 use Rattle.gate_steps.specs.Seating.{DealtNumbers, HasWitness, IsPrefix, done_by, entered, items_after, numbered, world_entered, world_left}
 use Rattle.gate_steps.specs.{call_events.{Grown.HasSeen, SeatedTasks.{own_number, own_view}, Stepped.ToldIn}, declared.seating.Numbered.Numbered}
-use Rattle.gate_transitions.specs.{Answers.phase_step, declared.steps.Step.Step}
-use Rattle.gate_world.specs.{Headline.world_after, Views.{actions_after, phase_after, view_after_with_others}, Work.after_of}
-use Rattle.gate_world.specs.{Worlds.{World, found_at, opening, run, value_at, words_after}, declared.{config.Config.Config, entries.Entry.Entry}}
-use Rattle.gate_world.specs.declared.{entries.Entry.TheVariants.{Begins, Steps}, operations.Op.Op, views.View.View, work.Phase.Phase}
-use Rattle.std.proofs.Common.{List, None, Option, Some, [], ap, arith, length, refl, subst, sym, ℕ, ◌<◌, ◌∙◌, ◌∷◌, ◌≡◌, ◌≤◌}
+use Rattle.{gate_transitions.specs.{Answers.phase_step, declared.steps.Step.Step}, gate_world.specs.Headline.world_after}
+use Rattle.gate_world.specs.{Views.{actions_after, phase_after, view_after_with_others}, Work.after_of, Worlds.{World, found_at, opening, run}}
+use Rattle.gate_world.specs.{Worlds.{value_at, words_after}, declared.{config.Config.Config, entries.Entry.{Entry, TheVariants.{Begins, Steps}}}}
+use Rattle.{gate_world.specs.declared.{operations.Op.Op, views.View.View, work.Phase.Phase}, std.proofs.Common.{List, None, Option, Some, [], ap}}
+use Rattle.{std.proofs.Common.{arith, length, refl, subst, sym, ℕ, ◌<◌, ◌∙◌, ◌∷◌, ◌≡◌, ◌≤◌}, vfs_gates.proofs.call_laws.Blocked.same_words}
 use Rattle.program_replay.proofs.Still.{come, grows_on, view_stays, world_stays}
 
 -- the state after an execution, from the one after an earlier one
@@ -60,16 +60,6 @@ begins_on : (t : ℕ) (begins : Option Op) (entries : List Entry) → IsPrefix e
 begins_on t None entries = only_seen entries
 begins_on t (Some op) entries = (Begins t op ∷ [], refl)
 
--- a beginning changes no word
-entered_words : (c : Config) (w : World) (t : ℕ) (begins : Option Op) → (world_entered c w t begins).words ≡ w.words
-entered_words c w t None = refl
-entered_words c w t (Some op) = refl
-
--- and adds no action
-entered_actions : (v : View) (begins : Option Op) (phase : Phase) → (entered v begins phase).actions ≡ v.actions
-entered_actions v None phase = refl
-entered_actions v (Some op) phase = refl
-
 pub step_read : (c : Config) (begins : Option Op) (phase : Phase) (hook : HookAnswer) (items : DealtNumbers) (found : ℕ) (seen left : List (List Entry))
     (m : HasWitness c begins phase hook items found seen left) (done : Step) → ToldIn c begins phase hook found items seen left m done →
     StepRead c phase hook items (items_after begins phase hook found items) seen left done
@@ -81,7 +71,7 @@ step_read c begins phase hook (x ∷ xs) found seen left m done told =
     let after : World = world_left c m.world begins phase hook x.number xs in
     let y : Numbered = numbered x.number (view_after_with_others (done_by xs) (entered x.view begins phase) phase found hook) in
     let begun = begins_on x.number begins past in
-    let same : inside.words ≡ (world_after c past).words = entered_words c m.world x.number begins ∙ sym m.past.reached.words in
+    let same : inside.words ≡ (world_after c past).words = same_words c m.world x.number begins ∙ sym m.past.reached.words in
     let came : View = view_after_with_others (done_by xs) (inside.views x.number) phase (value_at inside.words phase hook) hook in
     let is : y.view ≡ came = sym (m.left 0 y refl) ∙ update_at inside.views x.number came in
     record {

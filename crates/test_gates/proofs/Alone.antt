@@ -1,11 +1,11 @@
 -- What closed gates tell of a task with their only number.
-use Rattle.access_model.specs.{Holders.{held_by, nobody, with_holder}, declared.actions.{Action.Action, Holder.{Holder, TheVariants.{Kernel, User}}}}
-use Rattle.access_model.specs.declared.{actions.Holders.Holders, errors.GateError.{GateError, TheVariants.{Busy, Invalid}}, replies.Reply.Reply}
-use Rattle.gate_steps.specs.Seating.{DealtNumbers, HaveHistory}
-use Rattle.gate_world.specs.declared.{config.Config.Config, operations.Op.{Op, TheVariants.{Freeze as FreezeOp, Snapshot as SnapshotOp}}}
-use Rattle.std.proofs.Common.{Err, List, None, Ok, OnOk, Option, Result, Some, [], ap, arith, false, inl, refl, subst, sym, true, ℕ, ◌<◌, ◌∙◌, ◌∷◌}
-use Rattle.{std.proofs.Common.◌≡◌, vfs_gates.proofs.{Grown.same_stays_seen, Holding.adds, Returning.was_done, Rounds.own_stays}}
-use Rattle.vfs_gates.proofs.{call_laws.TreeStays.{tree_stays, tree_stays_between}, several_tasks.{FreezesBeside.not_busy, FrozenUntilThawed.stands}}
+use Rattle.access_model.specs.{Holders.{held_by, nobody}, declared.actions.{Action.Action, Holder.{Holder, TheVariants.{Kernel, User}}}}
+use Rattle.access_model.specs.declared.{errors.GateError.{GateError, TheVariants.{Busy, Invalid}}, replies.Reply.Reply}
+use Rattle.{gate_steps.specs.Seating.{DealtNumbers, HaveHistory}, gate_world.specs.declared.{config.Config.Config, operations.Op.Op}}
+use Rattle.{gate_world.specs.declared.operations.Op.TheVariants.{Freeze as FreezeOp, Snapshot as SnapshotOp}, std.proofs.Common.{Err, List, None, Ok}}
+use Rattle.std.proofs.Common.{OnOk, Option, Result, Some, [], ap, arith, false, inl, refl, subst, sym, true, ℕ, ◌<◌, ◌∙◌, ◌∷◌, ◌≡◌}
+use Rattle.vfs_gates.proofs.{Grown.same_stays_seen, Holding.adds, Returning.was_done, Rounds.own_stays, call_laws.TreeStays.{now_held, tree_stays}}
+use Rattle.vfs_gates.proofs.{call_laws.TreeStays.tree_stays_between, several_tasks.{FreezesBeside.not_busy, FrozenUntilThawed.stands}}
 use Rattle.vfs_gates.specs.{Ended.EndedWith, Frozen.{MayFreeze, holders_of}, Held.own_actions, Meetings.{Entry, HasDone}}
 use Rattle.vfs_gates.specs.{Runs.{Called, Performs, told_as, unit_of}, TaskStates.{SeatedTask, own_number, own_view, refusal_at}}
 use Rattle.test_gates.{proofs.InTime.where_done, specs.InTime.{LeftFrozen, StayedFrozen}}
@@ -38,10 +38,6 @@ never_busy h s o at is = grind arith
 
 never_invalid : (s : SeatedTask) (o : Option GateError) → refusal_at (SnapshotOp true) s ≡ o → o ≡ Some Invalid → ⊥
 never_invalid s o at is = grind arith
-
-now_held : (h : Holder) (held : Holders) → held_by (with_holder h true held) h ≡ true
-now_held Kernel held = refl
-now_held User held = refl
 
 -- nobody holds a freeze in an empty list, and none is under way
 none_held : (h : Holder) → MayFreeze h []

@@ -1,13 +1,13 @@
 -- What whole calls leave of what a task holds.
-use Rattle.vfs_gates.proofs.Prelude.{Action, AreMoves, Bool, Called, ChangeMount, Close, Config, Done, Entry, Err, Freeze, GateError, Go, Grant}
-use Rattle.vfs_gates.proofs.Prelude.{IsAsBefore, IsIdle, List, Next, Node, None, Ok, Op, Option, Phase, RemountSb, Replies, Reply, Rests, Result}
-use Rattle.vfs_gates.proofs.Prelude.{SbRo, SbRw, SeatedTask, Some, Start, Thaw, Touch, Traced, Wait, Want, WantWrite, WordName, [], actions_of, ap}
-use Rattle.vfs_gates.proofs.Prelude.{cases_Bool, false, found_read_only, found_sealed, has_flag, inl, inr, own_actions, own_number, own_view}
-use Rattle.vfs_gates.proofs.Prelude.{ran_items, refl, refusal_at, state_of_trace, subst, sym, told_as, true, true≢false, ℕ, ◌++◌, ◌<◌, ◌∙◌, ◌∷◌, ◌≡◌}
+use Rattle.vfs_gates.proofs.Prelude.{Action, AreMoves, Bool, Called, ChangeMount, Close, Config, Done, Entry, Err, Freeze, GateError, Grant}
+use Rattle.vfs_gates.proofs.Prelude.{IsAsBefore, IsIdle, List, Node, None, Ok, Op, Option, RemountSb, Replies, Reply, Rests, Result, SbRo, SbRw}
+use Rattle.vfs_gates.proofs.Prelude.{SeatedTask, Some, Start, Thaw, Touch, Traced, Want, WantWrite, WordName, [], actions_of, ap, cases_Bool, false}
+use Rattle.vfs_gates.proofs.Prelude.{found_read_only, found_sealed, has_flag, inl, inr, own_actions, own_number, own_view, ran_items, refl}
+use Rattle.vfs_gates.proofs.Prelude.{refusal_at, state_of_trace, subst, sym, told_as, true, true≢false, ℕ, ◌++◌, ◌<◌, ◌∙◌, ◌∷◌, ◌≡◌}
 use Rattle.access_model.specs.declared.actions.Action.TheVariants.{Clean, Close as CloseAction, Leave, Open as OpenAction, Pass, Return}
 use Rattle.access_model.specs.declared.{actions.Action.TheVariants.Stage as StageAction, replies.Reply.TheVariants.Node as NodeReply}
-use Rattle.{cpu_words.specs.declared.events.Touch.TheVariants.And, gate_steps.proofs.call_events.Asked.either_way}
-use Rattle.{gate_steps.specs.call_events.{Runs.IsNextMove, Seating.DealtNumbers}, gate_world.specs.Holdings.{Holdings, held_after, holdings_of}}
+use Rattle.{cpu_words.specs.declared.events.Touch.TheVariants.And, gate_steps.proofs.call_events.{Asked.either_way, Effects.none_moves}}
+use Rattle.{gate_steps.specs.call_events.Seating.DealtNumbers, gate_world.specs.Holdings.{Holdings, held_after, holdings_of}}
 use Rattle.gate_world.specs.{Operations.all_levels_closed, declared.operations.Op.TheVariants.{Create, DropMount, DropWrite, End, Open}}
 use Rattle.gate_world.specs.traces.Found.{clean_found, cleans, found_complete, found_shared}
 use Rattle.vfs_gates.specs.Held.{takes_nothing}
@@ -84,25 +84,16 @@ adds_free (Create d kind) (NodeReply n) trace none = (refl, tt)
 adds_free (Create d kind) reply trace none = tt
 adds_free op reply trace none = search refl
 
--- a task with no number of its own has no step
-pub no_move : (c : Config) (op : Op) (earlier : List Traced) (e : Traced) (seen gone : List (List Entry)) (s : Next Phase) →
-    IsNextMove c op [] earlier e seen gone s → ⊥
-no_move c op [] e seen gone (Go phase) h = h.2
-no_move c op (d ∷ ds) e seen gone (Go phase) h = h.2
-no_move c op [] e seen gone (Wait phase) h = h.2
-no_move c op (d ∷ ds) e seen gone (Wait phase) h = h.2
-no_move c op earlier e seen gone (Done answer) h = h
-
 -- the own number's actions after a whole operation: those that it has added, and the earlier ones
 acted : (c : Config) (op : Op) (trace : List Traced) (answer : Result Reply GateError) (l : DealtNumbers) (added : List Action)
     (seen gone : List (List Entry)) → (state_of_trace c (own_number l) op trace).comes ≡ Done answer → AreMoves c op l seen trace gone →
     (state_of_trace c (own_number l) op trace).added ≡ added →
     (own_view (ran_items c op trace l)).actions ≡ added ++ (own_view l).actions
 acted c op [] answer [] added seen gone ends moves is = absurd (let f : ⊥ = cc in f)
-acted c op (e ∷ es) answer [] added seen gone ends moves is = absurd (no_move c op es e moves.0 gone _ moves.1)
+acted c op (e ∷ es) answer [] added seen gone ends moves is = absurd (none_moves c op es e moves.0 gone _ moves.1)
 acted c op trace answer (x ∷ xs) added seen gone ends moves is = ap (λ l. l ++ x.view.actions) is
 
-same_own : (c : Config) (op : Op) (trace : List Traced) (l : DealtNumbers) → own_number (ran_items c op trace l) ≡ own_number l
+pub same_own : (c : Config) (op : Op) (trace : List Traced) (l : DealtNumbers) → own_number (ran_items c op trace l) ≡ own_number l
 same_own c op trace [] = refl
 same_own c op trace (x ∷ xs) = refl
 

@@ -3,7 +3,7 @@ use Rattle.vfs_gates.proofs.Prelude.{Accesses, Bool, BufferWords, BuffersMatch, 
 use Rattle.vfs_gates.proofs.Prelude.{LoadsNode, LoadsStage, LoadsUsed, Locks, Next, None, Ok, Op, Option, Phase, Releases, Reply, Result, Some}
 use Rattle.vfs_gates.proofs.Prelude.{TreeWords, Trees, after_of, ap, arith, at_snapshot, completed, event_of, false, first_phase, if◌then◌else◌}
 use Rattle.vfs_gates.proofs.Prelude.{is_some, items_after, length, map_next, not, phase_after, refl, snapshot_at, state_at, subst, sym, true}
-use Rattle.vfs_gates.proofs.Prelude.{unpacked, with_words, ℕ, ◌-◌, ◌<◌, ◌∙◌, ◌≡◌, ◌≤◌}
+use Rattle.vfs_gates.proofs.Prelude.{unpacked, with_words, ℕ, ◌<◌, ◌∙◌, ◌≡◌, ◌≤◌}
 use Rattle.{access_model.specs.declared.replies.Reply.TheVariants.Tree as TreeReply, gate_steps.proofs.call_events.Leading.{led_nowhere, led_on}}
 use Rattle.gate_steps.specs.{call_events.{Led.{Led, Stands, TaskSeat}, Turns.StateAgrees}, declared.call_events.words.GateWords.GateWords}
 use Rattle.gate_world.specs.{Accesses.accesses_after, declared.operations.Op.TheVariants.Snapshot as SnapshotOp}
@@ -45,9 +45,6 @@ kids_on s node next found is = ap (λ o. Go (snapshot_at s (kids_step o))) (sym 
 pub kids_last : (s : Snapshot) (node found : ℕ) → None ≡ node_after node s.nodes →
     (after_of (snapshot_at s (LoadsKids node)) found (Ok tt)).0 ≡ Go (snapshot_at s (Releases (Ok TreeReply)))
 kids_last s node found is = ap (λ o. Go (snapshot_at s (kids_step o))) (sym is)
-
-pub fewer_left : (node nodes next : ℕ) → Some next ≡ node_after node nodes → nodes - next < nodes - node
-fewer_left node nodes next is = grind arith
 
 -- a task has a number
 numbered : {c : Config} {begins : Option Op} {phase : Phase} {accesses : Accesses} {items : DealtNumbers} →

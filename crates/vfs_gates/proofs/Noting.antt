@@ -5,6 +5,7 @@ use Rattle.vfs_gates.proofs.Prelude.{Wait, WordName, [], after_of, ap, arith, at
 use Rattle.vfs_gates.proofs.Prelude.{if◌then◌else◌, inl, inr, is_load, is_some, items_after, last_snapshot, length, map_next, next_of, not, own_view}
 use Rattle.vfs_gates.proofs.Prelude.{phase_after, refl, subst, suc, sym, true, unpacked, with_words, zero, ℕ, ◌+◌, ◌==◌, ◌∙◌, ◌∷◌, ◌≡◌, ◌≤◌}
 use Rattle.{access_model.specs.declared.errors.GateError.TheVariants.{Again, Invalid}, cpu_words.specs.declared.names.WordName.TheVariants.Kids}
+use Rattle.gate_steps.proofs.call_events.Asked.{either_way}
 use Rattle.gate_world.specs.{declared.views.Snapshot.Snapshot as Noted, traces.Snapshots.{completes, loads_noted, noted_last}}
 use Rattle.gated_tree.specs.{Phases.{kids_step, node_step}, Trees.loaded, declared.phases.TreePhase.TheVariants.Snapshot as Snapshots}
 use Rattle.{gated_tree.specs.declared.snapshots.{Snapshot.Snapshot as Taking, SnapshotStep.SnapshotStep}, node_words.specs.Nodes.node_after}
@@ -68,11 +69,6 @@ noted_sized nodes (e ∷ earlier) =
 last_same : (words : TreeWords) (r : BufferWords) (o : Option Noted) → LastTells r o → LastTells (with_words words r) o
 last_same words r None h = h
 last_same words r (Some s) h = h
-
--- the room tells of either of two
-either : {A : Type 0} (T : A → Type 0) (b : Bool) (p q : A) → T p → T q → T (if b then p else q)
-either T true p q hp hq = hp
-either T false p q hp hq = hq
 
 abbrev Tells : ℕ → BufferWords → List Traced → Next Taking → Type 0
 Tells nodes r trace n = NextTells nodes r trace (phase_after (map_next Trees (map_next Snapshots n)))
@@ -165,22 +161,22 @@ module _ (r : BufferWords) (nodes : ℕ) (begins : Option Op) (hook : HookAnswer
   follows_sized true task Locks h =
       let s : Taking = taking true task Locks in
       going s refl h.room.1 (comes_at s)
-      (either (Tells nodes (left_at s) (trace_at s)) (found == 0) (Go (at_snapshot s LoadsStage)) (Wait s) (refl, tt) (refl, tt)) h
+      (either_way (Tells nodes (left_at s) (trace_at s)) (found == 0) (Go (at_snapshot s LoadsStage)) (Wait s) (refl, tt) (refl, tt)) h
   follows_sized false task Locks h =
       let s : Taking = taking false task Locks in
       going s refl h.room.1 (comes_at s)
-      (either (Tells nodes (left_at s) (trace_at s)) (found == 0) (Go (at_snapshot s LoadsStage)) (Done (Err Again)) (refl, tt) tt) h
+      (either_way (Tells nodes (left_at s) (trace_at s)) (found == 0) (Go (at_snapshot s LoadsStage)) (Done (Err Again)) (refl, tt) tt) h
   follows_sized wait task LoadsStage h =
       let s : Taking = taking wait task LoadsStage in
       going s refl h.room.1 (comes_at s)
-      (either (Tells nodes (left_at s) (trace_at s)) (found == 4) (Go (at_snapshot s LoadsUsed)) (Go (at_snapshot s (Releases (Err Invalid))))
+      (either_way (Tells nodes (left_at s) (trace_at s)) (found == 4) (Go (at_snapshot s LoadsUsed)) (Go (at_snapshot s (Releases (Err Invalid))))
       (refl, tt) (refl, tt)) h
   follows_sized wait task LoadsUsed h =
       let s : Taking = taking wait task LoadsUsed in going s refl h.room.1 (comes_at s) (refl, (refl, refl)) h
   follows_sized wait task (LoadsNode node) h =
       let s : Taking = taking wait task (LoadsNode node) in
       going s refl (length-set r.next.nodes node found ∙ h.room.1.0, h.room.1.1) (comes_at s)
-      (either (Tells nodes (left_at s) (trace_at s)) (is_some (unpacked found)) (Go (at_snapshot s (node_step (node_after node nodes))))
+      (either_way (Tells nodes (left_at s) (trace_at s)) (is_some (unpacked found)) (Go (at_snapshot s (node_step (node_after node nodes))))
       (Go (at_snapshot s (LoadsNode node)))
       (refl, node_tells wait task node (node_after node nodes) refl h.next.1 h.room.1)
       (refl, (h.next.1.0, take-set r.next.nodes node found ∙ (h.next.1.1 ∙ sym (take-set before.nodes node found))))) h

@@ -223,9 +223,3 @@ first_ghost_agrees c idle (suc n) flags within still some_there few set_are = su
             (λ ge. let t = times-deal_below k 1 n (omega arith) in absurd (omega arith))),
       );
     })
-
--- a task has a number of its own
-pub has_own : (number : ℕ) (c : Config) (begins : Option Op) (state : TaskState) (flags : List Bool) (items : DealtNumbers) →
-    GhostAgrees number c begins state flags items → 1 ≤ length items
-has_own number c begins state flags [] h = absurd h
-has_own number c begins state flags (x ∷ xs) h = omega arith

@@ -1,5 +1,5 @@
 -- What many of the proofs of this crate take, by one name each. Nothing of the proofs themselves is passed on here.
-pub use Rattle.access_model.specs.{Actions.{IsAllowed, after_action}, Histories.{IsLegal, end_of, mounts_of, own_part}}
+pub use Rattle.access_model.{proofs.Lists.part_append, specs.{Actions.{IsAllowed, after_action}, Histories.{IsLegal, end_of, mounts_of, own_part}}}
 pub use Rattle.access_model.specs.{Holders.{held_by, with_holder}, Replies.map_next, States.{Limits, State}, declared.actions.Action.Action}
 pub use Rattle.access_model.specs.declared.actions.{Action.TheVariants.{Grant, Hold, SbRo, SbRw}, Gate.{Gate, TheVariants.{Level, Mount}}}
 pub use Rattle.access_model.specs.declared.{actions.Holder.Holder, errors.GateError.{GateError, TheVariants.Busy}, replies.Next.Next}
@@ -9,15 +9,15 @@ pub use Rattle.cpu_words.specs.declared.{events.{Event.Event, Touch.Touch}, name
 pub use Rattle.{finite_sums.{proofs.Totals.update_at, specs.Sums.total}, freeze_levels.specs.declared.hooks.HookCall.HookCall}
 pub use Rattle.{gate_schedules.proofs.schedules.HeadlineProof.{whole_rule, whole_run}, gate_steps.proofs.call_events.Effects.call_effect}
 pub use Rattle.gate_steps.proofs.call_events.{Giving.view_in-at, Grown.{after_more, only, same_stays_seen, stays_seen_on}, Leading.still_stands}
-pub use Rattle.gate_steps.{proofs.call_events.{Moments.{actions_append, part_more}, Spanning.each_event}, specs.Rules.first_items}
-pub use Rattle.gate_steps.specs.Seating.{DealtNumbers, HaveHistory, HaveViews, IsPrefix, deal, done_by, given_of, items_after, kept_of, numbered}
-pub use Rattle.gate_steps.specs.{Seating.{times, view_in}, call_events.{GhostAgrees.{AllRest, GhostAgrees}, Grown.{HasSeen, StaySeen}, Runs.AreMoves}}
-pub use Rattle.gate_steps.specs.call_events.Runs.{Called, OpUnderWay, Performs, Replies, completed_by, items_at, ran_items, ran_snapshot, the_reply}
-pub use Rattle.gate_steps.specs.call_events.{Runs.{told_as, unit_of}, Spans.{IsEventDuring, TakesEffect}, Stepped.Stepped, TaskState.TaskState}
-pub use Rattle.{gate_steps.specs.{call_events.Turns.state_at, declared.seating.Numbered.Numbered}, gate_world.specs.Beginnings.first_phase}
-pub use Rattle.gate_world.specs.{Configs.{IsWithin, model_limits}, Headline.{actions_since, actions_so_far, world_after}, Shown.shown, Views.held_of}
-pub use Rattle.gate_world.specs.{Views.{opening_view, phase_after}, Work.{after_of, next_of}, Worlds.World, declared.accesses.Accesses.Accesses}
-pub use Rattle.gate_world.specs.declared.{config.Config.Config, entries.Entry.{Entry, TheVariants.{Begins, Steps}}, operations.Op.Op}
+pub use Rattle.gate_steps.{proofs.call_events.{Moments.actions_append, Spanning.each_event}, specs.{Rules.first_items, Seating.DealtNumbers}}
+pub use Rattle.gate_steps.specs.Seating.{HaveHistory, HaveViews, IsPrefix, deal, done_by, given_of, items_after, kept_of, numbered, times, view_in}
+pub use Rattle.gate_steps.specs.call_events.{GhostAgrees.{AllRest, GhostAgrees}, Grown.{HasSeen, StaySeen}, Runs.{AreMoves, Called, OpUnderWay}}
+pub use Rattle.gate_steps.specs.call_events.Runs.{Performs, Replies, completed_by, items_at, ran_items, ran_snapshot, the_reply, told_as, unit_of}
+pub use Rattle.gate_steps.specs.call_events.{Spans.{IsEventDuring, TakesEffect}, Stepped.Stepped, TaskState.TaskState, Turns.state_at}
+pub use Rattle.{gate_steps.specs.declared.seating.Numbered.Numbered, gate_world.specs.{Beginnings.first_phase, Configs.{IsWithin, model_limits}}}
+pub use Rattle.gate_world.specs.{Headline.{actions_since, actions_so_far, world_after}, Shown.shown, Views.{held_of, opening_view, phase_after}}
+pub use Rattle.gate_world.specs.{Work.{after_of, next_of}, Worlds.World, declared.{accesses.Accesses.Accesses, config.Config.Config}}
+pub use Rattle.gate_world.specs.declared.{entries.Entry.{Entry, TheVariants.{Begins, Steps}}, operations.Op.Op}
 pub use Rattle.gate_world.specs.declared.operations.Op.TheVariants.{Callback, ChangeMount, Close, Freeze, RemountSb, Start, Thaw, Want, WantWrite}
 pub use Rattle.gate_world.specs.declared.{views.{Traced.Traced, View.View}, work.Phase.{Phase, TheVariants.Trees}}
 pub use Rattle.gate_world.specs.traces.{Found.{found_read_only, found_sealed, is_load}, Snapshots.last_snapshot}

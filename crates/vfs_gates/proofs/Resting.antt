@@ -116,7 +116,7 @@ first_empty c zero = ((λ m lt. refl), (λ i one three. refl), (λ n. refl))
 first_empty c (suc k) = ((λ m lt. refl), (λ i one three. refl), (λ n. refl))
 
 -- a view with no action holds nothing; a number that was dealt has none
-in_dealt : (n from k : ℕ) → view_in n (deal from k) ≡ opening_view
+pub in_dealt : (n from k : ℕ) → view_in n (deal from k) ≡ opening_view
 in_dealt n from zero = refl
 in_dealt n from (suc k) =
     elim (eqb from n) as (λ b. cond b opening_view (view_in n (deal (suc from) k)) ≡ opening_view) [

@@ -8,15 +8,15 @@ pub use Rattle.gate_world.specs.declared.config.Config.{Config}
 pub use Rattle.vfs_gates.specs.Rounds.{GateError, Mount, Op, ChangeMount, Performs, Rests, SeatedTask, IsFrom, ComesAfter, Did, Ended, Granted, refused, round}
 pub use Rattle.vfs_gates.specs.TaskStates.{task_state}
 use Rattle.vfs_gates.proofs.Prelude.{Bool, DealtNumbers, Empty, EndedWith, Entry, Gate, HaveViews, IsAsBefore, List, None, Ok, Option, Reply, Result}
-use Rattle.vfs_gates.proofs.Prelude.{Some, SplitOf, StaySeen, Traced, View, Want, WantWrite, [], and_parts, ap, arith, false, held_of, kept_of}
-use Rattle.vfs_gates.proofs.Prelude.{length, own_actions, own_number, own_view, ran_items, refl, refusal_at, same_stays_seen, spare_of, subst, suc}
-use Rattle.vfs_gates.proofs.Prelude.{sym, times, told_as, true, unit_of, ◌++◌, ◌+◌, ◌<◌, ◌∙◌, ◌∷◌, ◌≡◌}
+use Rattle.vfs_gates.proofs.Prelude.{Some, SplitOf, StaySeen, Traced, View, Want, WantWrite, [], and_parts, ap, arith, false, held_of, length}
+use Rattle.vfs_gates.proofs.Prelude.{own_actions, own_number, own_view, ran_items, refl, refusal_at, same_stays_seen, spare_of, subst, suc, sym}
+use Rattle.vfs_gates.proofs.Prelude.{times, told_as, true, unit_of, ◌++◌, ◌+◌, ◌<◌, ◌∙◌, ◌∷◌, ◌≡◌}
 use Rattle.{gate_steps.proofs.call_events.Grown.call_stays_seen, gate_world.specs.declared.operations.Op.TheVariants.{DropMount, DropWrite}}
 use Rattle.std.proofs.{Common.{add-zero, nat_lt}, lemmas.Bool.{eq-eqb, ltb-true}}
-use Rattle.vfs_gates.proofs.{Holding.{keeps, rests_on}, Reopening.{Opens, opens}}
-use Rattle.vfs_gates.proofs.Resting.{change_begins, first_ends, second_ends, split_done_nothing}
-use Rattle.vfs_gates.proofs.{Returning.{done_idle, dropped, may, was_done, written_back}, call_laws.Timing.comes_after, several_tasks.Told.own_list}
-use Rattle.vfs_gates.specs.{Held.{IsGivenBack, takes_nothing}, Meetings.SawList, Rounds.granted_in, declared.gates.Gates.Gates}
+use Rattle.vfs_gates.proofs.{Holding.{keeps, rests_on, same_own}, Reopening.{Opens, opens}, Resting.{change_begins, first_ends, second_ends}}
+use Rattle.vfs_gates.proofs.{Resting.split_done_nothing, Returning.{done_idle, dropped, may, was_done, written_back}, Rooming.kept_view}
+use Rattle.vfs_gates.{proofs.{call_laws.Timing.comes_after, several_tasks.Told.own_list}, specs.{Held.{IsGivenBack, takes_nothing}, Meetings.SawList}}
+use Rattle.vfs_gates.specs.{Rounds.granted_in, declared.gates.Gates.Gates}
 
 -- a call that takes nothing leaves a task at rest
 pub rests_after : {op : Op} {old left : SeatedTask} {outcome : Result (Unit {0}) GateError} → takes_nothing op ≡ true → Rests old →
@@ -71,7 +71,7 @@ joined_rests first other is there rests =
     subst Rests (sym is) (rests.0, subst (Empty first.config) (own_same first.items other.items there) rests.1)
 
 -- A call leaves the numbers that its task has to give as they were.
-ran_spare : (c : Config) (op : Op) (trace : List Traced) (l : DealtNumbers) → spare_of (ran_items c op trace l) ≡ spare_of l
+pub ran_spare : (c : Config) (op : Op) (trace : List Traced) (l : DealtNumbers) → spare_of (ran_items c op trace l) ≡ spare_of l
 ran_spare c op trace [] = refl
 ran_spare c op trace (x ∷ xs) = refl
 
@@ -90,16 +90,11 @@ pub spare_stays_on : {one two : Op} {old there left : SeatedTask} {answer outcom
     Performs one old there answer → Performs two there left outcome → spare_of left.items ≡ spare_of old.items
 spare_stays_on first second = spare_stays second ∙ spare_stays first
 
--- nor another own number
-ran_own : (c : Config) (op : Op) (trace : List Traced) (l : DealtNumbers) → own_number (ran_items c op trace l) ≡ own_number l
-ran_own c op trace [] = refl
-ran_own c op trace (x ∷ xs) = refl
-
 own_at : (op : Op) (old left : SeatedTask) (outcome : Result (Unit {0}) GateError) → Performs op old left outcome →
     (o : Option GateError) → refusal_at op old ≡ o → own_number left.items ≡ own_number old.items
 own_at op old left outcome call None at =
     let called = (call.done at).2 in
-    ap (λ (s : SeatedTask). own_number s.items) called.after ∙ ran_own old.config op called.trace old.items
+    ap (λ (s : SeatedTask). own_number s.items) called.after ∙ same_own old.config op called.trace old.items
 own_at op old left outcome call (Some refusal) at = ap (λ (s : SeatedTask). own_number s.items) (call.refused refusal at).1
 
 pub own_stays : {op : Op} {old left : SeatedTask} {outcome : Result (Unit {0}) GateError} → Performs op old left outcome →
@@ -143,10 +138,6 @@ have_spare views [] (x ∷ xs) others same there have = have_second views xs oth
 have_spare views (y ∷ ys) (x ∷ xs) others same there have =
     have_second views xs others (subst (HaveViews views) same (λ k. have (suc k)))
 
-kept_same : (n : ℕ) (l : DealtNumbers) → own_view (kept_of n l) ≡ own_view l
-kept_same n [] = refl
-kept_same n (x ∷ xs) = refl
-
 -- A task that was granted so many accesses, from where it had done nothing, and to which another was joined then, has just these in its list.
 pub granted_alone : {opening : Config} {id : TableId} {old f g s t : SeatedTask} (gate : Gate) (n : ℕ) (first other joined : SeatedTask) →
     old ≡ task_state id opening None None (first_known opening) → SplitOf old f s → SplitOf f g t → Granted gate n g first →
@@ -154,7 +145,7 @@ pub granted_alone : {opening : Config} {id : TableId} {old f g s t : SeatedTask}
 granted_alone {opening = opening} {id = id} {old = old} {f = f} {g = g} {s = s} gate n first other joined is made more granted items there =
     let nothing = split_done_nothing opening id old f s is made in
     let none : own_actions g ≡ [] =
-    ap own_actions more.kept ∙ (ap (λ (v : View). v.actions) (kept_same more.number f.items) ∙ nothing.0) in
+    ap own_actions more.kept ∙ (ap (λ (v : View). v.actions) (kept_view more.number f.items) ∙ nothing.0) in
     ap (λ (v : View). granted_in gate v.actions) (ap own_view items ∙ sym (own_same first.items other.items there)) ∙
     (granted ∙ (ap (λ l. n + granted_in gate l) none ∙ add-zero n))
 
@@ -168,7 +159,7 @@ own_number_same [] m there = absurd (omega arith)
 own_number_same (x ∷ xs) m there = refl
 
 -- A task's own number ends as the task knew it, and so does that of a task that was joined to it.
-own_ends : (views : ℕ → View) (items : DealtNumbers) → 1 ≤ length items → HaveViews views items → views (own_number items) ≡ own_view items
+pub own_ends : (views : ℕ → View) (items : DealtNumbers) → 1 ≤ length items → HaveViews views items → views (own_number items) ≡ own_view items
 own_ends views [] there have = absurd (omega arith)
 own_ends views (x ∷ xs) there have = have 0 x refl
 
@@ -196,7 +187,7 @@ handed_did {items = items} {opening = opening} {id = id} {old = old} {f = f} {g 
     let mine : HaveViews views (first.items ++ second.items) =
     subst (HaveViews views) joined (have_spare views items t.items both.items same there e.mine) in
     let none : own_actions g ≡ [] =
-    ap own_actions more.kept ∙ (ap (λ (v : View). v.actions) (kept_same more.number f.items) ∙ nothing.0) in (
+    ap own_actions more.kept ∙ (ap (λ (v : View). v.actions) (kept_view more.number f.items) ∙ nothing.0) in (
       record {
         begins = g;
         ends = first;

@@ -5,7 +5,7 @@ use Rattle.vfs_gates.proofs.Prelude.{view_in, zero, ℕ, ℕ_discrete, ◌++◌,
 use Rattle.access_model.specs.declared.errors.GateError.TheVariants.{NoMemory, Order, TooMany}
 use Rattle.gate_steps.proofs.call_events.{Giving.{times-without, times-without_other}, Opening.{times-deal, times-deal_below}}
 use Rattle.{gate_steps.specs.Seating.without, std.proofs.Common.◌≢◌}
-use Rattle.vfs_gates.specs.{Parts.SplitRefused, Splitting.{AreNumbered, Gives, HasBegun, HaveDoneNothing}}
+use Rattle.vfs_gates.{proofs.Waiting.kept_number, specs.{Parts.SplitRefused, Splitting.{AreNumbered, Gives, HasBegun, HaveDoneNothing}}}
 use native.Mathlib.Decide.{dec_lt}
 
 -- the numbers behind the first of so many
@@ -27,11 +27,6 @@ own_dealt (suc count) = refl
 begins_dealt : (count : ℕ) → 1 ≤ count → (1 ≤ length (deal 0 count)) × ((own_view (deal 0 count)).actions ≡ [])
 begins_dealt zero some = absurd (omega (arith, some))
 begins_dealt (suc count) some = (omega arith, refl)
-
--- who gives a number keeps its own
-own_kept : (n : ℕ) (items : DealtNumbers) → own_number (kept_of n items) ≡ own_number items
-own_kept n [] = refl
-own_kept n (x ∷ xs) = refl
 
 -- who is given a number has it
 own_given : (n : ℕ) (items : DealtNumbers) → 1 ≤ times n (spare_of items) → own_number (given_of n items) ≡ n
@@ -134,7 +129,7 @@ spare_gone n [] = refl
 spare_gone n (x ∷ xs) = times-without n xs
 
 -- it is still there
-there_kept : (n : ℕ) (items : DealtNumbers) → 1 ≤ length items → 1 ≤ length (kept_of n items)
+pub there_kept : (n : ℕ) (items : DealtNumbers) → 1 ≤ length items → 1 ≤ length (kept_of n items)
 there_kept n [] there = there
 there_kept n (x ∷ xs) there = omega arith
 
@@ -148,7 +143,7 @@ gives_on first left other from count gives below s =
     ap (λ (l : DealtNumbers). times k (spare_of l)) kept ∙ spare_left s.number first.items k ne in
     record {
       there = subst (λ (l : DealtNumbers). 1 ≤ length l) (sym kept) (there_kept s.number first.items gives.there);
-      own = ap own_number kept ∙ own_kept s.number first.items ∙ gives.own;
+      own = ap own_number kept ∙ kept_number s.number first.items ∙ gives.own;
       idle = ap (λ (t : SeatedTask). t.phase) s.kept ∙ gives.idle;
       later = λ (k : ℕ) (low : from + 1 ≤ k) (high : k < count).
           let ne : k ≢ s.number = omega arith in same k ne ∙ gives.later k (omega arith) high;

@@ -1,6 +1,7 @@
 -- A moment of a history stays one, is the end of an allowed trace, and cuts each own list.
-use Rattle.std.{proofs.Common.{List, [], ap, arith, false, length, refl, true, ℕ, ◌++◌, ◌∷◌, ◌≡◌}, specs.Prelude.{Option, if◌then◌else◌, ◌==◌}}
-use Rattle.access_model.specs.{Histories.{Done, IsLegal, IsMerge, own_part}, States.Limits, declared.actions.{Action.Action, NodeInfo.NodeInfo}}
+use Rattle.access_model.{proofs.Lists.part_append, specs.{Histories.{Done, IsLegal, IsMerge, own_part}, States.Limits}}
+use Rattle.access_model.specs.declared.actions.{Action.Action, NodeInfo.NodeInfo}
+use Rattle.std.{proofs.Common.{List, [], ap, arith, length, refl, ℕ, ◌++◌, ◌∷◌, ◌≡◌}, specs.Prelude.Option}
 use Rattle.freeze_laws.specs.moments.Moments.{CutsList, CutsLists, HaveDone, IsFrozenWith, WasFrozenWith}
 
 module _ (nodes : ℕ) (tree : ℕ → Option NodeInfo) (done : List (ℕ × ℕ)) where
@@ -15,18 +16,6 @@ module _ (nodes : ℕ) (tree : ℕ → Option NodeInfo) (done : List (ℕ × ℕ
 pub first_legal : (l : Limits) (later earlier : List Done) → IsLegal l (later ++ earlier) → IsLegal l earlier
 first_legal l [] earlier legal = legal
 first_legal l (a ∷ later) earlier legal = first_legal l later earlier legal.1
-
--- an own part is that of the later actions, and before it that of the first ones
-part_append : (t : ℕ) (later earlier : List Done) → own_part t (later ++ earlier) ≡ own_part t later ++ own_part t earlier
-part_append t [] earlier = refl
-part_append t (a ∷ later) earlier =
-    let more : own_part t (later ++ earlier) ≡ own_part t later ++ own_part t earlier = part_append t later earlier in
-    let whole : List Action = own_part t (later ++ earlier) in
-    let own : List Action = own_part t later in
-    elim (a.0 == t) as (λ b. (if b then a.1 ∷ whole else whole) ≡ (if b then a.1 ∷ own else own) ++ own_part t earlier) [
-      | true ↦ ap (λ l. a.1 ∷ l) more
-      | false ↦ more
-    ]
 
 cut : (t count : ℕ) (later earlier : List Done) (actions : List Action) → own_part t (later ++ earlier) ≡ actions →
     length (own_part t earlier) ≡ count → CutsList t count earlier actions

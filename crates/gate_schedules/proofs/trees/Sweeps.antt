@@ -2,14 +2,12 @@
 use Rattle.gate_schedules.proofs.Prelude.{AreWithin, Bool, Bounds, ClearMarks, Clearing, Err, HasNoCharge, Ok, Out, Role, Snapshot, SnapshotStep}
 use Rattle.gate_schedules.proofs.Prelude.{TreeHolds, TreeState, WordName, Words, ap, arith, cases_lt, clear_after, dirty_in, eqb_tells, false, inl}
 use Rattle.gate_schedules.proofs.Prelude.{inr, is_some, le-ltb, lt-ltb, refl, role_after, seen_as, snapshot_next, subst, suc, sym, true, turned}
-use Rattle.gate_schedules.proofs.Prelude.{unpacked, update, update_at, ℕ, ◌+◌, ◌-◌, ◌<◌, ◌∙◌, ◌≡◌}
+use Rattle.gate_schedules.proofs.Prelude.{unpacked, update_at, ℕ, ◌+◌, ◌-◌, ◌<◌, ◌∙◌, ◌≡◌}
 use Rattle.gated_tree.specs.{Calls.{SnapshotStepFits, snapshot_role}, Phases.{snapshot_after, snapshot_locked_out}, Roles.{Reading, tree_word}}
 use Rattle.node_words.{proofs.Packing.packed_unpacks, specs.Phases.clear_next}
-use Rattle.gate_schedules.proofs.trees.{Clearings.{clears, passes, snapshot_begins, snapshot_loads}, Counts.leaves, Steps.{ends_free, leaves_word}}
-use Rattle.gate_schedules.{proofs.trees.Steps.stays_at, specs.trees.{Events.MayClean, Steps.{EventKeeps, NotesLoad, found_at, tree_in, words_left}}}
-
-update_twice : {A : Type 0} (f : ℕ → A) (t : ℕ) (a b : A) → update (update f t a) t b ≡ update f t b
-update_twice f t a b = grind arith
+use Rattle.gate_schedules.proofs.{frames.SameRolesOffTree.update_twice, trees.Clearings.{clears, passes, snapshot_begins, snapshot_loads}}
+use Rattle.gate_schedules.{proofs.trees.{Counts.leaves, Steps.{ends_free, leaves_word, stays_at}}, specs.trees.Events.MayClean}
+use Rattle.gate_schedules.specs.trees.Steps.{EventKeeps, NotesLoad, found_at, tree_in, words_left}
 
 module _ (c : Bounds) (within : AreWithin c) (sealed bare : ℕ) (w : Words) (at : ℕ → Role) (good : TreeHolds c (tree_in sealed bare w at))
     (t : ℕ) (lt : t < c.tasks) where

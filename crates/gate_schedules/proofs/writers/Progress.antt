@@ -15,13 +15,13 @@ use Rattle.gate_schedules.{proofs.operations.deadlocks.RankDecreases.after_event
 use Rattle.gate_schedules.specs.operations.{Ranks.{reopens_rank, sum_rank, up_rank}, Unblocked.{NobodyInside, NothingCounted}}
 
 -- a sum has taken one word more: what is ahead of it is as it was
-lead_on : (processors : ℕ) (count : ℕ → ℕ) (k sum : ℕ) → k < processors →
+pub lead_on : (processors : ℕ) (count : ℕ → ℕ) (k sum : ℕ) → k < processors →
     lead processors count (k + 1) (wrap_add sum (count k)) ≡ lead processors count k sum
 lead_on processors count k sum lt =
     omega (arith, ahead_step processors k count lt, ap (ahead processors count) (add-one k))
 
 -- after the last word it is what the sum came to
-lead_last : (processors : ℕ) (count : ℕ → ℕ) (k sum : ℕ) → k < processors → processors ≤ k + 1 →
+pub lead_last : (processors : ℕ) (count : ℕ → ℕ) (k sum : ℕ) → k < processors → processors ≤ k + 1 →
     wrap_add sum (count k) ≡ lead processors count k sum
 lead_last processors count k sum lt le =
     omega (arith, ahead_step processors k count lt, ahead_past processors (suc k) count (omega arith))

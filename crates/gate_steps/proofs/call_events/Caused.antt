@@ -10,7 +10,7 @@ use Rattle.gate_steps.specs.call_events.{Caused.HasItsCause, Runs.{AreMoves, com
 use Rattle.gate_steps.specs.call_events.Spans.{IsEventDuring, IsTreeDuring}
 
 -- what a step says that it found, it finds again
-found_again : (touch : Touch) (n : ℕ) → found_by touch (found_by touch n) ≡ found_by touch n
+pub found_again : (touch : Touch) (n : ℕ) → found_by touch (found_by touch n) ≡ found_by touch n
 found_again touch n = grind arith
 
 -- what a step says that it found, it finds in the state of its moment

@@ -2,22 +2,21 @@
 use Rattle.gate_steps.proofs.Prelude.{Action, AreMoves, Begins, Called, Config, DealtNumbers, Entry, GateError, HaveViews, IsNextMove, IsPrefix, List}
 use Rattle.gate_steps.proofs.Prelude.{Next, Op, Phase, Reply, Result, SeatedTask, Steps, Traced, View, [], ap, append_assoc, arith, get_elem?}
 use Rattle.gate_steps.proofs.Prelude.{own_number, own_view, refl, some, state_of_trace, subst, sym, world_after, ℕ, ◌++◌, ◌∙◌, ◌∷◌, ◌≡◌}
-use Rattle.access_model.specs.{Histories.{Done, own_part}, declared.replies.Next.TheVariants.Done as Ended}
+use Rattle.access_model.{proofs.Lists.part_append, specs.{Histories.{Done, own_part}, declared.replies.Next.TheVariants.Done as Ended}}
 use Rattle.{gate_schedules.proofs.schedules.HeadlineProof.whole_run, gate_world.specs.Headline.{actions_since, actions_so_far}}
 use Rattle.std.proofs.lemmas.List.{append_cancel_right}
-use Rattle.gate_steps.proofs.call_events.{Grown.only, Moments.{actions_append, own_more, own_one, part_more}, Spanning.last_event}
-use Rattle.gate_steps.specs.{Seating.HaveHistory, call_events.{Grown.HasSeen, Runs.ran_items}}
-use Rattle.gate_steps.specs.call_events.Spans.{AreInOrder, GoesOnFromSeen, IsEventDuring, TakesEffect}
+use Rattle.gate_steps.{proofs.call_events.{Grown.only, Moments.{actions_append, own_more, own_one}, Spanning.last_event}, specs.Seating.HaveHistory}
+use Rattle.gate_steps.specs.call_events.{Grown.HasSeen, Runs.ran_items, Spans.{AreInOrder, GoesOnFromSeen, IsEventDuring, TakesEffect}}
 
 -- of no numbers there is no move
-none_moves : (c : Config) (op : Op) (earlier : List Traced) (e : Traced) (seen gone : List (List Entry)) (comes : Next Phase) →
+pub none_moves : (c : Config) (op : Op) (earlier : List Traced) (e : Traced) (seen gone : List (List Entry)) (comes : Next Phase) →
     IsNextMove c op [] earlier e seen gone comes → ⊥
 none_moves c op earlier e seen gone comes m = grind arith
 
 -- what a number has added since it began: all that it has done but for what it had
 since_then : (n : ℕ) (log later before : List Done) (all added was : List Action) → log ≡ later ++ before → own_part n log ≡ all →
     all ≡ added ++ was → own_part n before ≡ was → own_part n later ≡ added
-since_then n log later before all added was is whole ends had = grind (arith, append_cancel_right, own_part, part_more)
+since_then n log later before all added was is whole ends had = grind (arith, append_cancel_right, own_part, part_append)
 
 module _ (c : Config) (op : Op) (seen gone : List (List Entry)) (e : Traced) (earlier : List Traced) where
   -- what the own number has done in the one history that is left

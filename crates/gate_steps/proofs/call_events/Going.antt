@@ -15,7 +15,7 @@ phase_ok : (c : Config) (n : ℕ) (v : View) (o : Option Phase) → v.phase ≡ 
 phase_ok c n v o e = grind arith
 
 -- a beginning leaves the accesses
-entered_actions : (v : View) (begins : Option Op) (phase : Phase) → (entered v begins phase).actions ≡ v.actions
+pub entered_actions : (v : View) (begins : Option Op) (phase : Phase) → (entered v begins phase).actions ≡ v.actions
 entered_actions v begins phase = grind arith
 
 module _ (number : ℕ) (c : Config) (begins : Option Op) (state : TaskState) (flags : List Bool) (phase : Phase) (is : state.phase ≡ Some phase)

@@ -1,7 +1,7 @@
 -- The states of a schedule that goes on, and the transitions of one number in it.
-use Rattle.gate_steps.proofs.Prelude.{Action, Config, Entry, List, None, NoneOf, Phase, Some, View, World, [], ap, append-nil, append_assoc, arith}
-use Rattle.gate_steps.proofs.Prelude.{happens, inl, inr, opening, refl, run, subst, sym, world_after, ℕ, ◌++◌, ◌∙◌, ◌∷◌, ◌≡◌}
-use Rattle.{access_model.specs.Histories.{Done, own_part}, gate_schedules.proofs.schedules.{Entries.begun_on, Runs.{history_on, run_more}}}
+use Rattle.gate_steps.proofs.Prelude.{Config, Entry, List, None, NoneOf, Phase, Some, View, World, [], ap, append-nil, append_assoc, arith, happens}
+use Rattle.gate_steps.proofs.Prelude.{inl, inr, opening, refl, run, subst, sym, world_after, ℕ, ◌++◌, ◌∙◌, ◌∷◌, ◌≡◌}
+use Rattle.{access_model.specs.Histories.Done, gate_schedules.proofs.schedules.{Entries.begun_on, Runs.{history_on, run_more}}}
 use Rattle.gate_world.specs.{Headline.{actions_since, actions_so_far}, Worlds.{history, task_of}, refusals.Causes.{since_begun, trail, trail_of}}
 use Rattle.std.proofs.lemmas.Bool.Decides.{eqb_tells}
 use Rattle.gate_steps.specs.call_events.Spans.{own_entries}
@@ -22,15 +22,6 @@ own_none n (e ∷ es) none =
 
 pub own_one : (n : ℕ) (e : Entry) (es : List Entry) → task_of e ≡ n → own_entries n (e ∷ es) ≡ e ∷ own_entries n es
 own_one n e es its = elim (eqb_tells (task_of e) n) [ inl h ↦ rw h.0 refl | inr h ↦ absurd (h.1 its) ]
-
--- the actions of a number in two histories, one behind the other
-pub part_more : (n : ℕ) (a b : List Done) → own_part n (a ++ b) ≡ own_part n a ++ own_part n b
-part_more n [] b = refl
-part_more n (d ∷ a) b =
-    elim (eqb_tells d.0 n) [
-      | inl h ↦ rw h.0 (ap (λ (l : List Action). d.1 ∷ l) (part_more n a b))
-      | inr h ↦ rw h.0 (part_more n a b)
-    ]
 
 pub entry_quiet : (c : Config) (w : World) (n : ℕ) (e : Entry) → (task_of e ≡ n → ⊥) → (happens c w e).views n ≡ w.views n
 entry_quiet c w n e other = grind arith

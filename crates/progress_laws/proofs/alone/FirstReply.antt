@@ -5,8 +5,8 @@ use Rattle.progress_laws.proofs.Prelude.{after_step, ap, arith, at_freeze, cases
 use Rattle.progress_laws.proofs.Prelude.{freeze_left, freeze_tries, freeze_waits, happens, held_of, if◌then◌else◌, inl, inr, map_next, must_wait, not}
 use Rattle.progress_laws.proofs.Prelude.{phase_after, refl, stands_after, subst, suc, sym, total_at, true, true≢false, words_after, zero, ℕ, ◌*◌, ◌+◌}
 use Rattle.progress_laws.proofs.Prelude.{◌<◌, ◌==◌, ◌∙◌, ◌≡◌, ◌≤◌, ◌⊎◌}
-use Rattle.access_model.specs.declared.replies.Reply.{Reply}
-use Rattle.freeze_laws.{proofs.stages.Facts.other_zero, specs.stages.Roles.{KnowsStage, freezes, under_way}}
+use Rattle.{access_model.specs.declared.replies.Reply.Reply, freeze_laws.proofs.stages.Facts.other_zero}
+use Rattle.{freeze_laws.specs.stages.Roles.{KnowsStage, freezes, under_way}, gate_schedules.proofs.operations.deadlocks.BlockedOrProgress.first_is}
 use Rattle.{gate_schedules.specs.operations.{Progress.is_first_lock, Ranks.most_alone}, gate_world.specs.Roles.{freeze_stage_role, reopening_role}}
 use Rattle.{gate_world.specs.Rules.{Stages, stage_role_of, stage_roles}, std.proofs.{Common.Result, Math.Nat.le-max_right, lemmas.Bool.ne_eqb}}
 use Rattle.progress_laws.proofs.alone.{Alone.HasRoom, FreezeAlone.{ahead_falls, ahead_small, freeze_ahead, freeze_room, tries_in_room}}
@@ -72,9 +72,6 @@ busy_stage stage one =
       | inl e ↦ absurd (omega (arith, one, ap under_way e.1))
       | inr e ↦ elim (eqb_tells stage 4) [ inl f ↦ absurd (omega (arith, one, ap under_way f.1)) | inr f ↦ (e.0, f.0) ]
     ]
-
-of_first : (s : FreezeStep) → is_first_lock s ≡ true → s ≡ FreezeStep.Locks
-of_first s h = grind arith
 
 fails_still : (s : FreezeStep) (hook : HookAnswer) → is_failing s ≡ true → fails_now s hook ≡ true
 fails_still (FreezeStep.Waits d) hook f = absurd (true≢false (sym f))
@@ -317,7 +314,7 @@ module _ (c : Config) (lim : IsWithin c) (lost : ℕ → Bool) where
     busy_soon : (v : World) (s : FreezeStep) → (v.views u).phase ≡ Some (Phase.Freezes (at_freeze y s)) → freeze_waits v.words s ≡ false → IsBusy s →
         (v.words.stage == 0) ≡ false → (v.words.stage == 4) ≡ false → ReplyOr c lost P 3 v
     busy_soon v s at free (inl first) some part =
-        let e : s ≡ FreezeStep.Locks = of_first s first in
+        let e : s ≡ FreezeStep.Locks = first_is s first in
         locks_soon 0 v (at ∙ ap (λ r. Some (Phase.Freezes (at_freeze y r))) e) (lock_free v.words (sym (ap (freeze_waits v.words) e) ∙ free)) some part
     busy_soon v s at free (inr (inl e)) some part = loads_soon 1 v (at ∙ ap (λ r. Some (Phase.Freezes (at_freeze y r))) e) some part
     busy_soon v s at free (inr (inr h)) some part = releases_soon 2 v h.0 (at ∙ ap (λ r. Some (Phase.Freezes (at_freeze y r))) h.1)

@@ -5,12 +5,12 @@ use Rattle.progress_laws.proofs.Prelude.{FreezeIsBlockedBy, FreezeStep, Grace, I
 use Rattle.progress_laws.proofs.Prelude.{SnapshotStep, Some, SyncAt, SyncHoldsIn, ThawStep, TreePhase, Want, WantStep, Words, World, WritePhase, ap}
 use Rattle.progress_laws.proofs.Prelude.{arith, at_level, callback_waits, cases_Bool, closed, closing_waits, eqb_tells, false, fits_at, freeze_waits}
 use Rattle.progress_laws.proofs.Prelude.{has_flag, held_of, inl, inr, level_as_gate, must_wait, not, owns, refl, start_waits, sym, sync_role_of}
-use Rattle.progress_laws.proofs.Prelude.{thaw_waits, total, true, true≢false, ℕ, ◌&&◌, ◌<◌, ◌==◌, ◌∙◌, ◌≡◌, ◌≤◌, ◌⊎◌}
+use Rattle.progress_laws.proofs.Prelude.{thaw_waits, total, true, true≢false, ℕ, ◌<◌, ◌==◌, ◌∙◌, ◌≡◌, ◌≤◌, ◌⊎◌}
 use Rattle.{cpu_words.{proofs.gate_counts.Events.words_sum, specs.gate_counts.Gates.counted}, finite_sums.proofs.Totals.{HasPlace, total_place}}
 use Rattle.freeze_laws.specs.levels.Roles.{SyncRole}
 use Rattle.gate_schedules.proofs.{frames.Owners.{hold_owns, owns_le, who_holds}, operations.deadlocks.WhoCanStep.{HasOwner, has_owner}}
 use Rattle.gate_world.specs.{Fits.GraceFits, Levels.inside, Rules.{AtMount, LevelHoldsIn, Sections, role_of}}
-use Rattle.{mount_counts.{proofs.laws.Bits.hold_set, specs.Roles.has_hold}, std.proofs.Common.◌%◌}
+use Rattle.{mount_counts.{proofs.laws.Bits.hold_set, specs.Roles.has_hold}, std.proofs.{Common.◌%◌, lemmas.Bool.and_parts}}
 use Rattle.progress_laws.specs.LostTasks.{CountIsStuck, EachIsBlockedBy, HoldIsLost, IsBlockedBy, IsStuck, LevelIsStuck, LockIsStuck, SectionIsLost}
 use Rattle.progress_laws.specs.Waiting.{change_waits, grace_waits, lock_taken, remount_waits, snapshot_waits, want_waits}
 
@@ -21,9 +21,6 @@ owner_goes w phase h = grind arith
 -- nobody waits inside a section
 inside_goes : (w : Words) (phase : Phase) → inside (Some phase) ≡ 1 → must_wait w phase ≡ false
 inside_goes w phase h = grind arith
-
-pub both : (a b : Bool) → (a && b) ≡ true → (a ≡ true) × (b ≡ true)
-both a b h = grind arith
 
 pub not_zero : (n : ℕ) → not (n == 0) ≡ true → n ≡ 0 → ⊥
 not_zero n h e = grind arith
@@ -128,7 +125,7 @@ module _ (c : Config) (lost : ℕ → Bool) (w : World) (good : IsGood c w) (all
 
   closing_blocked : (d : DownWrite) (s : DownWriteStep) → 1 ≤ d.level → d.level ≤ 3 → d.processors ≡ c.processors → DownWriteStepFits c s →
       closing_waits w.words d s ≡ true → ClosingIsBlockedBy c lost w d s
-  closing_blocked d s one three processors fits waits = grind (arith, section_lost, count_stuck, not_zero, both)
+  closing_blocked d s one three processors fits waits = grind (arith, section_lost, count_stuck, not_zero, and_parts)
 
   freeze_blocked : (x : Freeze) (s : FreezeStep) → FreezeFits c x.holder s → freeze_waits w.words s ≡ true → FreezeIsBlockedBy c lost w s
   freeze_blocked x s fits waits = grind (arith, lock_stuck, lock_waits, closing_blocked)

@@ -16,16 +16,17 @@ use Rattle.{composite_ops.specs.write_access.Phases.then_wants, cpu_words.proofs
 use Rattle.cpu_words.specs.{Sums.lead, Touches.wrap_add, gate_counts.Gates.{Barring, BarringHolds, GateView, admitted, below, counted, unread}}
 use Rattle.cpu_words.specs.gate_counts.Levels.{LevelRole, barring_of, processor_of}
 use Rattle.{finite_sums.proofs.Totals.{total_add, total_bound, total_none, total_same}, freeze_levels.specs.Freezes.freeze_hook}
-use Rattle.gate_schedules.{proofs.levels.{Counts.held_bit, Facts.blocked_slow}, specs.operations.Progress.{IsUnderWay, is_admitted}}
+use Rattle.gate_schedules.proofs.{levels.{Counts.held_bit, Facts.blocked_slow}, operations.freeze.Closes.by_wait}
+use Rattle.gate_schedules.{proofs.writers.Progress.{lead_last, lead_on}, specs.operations.Progress.{IsUnderWay, is_admitted}}
 use Rattle.gate_world.specs.{Fits.ReadFits, Levels.level_role_of, Roles.{count_beside, count_role_if, down_count_role, freeze_position}}
 use Rattle.gate_world.specs.{Roles.{position_count, read_count_role, read_level_role}, Rules.LevelHoldsIn, Views.{actions_after, holds_level}}
 use Rattle.{gated_tree.specs.Phases.after as tree_after, mount_counts.specs.{Phases.after as mount_after, Remounts.remount_after}}
 use Rattle.percpu_rwsem.specs.{Callbacks.callback_looked, Readers.{at_down_read, step_found}, SyncWords.unpack}
-use Rattle.std.proofs.{Common.{add-one, ◌%◌}, Math.Path.fun_ext, lemmas.Bool.{cases_lt, ltb-false, ltb-true, ne_eqb}}
+use Rattle.std.proofs.{Common.{add-one, ◌%◌}, Math.Path.fun_ext, lemmas.Bool.{and_parts, cases_lt, ltb-false, ltb-true, ne_eqb}}
 use Rattle.progress_laws.proofs.blocked.BarredStarts.{ComesTo, barred_next, sought_by, start_elsewhere, start_lead, start_next, start_out}
-use Rattle.progress_laws.proofs.blocked.{BarredStarts.{start_section, start_words}, Blame.{both, each_is_blocked, nonzero, not_zero}}
-use Rattle.progress_laws.proofs.nearer.{AllNearer.phase_comes, Calls.lock_found, Levels.{LookStays, begun_lead, lead_last, lead_on, look_stays}}
-use Rattle.progress_laws.proofs.{nearer.Nearer.{StaysBy, StaysWaiting, by_wait, patient_waits}, rounds.FairlyBlocked.{start_wait, waits_out}}
+use Rattle.progress_laws.proofs.blocked.{BarredStarts.{start_section, start_words}, Blame.{each_is_blocked, nonzero, not_zero}}
+use Rattle.progress_laws.proofs.nearer.{AllNearer.phase_comes, Calls.lock_found, Levels.{LookStays, begun_lead, look_stays}}
+use Rattle.progress_laws.proofs.{nearer.Nearer.{StaysBy, StaysWaiting, patient_waits}, rounds.FairlyBlocked.{start_wait, waits_out}}
 use Rattle.progress_laws.{proofs.rounds.Measured.{absent_is, after_good, idle_is}, specs.Answers.{AllAnswerSo, AnswersSo, IsPatient}}
 use Rattle.progress_laws.specs.{LostTasks.{AreLiveSteps, IsBlockedBy, NobodyReplies}, Waiting.{grace_waits, lock_taken, was_found}}
 
@@ -639,7 +640,7 @@ module _ (c : Config) (lim : IsWithin c) (lost : ℕ → Bool) where
       closing d (DownWriteStep.AwaitsSections g) one three processors waits by = (waits, by.1)
       closing d (DownWriteStep.Sums sum) one three processors waits by =
           let l : LevelHoldsIn c w d.level = good (AtLevel d.level) one three in
-          let b = both _ _ waits in
+          let b = and_parts _ _ waits in
           let z : lead c.processors (w.words.level d.level) sum.words sum.total ≡ 0 → ⊥ = λ e.
           not_zero _ b.0 (ap (λ n. lead n (w.words.level d.level) sum.words sum.total) processors ∙ e) in
           let n : total c.processors (w.words.level d.level) % 18446744073709551616 ≡ 0 → ⊥ = λ e.

@@ -1,17 +1,17 @@
 -- Each phase of each layer; and that its three numbers are small.
-use Rattle.progress_laws.proofs.Prelude.{Bool, CallbackStep, ClosePhase, Config, DownReadStep, DownWriteStep, DownWriteStepFits, Freeze, FreezeFits}
-use Rattle.progress_laws.proofs.Prelude.{FreezeStep, Grace, Holdings, HookAnswer, IsWithin, Next, Phase, PhaseFits, Some, ThawStep, Transition}
-use Rattle.progress_laws.proofs.Prelude.{UpWriteStep, WantStep, Words, WritePhase, after_of, arith, cases_Bool, closing_left, common_steps}
-use Rattle.progress_laws.proofs.Prelude.{exchange_rank, freeze_left, freeze_tries, inl, inr, is_outside, map_next, must_wait, opening_left}
-use Rattle.progress_laws.proofs.Prelude.{start_steps, steps_left, subst, sym, tries_left, true, ℕ, ◌*◌, ◌+◌, ◌==◌, ◌≡◌, ◌≤◌}
+use Rattle.progress_laws.proofs.Prelude.{CallbackStep, ClosePhase, Config, DownWriteStep, DownWriteStepFits, Freeze, FreezeFits, FreezeStep, Grace}
+use Rattle.progress_laws.proofs.Prelude.{Holdings, HookAnswer, IsWithin, Next, Phase, PhaseFits, Some, ThawStep, Transition, UpWriteStep, WantStep}
+use Rattle.progress_laws.proofs.Prelude.{Words, WritePhase, after_of, arith, cases_Bool, closing_left, common_steps, exchange_rank, freeze_left}
+use Rattle.progress_laws.proofs.Prelude.{freeze_tries, inl, inr, is_outside, map_next, must_wait, opening_left, start_steps, steps_left, subst, sym}
+use Rattle.progress_laws.proofs.Prelude.{tries_left, true, ℕ, ◌*◌, ◌+◌, ◌==◌, ◌≡◌, ◌≤◌}
 use Rattle.access_model.specs.declared.actions.Holder.{Holder}
 use Rattle.composite_ops.specs.{file_closes.Phases.after as close_after, write_access.Phases.after as write_after}
 use Rattle.gate_schedules.{proofs.operations.deadlocks.Bounds.rank_small, specs.operations.Ranks.most_alone}
 use Rattle.{gate_world.specs.Fits.{GraceFits, ThawFits}, mount_counts.specs.Ranks.want_rank, std.proofs.Math.Nat.{le-max_left, le-max_right}}
 use Rattle.progress_laws.proofs.nearer.Calls.{callback_phase, close_phase, end_phase, mount_phase, remount_phase, start_phase, tree_phase}
-use Rattle.progress_laws.proofs.nearer.{Calls.write_phase, Freezes.{freeze_phase, thaw_phase}, Nearer.NearsPhase}
-use Rattle.progress_laws.specs.StepsLeft.{callback_left, close_left, closed_left, grace_left, most_steps, start_left, start_room_of, thaw_left}
-use Rattle.progress_laws.specs.StepsLeft.{try_room_of, write_left}
+use Rattle.progress_laws.proofs.nearer.{Calls.write_phase, Changes.start_few, Freezes.{freeze_phase, thaw_phase}, Nearer.NearsPhase}
+use Rattle.progress_laws.specs.StepsLeft.{callback_left, close_left, closed_left, grace_left, most_steps, start_room_of, thaw_left, try_room_of}
+use Rattle.progress_laws.specs.StepsLeft.{write_left}
 
 pub phase_comes : (c : Config) (phase : Phase) → NearsPhase c phase
 phase_comes c (Phase.Mounts x) = mount_phase c x
@@ -28,9 +28,6 @@ phase_comes c (Phase.Closes x) = close_phase c x
 -- who stands outside a closed level has to wait
 pub outside_waits : (w : Words) (phase : Phase) → is_outside w phase ≡ true → must_wait w phase ≡ true
 outside_waits w phase h = grind arith
-
-start_few : (block : ℕ) (wait : Bool) (s : DownReadStep) → start_left block wait s ≤ 7
-start_few block wait s = grind arith
 
 pub starts_small : (w : Words) (phase : Phase) → start_steps w phase ≤ start_room_of (Some phase)
 starts_small w phase = grind (arith, start_few)

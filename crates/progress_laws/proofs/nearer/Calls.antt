@@ -5,7 +5,7 @@ use Rattle.progress_laws.proofs.Prelude.{Transition, TransitionNext, TreePhase, 
 use Rattle.progress_laws.proofs.Prelude.{arith, callback_after, callback_next, callback_waits, common_steps, down_read_after, down_read_next, eq-eqb}
 use Rattle.progress_laws.proofs.Prelude.{exchange_rank, false, found_at, found_by, held_of, inl, is_frozen_whole, is_outside, load_same, looked}
 use Rattle.progress_laws.proofs.Prelude.{map_next, must_wait, read, refl, start_steps, steps_left, subst, sym, sync_role_of, transition_after}
-use Rattle.progress_laws.proofs.Prelude.{tries_left, true, true≢false, update_at, words_after, ℕ, ◌&&◌, ◌*◌, ◌+◌, ◌<◌, ◌==◌, ◌∙◌, ◌≡◌, ◌≤◌}
+use Rattle.progress_laws.proofs.Prelude.{tries_left, true, true≢false, update_at, words_after, ℕ, ◌*◌, ◌+◌, ◌<◌, ◌==◌, ◌∙◌, ◌≡◌, ◌≤◌}
 use Rattle.composite_ops.specs.{file_closes.Phases.{after as close_after, next as close_next, then_frees}, write_access.Phases.after as write_after}
 use Rattle.{composite_ops.specs.write_access.Phases.{next as write_next, then_gives_back, then_wants}, cpu_words.specs.Touches.left}
 use Rattle.{freeze_laws.specs.levels.{Operations.callback_role, Roles.claimed as has_claimed}, gate_schedules.proofs.frames.ValidWords.events_may_be}
@@ -14,11 +14,11 @@ use Rattle.gate_schedules.{proofs.operations.{calls.Progress.tree_ends, remount.
 use Rattle.gate_schedules.specs.operations.Unblocked.{ChangeIsUnblocked, IsUnblocked, RemountIsUnblocked, TreeIsUnblocked}
 use Rattle.gate_world.specs.{Fits.{Fits, GraceFits}, Roles.sync_role_if, Rules.Fitting, traces.TraceStates.{CloseReadIsValid, WordIsValid}}
 use Rattle.gated_tree.specs.{Phases.{after as tree_after, next as tree_next, snapshot_after, snapshot_next}, Ranks.{snapshot_rank, tree_rank}}
-use Rattle.gated_tree.specs.declared.snapshots.Snapshot.{Snapshot}
-use Rattle.mount_counts.specs.{Phases.{change_after, change_next, want_after, want_next}, Ranks.{change_rank, want_rank}}
-use Rattle.mount_counts.specs.{Remounts.{remount_after, remount_next}, declared.{phases.Change.Change, remounts.Remount.Remount}}
-use Rattle.{node_words.specs.declared.nodes.NodeWord.NodeWord, percpu_rwsem.specs.Callbacks.{callback_looked, called_back, claimed}}
-use Rattle.percpu_rwsem.specs.{SyncWords.{on_callback, on_claim}, Transitions.transition_next, declared.readers.UpRead.UpRead}
+use Rattle.{gated_tree.specs.declared.snapshots.Snapshot.Snapshot, mount_counts.specs.Phases.{change_after, change_next, want_after, want_next}}
+use Rattle.mount_counts.specs.{Ranks.{change_rank, want_rank}, Remounts.{remount_after, remount_next}, declared.phases.Change.Change}
+use Rattle.{mount_counts.specs.declared.remounts.Remount.Remount, node_words.specs.declared.nodes.NodeWord.NodeWord}
+use Rattle.percpu_rwsem.specs.{Callbacks.{callback_looked, called_back, claimed}, SyncWords.{on_callback, on_claim}, Transitions.transition_next}
+use Rattle.{percpu_rwsem.specs.declared.readers.UpRead.UpRead, std.proofs.lemmas.Bool.and_parts}
 use Rattle.progress_laws.proofs.nearer.Levels.{IfMore, LookNears, LookStays, look_nears, look_stays, more_same, start_nears}
 use Rattle.progress_laws.proofs.nearer.Nearer.{FewerLeft, NearsBy, NearsPhase, StaysBy, phase_falls, phase_fewer, phase_nears, phase_stays}
 use Rattle.progress_laws.specs.StepsLeft.{callback_left, callback_tries, close_left, grace_left, start_left, write_left}
@@ -45,9 +45,6 @@ want_loads : (w : Words) (x : Want) (s : WantStep) → want_waits w x s ≡ true
 want_loads w x WantStep.LoadsHold waits = load_same w (WordName.MountFlags x.mount)
 want_loads w x s waits = absurd (true≢false (sym waits))
 
-both : (a b : Bool) → (a && b) ≡ true → (a ≡ true) × (b ≡ true)
-both a b h = grind arith
-
 -- a change
 change_free : (w : Words) (s : ChangeStep) (wait : Bool) → change_waits w wait s ≡ false → ChangeIsUnblocked w s wait
 change_free w s wait h = grind arith
@@ -56,7 +53,7 @@ change_stays : (w : Words) (x : Change) (s : ChangeStep) → change_waits w x.wa
     (after_event w (change_next x s) ≡ w) ×
     StaysBy (λ (y : Change). change_waits w y.wait y.step ≡ true) (λ (y : Change). change_rank y.processors y.step) (λ (y : Change). 0)
     (λ (y : Change). 0) (change_rank x.processors s) 0 0 (change_after x s (found_by (change_next x s).1 (read w (change_next x s).0))).0
-change_stays w x s waits = grind (arith, both, lock_found, load_same)
+change_stays w x s waits = grind (arith, and_parts, lock_found, load_same)
 
 -- a remount
 remount_free : (w : Words) (s : RemountStep) → remount_waits w s ≡ false → RemountIsUnblocked w s
@@ -77,7 +74,7 @@ snapshot_stays : (w : Words) (x : Snapshot) (s : SnapshotStep) → snapshot_wait
     (after_event w (snapshot_next x s) ≡ w) ×
     StaysBy (λ (y : Snapshot). snapshot_waits w y.wait y.step ≡ true) (λ (y : Snapshot). snapshot_rank y.nodes y.step) (λ (y : Snapshot). 0)
     (λ (y : Snapshot). 0) (snapshot_rank x.nodes s) 0 0 (snapshot_after x s (found_by (snapshot_next x s).1 (read w (snapshot_next x s).0))).0
-snapshot_stays w x s waits = grind (arith, both, lock_found, load_same)
+snapshot_stays w x s waits = grind (arith, and_parts, lock_found, load_same)
 
 -- a start inside a write access or a close
 abbrev StartNears : Words → DownRead → ℕ → Next DownRead → Type 0

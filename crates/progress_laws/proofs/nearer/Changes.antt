@@ -18,7 +18,7 @@ use Rattle.cpu_words.specs.{Sums.sum_taking, Words.put, declared.{events.Touch.T
 use Rattle.freeze_laws.{proofs.stages.Facts.at_level, specs.levels.{Operations.down_write_role, Roles.{SyncRole, entered}}}
 use Rattle.freeze_levels.specs.{Freezes.{after_reopening, after_undoing, freeze_fails, freeze_undone}, Holders.holders_in, Thaws.after_opening}
 use Rattle.{freeze_levels.specs.{Thaws.{thaw_next, thaw_opens}, declared.thaws.Thaw.Thaw}, gate_schedules.proofs.frames.ValidWords.events_may_be}
-use Rattle.gate_schedules.proofs.{levels.Facts.block_clear, operations.deadlocks.BlockedCloses.{StaysAtLevel, down_stays}}
+use Rattle.gate_schedules.proofs.{levels.Facts.block_clear, operations.{deadlocks.BlockedCloses.{StaysAtLevel, down_stays}, freeze.Closes.by_wait}}
 use Rattle.gate_world.specs.{Fits.{Fits, ThawFits}, Roles.{freeze_position, position_sync, sync_beside}, Rules.Fitting}
 use Rattle.{gate_world.specs.traces.TraceStates.{CloseReadIsValid, WordIsValid}, gated_tree.specs.Phases.next as tree_next}
 use Rattle.mount_counts.specs.{Phases.{next as mount_next, want_next}, Remounts.remount_next, declared.remounts.Remount.Remount}
@@ -26,7 +26,7 @@ use Rattle.{node_words.specs.{Nodes.word_of, declared.nodes.NodeWord.NodeWord}, 
 use Rattle.percpu_rwsem.specs.{SyncWords.{on_callback, on_claim, on_enter, on_exit, unpack}, Transitions.transition_next, Writers.at_down_write}
 use Rattle.percpu_rwsem.specs.Writers.{callback_step, down_write_summed, enter_step, entered_from, exit_made, passed_awaited, up_write_after}
 use Rattle.{percpu_rwsem.specs.{Writers.up_write_next, declared.sync_word.{GpState.GpState, SyncWord.SyncWord}}, std.proofs.Math.Nat.suc-mul}
-use Rattle.progress_laws.proofs.nearer.{Calls.read_blocks, Levels.start_nears, Nearer.{FewerLeft, by_wait, freeze_waits_on, waits_on}}
+use Rattle.progress_laws.proofs.nearer.{Calls.read_blocks, Levels.start_nears, Nearer.{FewerLeft, freeze_waits_on, waits_on}}
 use Rattle.progress_laws.proofs.rounds.Potentials.{mul_le}
 use Rattle.progress_laws.specs.StepsLeft.{callback_changes, callback_left, callback_tries, changes_left, closed_changes, closing_changes}
 use Rattle.progress_laws.specs.StepsLeft.{freeze_changes, opening_changes, start_left, thaw_changes, thaw_left, thaw_tries}
@@ -463,7 +463,7 @@ write_counts turn w (WritePhase.GivesBack m p refusal) may free = inr (omega ari
 write_counts turn w (WritePhase.Drops m p) may free = inr (inr (omega arith, omega arith, λ lt. omega arith, (refl, refl, refl)))
 write_counts turn w (WritePhase.Ends p) may free = inr (omega arith, refl)
 
-start_few : (block : ℕ) (wait : Bool) (s : DownReadStep) → start_left block wait s ≤ 7
+pub start_few : (block : ℕ) (wait : Bool) (s : DownReadStep) → start_left block wait s ≤ 7
 start_few block wait s = grind arith
 
 close_counts : (turn : ℕ) (w : Words) (x : ClosePhase) → CloseReadIsValid x (read w (close_next x).0) → must_wait w (Phase.Closes x) ≡ false →

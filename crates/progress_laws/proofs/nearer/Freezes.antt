@@ -7,16 +7,16 @@ use Rattle.progress_laws.proofs.Prelude.{freeze_tries, freeze_waits, held_of, in
 use Rattle.progress_laws.proofs.Prelude.{read, refl, subst, sym, sync_role_of, thaw_after, thaw_waits, transition_after, true, true≢false}
 use Rattle.progress_laws.proofs.Prelude.{words_after, ℕ, ◌*◌, ◌+◌, ◌-◌, ◌<◌, ◌==◌, ◌∙◌, ◌≡◌, ◌≤◌}
 use Rattle.access_model.specs.{Holders.{held_by, is_unheld, with_holder}, declared.actions.Action.Action}
+use Rattle.freeze_laws.{proofs.stages.Facts.at_level, specs.levels.Operations.{down_write_role, up_write_role}}
 use Rattle.freeze_levels.specs.{Freezes.{after_clearing, after_reopening, after_undoing, freeze_fails, freeze_undone}, Holders.holders_in}
 use Rattle.freeze_levels.specs.{Thaws.{after_opening, thaw_next, thaw_opens}, declared.thaws.Thaw.Thaw}
+use Rattle.gate_schedules.proofs.operations.{deadlocks.BlockedCloses.{StaysAtLevel, down_stays}, freeze.Closes.by_wait}
 use Rattle.gate_world.specs.{Fits.{Fits, ThawFits}, Roles.{freeze_position, position_sync, sync_beside, thaw_position}, Rules.Fitting}
 use Rattle.node_words.specs.{Phases.{clear_after, clear_next}, declared.marks.ClearMarks.ClearMarks}
-use Rattle.freeze_laws.{proofs.stages.Facts.at_level, specs.levels.Operations.{down_write_role, up_write_role}}
 use Rattle.percpu_rwsem.specs.{SyncWords.on_exit, Writers.{exit_made, up_write_after, up_write_next}}
-use Rattle.gate_schedules.proofs.operations.deadlocks.BlockedCloses.{StaysAtLevel, down_stays}
 use Rattle.progress_laws.proofs.nearer.{Calls.{lock_found, lock_free}, Levels.{ClosingNears, ClosingStays, OpeningNears, closing_nears}}
-use Rattle.progress_laws.proofs.nearer.{Levels.{closing_stays, opening_nears}, Nearer.{NearsBy, NearsPhase, StaysBy, by_wait, freeze_waits_on}}
-use Rattle.progress_laws.{proofs.nearer.Nearer.{phase_nears, phase_stays}, specs.StepsLeft.{closed_left, thaw_left, thaw_tries}}
+use Rattle.progress_laws.proofs.nearer.{Levels.{closing_stays, opening_nears}, Nearer.{NearsBy, NearsPhase, StaysBy, freeze_waits_on, phase_nears}}
+use Rattle.progress_laws.{proofs.nearer.Nearer.phase_stays, specs.StepsLeft.{closed_left, thaw_left, thaw_tries}}
 
 -- what comes after a step of a freeze, and of a thaw
 abbrev FreezeNears : Words → Words → ℕ → ℕ → Next Freeze → Type 0

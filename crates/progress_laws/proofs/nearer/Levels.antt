@@ -1,19 +1,19 @@
 -- Starts, grace periods, exchanges and sums: each step that doesn't wait comes nearer, and each that waits stays.
-use Rattle.progress_laws.proofs.Prelude.{Bool, Config, DownRead, DownReadStep, DownWrite, DownWriteStep, DownWriteStepFits, Grace, GraceNext, IsGood}
-use Rattle.progress_laws.proofs.Prelude.{Next, None, Option, Some, Sum, SyncAt, SyncHoldsIn, Transition, TransitionNext, UpWrite, UpWriteStep}
-use Rattle.progress_laws.proofs.Prelude.{WordName, Words, World, after_event, ap, arith, cases_Bool, closed, closing_left, closing_tries}
-use Rattle.progress_laws.proofs.Prelude.{closing_waits, down_read_after, down_read_next, down_write_after, down_write_next, eq-eqb, eqb_tells}
-use Rattle.progress_laws.proofs.Prelude.{exchange_rank, false, found_by, inl, inr, is_frozen_whole, load_same, looked, nat_lt, not, opening_left}
-use Rattle.progress_laws.proofs.Prelude.{opening_tries, read, refl, sections_awaited, start_waits, subst, suc, sym, sync_role_of, total}
-use Rattle.progress_laws.proofs.Prelude.{transition_after, true, true≢false, update_at, ℕ, ◌&&◌, ◌*◌, ◌+◌, ◌<◌, ◌==◌, ◌≡◌, ◌≤◌, ◌⊎◌}
-use Rattle.cpu_words.{proofs.gate_counts.Numbers.{ahead_past, ahead_step}, specs.{Sums.{ahead, lead, sum_taking}, Touches.{left, wrap_add}}}
+use Rattle.progress_laws.proofs.Prelude.{Config, DownRead, DownReadStep, DownWrite, DownWriteStep, DownWriteStepFits, Grace, GraceNext, IsGood, Next}
+use Rattle.progress_laws.proofs.Prelude.{None, Option, Some, Sum, SyncAt, SyncHoldsIn, Transition, TransitionNext, UpWrite, UpWriteStep, WordName}
+use Rattle.progress_laws.proofs.Prelude.{Words, World, after_event, ap, arith, cases_Bool, closed, closing_left, closing_tries, closing_waits}
+use Rattle.progress_laws.proofs.Prelude.{down_read_after, down_read_next, down_write_after, down_write_next, eq-eqb, eqb_tells, exchange_rank, false}
+use Rattle.progress_laws.proofs.Prelude.{found_by, inl, inr, is_frozen_whole, load_same, looked, nat_lt, not, opening_left, opening_tries, read, refl}
+use Rattle.progress_laws.proofs.Prelude.{sections_awaited, start_waits, subst, sym, sync_role_of, total, transition_after, true, true≢false}
+use Rattle.progress_laws.proofs.Prelude.{update_at, ℕ, ◌&&◌, ◌*◌, ◌+◌, ◌<◌, ◌==◌, ◌≡◌, ◌≤◌, ◌⊎◌}
+use Rattle.cpu_words.specs.{Sums.{lead, sum_taking}, Touches.{left, wrap_add}}
 use Rattle.freeze_laws.specs.levels.{Operations.{down_write_role, up_write_role}, Roles.{SyncRole, entered, entering}}
 use Rattle.gate_schedules.proofs.levels.Facts.{ExchangeFalls, block_clear, defined_falls, enter_defined, exchange_falls, exit_defined, writer_called}
-use Rattle.{gate_schedules.proofs.levels.Facts.writer_passed, gate_world.specs.traces.TraceStates.WordIsValid}
-use Rattle.percpu_rwsem.specs.{SyncWords.{is_passed, on_callback, on_enter, on_exit, unpack}, Transitions.transition_next, Writers.at_down_write}
-use Rattle.percpu_rwsem.specs.Writers.{callback_step, down_write_summed, enter_step, entered_from, exit_made, up_write_after, up_write_next}
-use Rattle.percpu_rwsem.specs.declared.sync_word.{GpState.GpState, SyncWord.SyncWord}
-use Rattle.std.proofs.{Common.{add-one, ◌%◌}, lemmas.Bool.{ltb-false, ltb-true}}
+use Rattle.gate_schedules.proofs.{levels.Facts.writer_passed, writers.Progress.{lead_last, lead_on}}
+use Rattle.{gate_world.specs.traces.TraceStates.WordIsValid, percpu_rwsem.specs.SyncWords.{is_passed, on_callback, on_enter, on_exit, unpack}}
+use Rattle.percpu_rwsem.specs.{Transitions.transition_next, Writers.{at_down_write, callback_step, down_write_summed, enter_step, entered_from}}
+use Rattle.percpu_rwsem.specs.{Writers.{exit_made, up_write_after, up_write_next}, declared.sync_word.{GpState.GpState, SyncWord.SyncWord}}
+use Rattle.std.proofs.{Common.◌%◌, lemmas.Bool.{and_parts, ltb-false, ltb-true}}
 use Rattle.progress_laws.{proofs.nearer.Nearer.{FewerLeft, NearsBy, StaysBy}, specs.StepsLeft.{grace_left, start_left}}
 use Rattle.progress_laws.specs.Waiting.{grace_waits, sum_waits, was_found}
 
@@ -59,18 +59,6 @@ pub more_same : (makes : SyncWord → Option SyncWord) (w : Words) (level : ℕ)
     (transition_after makes x (found_by (transition_next level x).1 (w.sync level)))
 more_same makes w level x = grind (arith, any_more, load_same)
 
--- a sum has taken one word more: what is ahead of it is as it was
-pub lead_on : (processors : ℕ) (count : ℕ → ℕ) (k sum : ℕ) → k < processors →
-    lead processors count (k + 1) (wrap_add sum (count k)) ≡ lead processors count k sum
-lead_on processors count k sum lt =
-    omega (arith, ahead_step processors k count lt, ap (ahead processors count) (add-one k))
-
--- after the last word it is what the sum came to
-pub lead_last : (processors : ℕ) (count : ℕ → ℕ) (k sum : ℕ) → k < processors → processors ≤ k + 1 →
-    wrap_add sum (count k) ≡ lead processors count k sum
-lead_last processors count k sum lt le =
-    omega (arith, ahead_step processors k count lt, ahead_past processors (suc k) count (omega arith))
-
 pub begun_lead : (processors : ℕ) (count : ℕ → ℕ) → lead processors count 0 0 ≡ total processors count % 18446744073709551616
 begun_lead processors count = grind arith
 
@@ -87,9 +75,6 @@ ClosingStays w d s next =
 
 not_zero : (n : ℕ) → not (n == 0) ≡ true → (n == 0) ≡ false
 not_zero n h = grind arith
-
-both : (a b : Bool) → (a && b) ≡ true → (a ≡ true) × (b ≡ true)
-both a b h = grind arith
 
 module _ (w : Words) (d : DownWrite) (sum : Sum) (lt : sum.words < d.processors) where
   abbrev count : ℕ → ℕ
@@ -129,7 +114,7 @@ module _ (w : Words) (d : DownWrite) (sum : Sum) (lt : sum.words < d.processors)
   sums_stay : sum_waits d.processors count sum ≡ true →
       ClosingStays w d (DownWriteStep.Sums sum) (down_write_summed d (sum_taking sum (count sum.words) d.processors)).0
   sums_stay waits =
-      let b = both (not (lead d.processors count sum.words sum.total == 0)) (not (total d.processors count % 18446744073709551616 == 0)) waits in
+      let b = and_parts (not (lead d.processors count sum.words sum.total == 0)) (not (total d.processors count % 18446744073709551616 == 0)) waits in
       let z : (lead d.processors count sum.words sum.total == 0) ≡ false = not_zero _ b.0 in
       let n : (total d.processors count % 18446744073709551616 == 0) ≡ false = not_zero _ b.1 in
       elim (cases_Bool (nat_lt (sum.words + 1) d.processors)) [

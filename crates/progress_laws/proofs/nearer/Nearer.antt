@@ -1,9 +1,9 @@
 -- What a step that doesn't wait leaves: fewer steps that nobody can undo; or those of a start, with each `block` as it was; or those of an exchange or
 -- a sum, with all words as they were.
-use Rattle.progress_laws.proofs.Prelude.{Bool, Config, DownWrite, DownWriteStep, Err, FreezeStep, HookAnswer, IsGood, IsWithin, KeepWaiting, Next, Ok}
-use Rattle.progress_laws.proofs.Prelude.{Phase, Some, Words, World, after_of, ap, arith, false, found_at, freeze_waits, hook_of, is_outside, map_next}
-use Rattle.progress_laws.proofs.Prelude.{must_wait, refl, start_steps, steps_left, tries_left, true, words_after, ℕ, ◌<◌, ◌∙◌, ◌≡◌, ◌≤◌, ◌⊎◌}
-use Rattle.{freeze_levels.specs.Freezes.{closing_waits, freeze_hook}, gate_schedules.specs.operations.Unblocked.RankDecreases}
+use Rattle.progress_laws.proofs.Prelude.{Bool, Config, Err, FreezeStep, HookAnswer, IsGood, IsWithin, KeepWaiting, Next, Ok, Phase, Some, Words}
+use Rattle.progress_laws.proofs.Prelude.{World, after_of, ap, arith, false, found_at, freeze_waits, hook_of, is_outside, map_next, must_wait, refl}
+use Rattle.progress_laws.proofs.Prelude.{start_steps, steps_left, tries_left, true, words_after, ℕ, ◌<◌, ◌∙◌, ◌≡◌, ◌≤◌, ◌⊎◌}
+use Rattle.{freeze_levels.specs.Freezes.freeze_hook, gate_schedules.specs.operations.Unblocked.RankDecreases}
 
 -- a freeze that has to wait does so with this answer: with an error it gives its level up
 abbrev pub freeze_waits_on : Words → FreezeStep → HookAnswer → Bool
@@ -40,11 +40,6 @@ pub patient_waits : (w : Words) (phase : Phase) (hook : HookAnswer) → (hook_of
     waits_on w phase hook ≡ true
 patient_waits w (Phase.Freezes x) hook patient waits = freeze_patient w x.step hook patient waits
 patient_waits w phase hook patient waits = waits
-
--- what is so of a freeze that closes a level, and of one that is asked there whether to wait on, is so where its down-write waits
-pub by_wait : (P : FreezeStep → Type 0) (d : DownWrite) (s : DownWriteStep) → P (FreezeStep.Closes d) → P (FreezeStep.Waits d) → P (closing_waits d s)
-by_wait P d (DownWriteStep.Sums sum) goes waits = waits
-by_wait P d s goes waits = goes
 
 -- of what comes next, by these numbers of it, where those before it are these
 abbrev pub NearsBy : {P : Type 0} (left starts tries : P → ℕ) (a b d : ℕ) (same_block same_words : Type 0) → Next P → Type 0

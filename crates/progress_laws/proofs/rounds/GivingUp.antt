@@ -10,8 +10,8 @@ use Rattle.progress_laws.proofs.Prelude.{subst, sym, total, total_le, true, true
 use Rattle.{cpu_words.specs.{Sums.sum_taking, Touches.wrap_add}, finite_sums.proofs.Totals.{total_bound, total_same}}
 use Rattle.{freeze_levels.specs.Freezes.freeze_hook, gate_schedules.specs.operations.Progress.{HasReply, IsUnderWay}}
 use Rattle.{gate_world.specs.Shown.{freeze_closing, is_summing}, percpu_rwsem.specs.Writers.down_write_summed}
-use Rattle.std.proofs.{Common.{add-one, length}, Math.Nat.suc-mul, lemmas.Bool.ltb-true}
-use Rattle.progress_laws.proofs.blocked.{Blame.{both, each_is_blocked, owner_goes}, NobodyReplies.is_error, Remaining.waits_for_remains}
+use Rattle.std.proofs.{Common.{add-one, length}, Math.Nat.suc-mul, lemmas.Bool.{and_parts, ltb-true}}
+use Rattle.progress_laws.proofs.blocked.{Blame.{each_is_blocked, owner_goes}, NobodyReplies.is_error, Remaining.waits_for_remains}
 use Rattle.progress_laws.proofs.nearer.{AllNearer.outside_waits, Nearer.{freeze_waits_on, on_waits, waits_on}}
 use Rattle.progress_laws.proofs.rounds.Measured.{AllSo, IsStep, Keeps, Leaves, Measures, rounds_good, rounds_settle}
 use Rattle.progress_laws.proofs.rounds.Potentials.{mul_comm, mul_le, total_lower, unit_falls}
@@ -48,7 +48,7 @@ abbrev loads_of : Option Phase → ℕ
 loads_of (Some (Phase.Freezes x)) = freeze_loads x.step
 loads_of p = 0
 
--- what a step that waits leaves of both: a sum has fewer loads left, and of all else there is none
+-- what a step that waits leaves of and_parts: a sum has fewer loads left, and of all else there is none
 abbrev LeavesLoads : Option Phase → Option Phase → Type 0
 LeavesLoads p q = (sums_of p ≡ true → loads_of q < loads_of p) × (sums_of p ≡ false → (loads_of q ≡ loads_of p) × (sums_of q ≡ false))
 
@@ -131,12 +131,12 @@ abbrev waits_else : World → ℕ → Bool
 waits_else w t = waits_else_of w.words (w.views t).phase
 
 freeze_else : (w : Words) (s : FreezeStep) (hook : HookAnswer) → (freeze_waits w s && not (freeze_sums s)) ≡ true → freeze_waits_on w s hook ≡ true
-freeze_else w (FreezeStep.Waits d) hook h = absurd (true≢false (sym (both (closing_waits w d d.step) false h).1))
-freeze_else w s hook h = (both (freeze_waits w s) (not (freeze_sums s)) h).0
+freeze_else w (FreezeStep.Waits d) hook h = absurd (true≢false (sym (and_parts (closing_waits w d d.step) false h).1))
+freeze_else w s hook h = (and_parts (freeze_waits w s) (not (freeze_sums s)) h).0
 
 else_waits : (w : Words) (p : Phase) (hook : HookAnswer) → waits_else_of w (Some p) ≡ true → waits_on w p hook ≡ true
 else_waits w (Phase.Freezes x) hook h = freeze_else w x.step hook h
-else_waits w p hook h = (both (must_wait w p) true h).0
+else_waits w p hook h = (and_parts (must_wait w p) true h).0
 
 rest_else : (w : Words) (p : Option Phase) → rests_at w p ≡ true → waits_else_of w p ≡ true
 rest_else w p h = grind (arith, outside_waits)
@@ -254,7 +254,7 @@ module _ (c : Config) (lim : IsWithin c) (lost : ℕ → Bool) where
   else_keeps : Keeps c lim lost IsImpatient waits_else
   else_keeps w good all t phase hook s =
       let mine : waits_else_of w.words (Some phase) ≡ true = sym (ap (waits_else_of w.words) s.2) ∙ all t s.0 s.1 in
-      let b = both (must_wait w.words phase) (not (sums_of (Some phase))) mine in
+      let b = and_parts (must_wait w.words phase) (not (sums_of (Some phase))) mine in
       let none : sums_of (w.views t).phase ≡ false = ap sums_of s.2 ∙ negated (sums_of (Some phase)) b.1 in
       λ u lu live.
       else_stays (start_room c w) (try_room c w) (load_room c w) w good ((omega arith, omega arith), omega arith) t phase hook s
@@ -262,11 +262,11 @@ module _ (c : Config) (lim : IsWithin c) (lost : ℕ → Bool) where
 
   -- in the end none is at a sum
   no_sum : (w : World) → AllSo c lim lost IsImpatient waits_else w → (t : ℕ) → t < c.tasks → lost t ≡ false → sums_of (w.views t).phase ≡ false
-  no_sum w all t lt live = negated (sums_of (w.views t).phase) (both (waits_at w t) (not (sums_of (w.views t).phase)) (all t lt live)).1
+  no_sum w all t lt live = negated (sums_of (w.views t).phase) (and_parts (waits_at w t) (not (sums_of (w.views t).phase)) (all t lt live)).1
 
   all_else : (w : World) → AllSo c lim lost IsImpatient waits_else w → AllWait c lost w
   all_else w all t lt live phase at =
-      sym (ap (waits_of w.words) at) ∙ (both (waits_at w t) (not (sums_of (w.views t).phase)) (all t lt live)).0
+      sym (ap (waits_of w.words) at) ∙ (and_parts (waits_at w t) (not (sums_of (w.views t).phase)) (all t lt live)).0
 
   sums_nobody : (w : World) → AllSo c lim lost IsImpatient waits_else w → (i : ℕ) → FreezeSums c lost w i → ⊥
   sums_nobody w all i (y, ly, live, x, at, is) =

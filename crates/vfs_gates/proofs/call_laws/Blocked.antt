@@ -1,11 +1,11 @@
 -- A step that waits finds its blocker in the state in which it is done.
 use Rattle.vfs_gates.proofs.Prelude.{AreMoves, Begins, Called, Config, DealtNumbers, Entry, GateError, HookAnswer, IsEventDuring, IsPrefix, List}
-use Rattle.vfs_gates.proofs.Prelude.{Next, None, Numbered, Op, Option, Phase, Reply, Result, Some, Stepped, Touch, Traced, View, Wait, World, []}
-use Rattle.vfs_gates.proofs.Prelude.{after_of, ap, append_assoc, arith, each_event, found_by, next_of, refl, state_of_trace, subst, sym}
-use Rattle.vfs_gates.proofs.Prelude.{trace_state_after, world_after, ℕ, ◌++◌, ◌∙◌, ◌∷◌, ◌≡◌}
-use Rattle.{gate_schedules.proofs.schedules.HeadlineProof.whole_waits, gate_steps.{proofs.call_events.Running.course_is, specs.Histories.then_begins}}
-use Rattle.gate_steps.specs.{Seating.{HasWitness, NumberMayStep, entered, world_entered}, call_events.SeatedTasks.{SeatedTask, own_number}}
-use Rattle.gate_steps.specs.call_events.{Spans.HappensAfter, Stepped.ToldIn, Waited.is_wait}
+use Rattle.vfs_gates.proofs.Prelude.{Next, None, Numbered, Op, Option, Phase, Reply, Result, Some, Stepped, Traced, View, Wait, World, [], after_of}
+use Rattle.vfs_gates.proofs.Prelude.{ap, append_assoc, arith, each_event, next_of, refl, state_of_trace, subst, sym, trace_state_after, world_after}
+use Rattle.vfs_gates.proofs.Prelude.{ℕ, ◌++◌, ◌∙◌, ◌∷◌, ◌≡◌}
+use Rattle.{gate_schedules.proofs.schedules.HeadlineProof.whole_waits, gate_steps.proofs.call_events.{Caused.found_again, Running.course_is}}
+use Rattle.gate_steps.specs.{Histories.then_begins, Seating.{HasWitness, NumberMayStep, entered, world_entered}}
+use Rattle.gate_steps.specs.call_events.{SeatedTasks.{SeatedTask, own_number}, Spans.HappensAfter, Stepped.ToldIn, Waited.is_wait}
 use Rattle.gate_transitions.specs.{Answers.progress_of, declared.steps.{Progress.TheVariants.Waiting, Step.Step}}
 use Rattle.gate_world.specs.{Worlds.found_at, refusals.Waits.HasCulpritAmong, traces.TraceStates.{TraceState, trace_state_with}}
 use Rattle.vfs_gates.specs.Blockers.{WasBlocked, WasBlockedDuring}
@@ -19,7 +19,7 @@ counted_so (Wait again) is = (again, refl)
 counted_so next is = absurd (omega arith)
 
 -- a beginning changes no word
-same_words : (c : Config) (w : World) (t : ℕ) (begins : Option Op) → (world_entered c w t begins).words ≡ w.words
+pub same_words : (c : Config) (w : World) (t : ℕ) (begins : Option Op) → (world_entered c w t begins).words ≡ w.words
 same_words c w t None = refl
 same_words c w t (Some op) = refl
 
@@ -60,10 +60,6 @@ pub step_blocked : (phase : Phase) (hook : HookAnswer) (step : Step) (old left :
     step.progress ≡ Waiting → WasBlocked old.config old.items phase hook old.seen left.seen
 step_blocked phase hook step old left stepped waits =
     blocked old.config old.begins phase hook step stepped.found old.seen left.seen old.items waits stepped.moves stepped.told
-
--- what a step says that it found, it finds again
-found_again : (touch : Touch) (n : ℕ) → found_by touch (found_by touch n) ≡ found_by touch n
-found_again touch n = grind arith
 
 -- a step of a call that came to a wait
 pub call_blocked : (op : Op) (old left : SeatedTask) (answer : Result Reply GateError) (called : Called op old left answer)

@@ -75,7 +75,7 @@ taken_during wait old left reply s some_there called shows =
     (subst (λ l. AreMoves c op old.items old.seen l left.seen) done.3 called.moves) done.4)
 
 -- what stands in the second of two lists stands in both
-second_place : (mine : DealtNumbers) (y : Numbered) (ys : DealtNumbers) → (k : ℕ) × (get_elem? (mine ++ y ∷ ys) k ≡ some y)
+pub second_place : (mine : DealtNumbers) (y : Numbered) (ys : DealtNumbers) → (k : ℕ) × (get_elem? (mine ++ y ∷ ys) k ≡ some y)
 second_place [] y ys = (0, refl)
 second_place (x ∷ mine) y ys = let r = second_place mine y ys in (suc r.0, r.1)
 

@@ -2,7 +2,7 @@
 use Rattle.vfs_gates.proofs.Prelude.{Action, Bool, Called, Config, DealtNumbers, EndedWith, Entry, Freeze, GateError, HasDone, HasSeen, HaveHistory}
 use Rattle.vfs_gates.proofs.Prelude.{Hold, Holder, IsLegal, IsPrefix, List, Ok, Op, Reply, Result, SeatedTask, State, StaySeen, View, []}
 use Rattle.vfs_gates.proofs.Prelude.{actions_append, actions_since, actions_so_far, after_more, ap, append_cancel_right, end_of, eqb_tells, get_elem?}
-use Rattle.vfs_gates.proofs.Prelude.{held_by, if◌then◌else◌, inl, inr, model_limits, only, own_actions, own_number, own_part, own_view, part_more}
+use Rattle.vfs_gates.proofs.Prelude.{held_by, if◌then◌else◌, inl, inr, model_limits, only, own_actions, own_number, own_part, own_view, part_append}
 use Rattle.vfs_gates.proofs.Prelude.{refl, shown, some, stays_seen_on, subst, sym, true, with_holder, ℕ, ◌++◌, ◌<◌, ◌∙◌, ◌∷◌, ◌≡◌}
 use Rattle.access_model.{proofs.Frozen.frozen_still, specs.{Histories.Done, Laws.{IsFrozenStill, NeverLeaves}}}
 use Rattle.access_model.specs.declared.actions.{Holder.TheVariants.{Kernel, User}, Holders.Holders}
@@ -50,7 +50,7 @@ still_since h c n one two s r first last list added stay own_first own_last hold
     let (since, is) = grown c one two s r first last stay in
     let only_both : OnlyThawsBy h n (since ++ early) = subst (OnlyThawsBy h n) is only_last in
     let own_since : own_part n since ≡ added = append_cancel_right (own_part n since) added list
-    (ap (λ (l : List Action). own_part n since ++ l) (sym own_first) ∙ (sym (part_more n since early) ∙ (sym (ap (own_part n) is) ∙ own_last))) in
+    (ap (λ (l : List Action). own_part n since ++ l) (sym own_first) ∙ (sym (part_append n since early) ∙ (sym (ap (own_part n) is) ∙ own_last))) in
     let held : held_by (end_of early).holders h ≡ true = held_so (model_limits c) h n early first.history.legal
     (only_behind h n since early only_both) (subst (λ (l : List Action). held_by (holders_of l) h ≡ true) (sym own_first) holds) in
     let legal : IsLegal (model_limits c) (since ++ early) = subst (IsLegal (model_limits c)) is last.history.legal in
@@ -94,7 +94,7 @@ own_so : (c : Config) (items : DealtNumbers) (s : List (List Entry)) (whole : Ha
 own_so c [] s whole some_done = absurd (some_done refl)
 own_so c (x ∷ xs) s whole some_done = whole.history.lists x.number ∙ ap (λ (v : View). v.actions) (whole.mine 0 x refl)
 
-now_held : (h : Holder) (held : Holders) → held_by (with_holder h true held) h ≡ true
+pub now_held : (h : Holder) (held : Holders) → held_by (with_holder h true held) h ≡ true
 now_held Kernel held = refl
 now_held User held = refl
 

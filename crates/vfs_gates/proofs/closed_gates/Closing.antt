@@ -1,9 +1,9 @@
 -- The state of gates that are closed.
-use Rattle.vfs_gates.proofs.Prelude.{AllRest, Config, DealtNumbers, EndedWith, Entry, List, View, World, ap, arith, cond, deal, eqb, first_items}
-use Rattle.vfs_gates.proofs.Prelude.{numbered, opening_view, refl, subst, suc, sym, times, view_in, view_in-at, zero, ℕ, ◌<◌, ◌∙◌, ◌≡◌, ◌≤◌}
-use Rattle.gate_steps.{proofs.call_events.{Giving.view_in-is, Opening.times-deal, OperationLaws.by_bool}, specs.Histories.IsReached}
-use Rattle.gate_steps.specs.{Rules.TableShows, Tables.IsClosing, call_events.GhostAgrees.IsStill, declared.seating.Knowledge.Knowledge}
-use Rattle.vfs_gates.{proofs.Parting.rest-at, specs.Ended.{Ended, HasOpeningWords, IsLeftAfter, IsLeftBySchedule}}
+use Rattle.vfs_gates.proofs.Prelude.{AllRest, Config, DealtNumbers, EndedWith, Entry, List, View, World, ap, arith, first_items, numbered}
+use Rattle.vfs_gates.proofs.Prelude.{opening_view, subst, sym, times, view_in, view_in-at, ℕ, ◌<◌, ◌∙◌, ◌≡◌, ◌≤◌}
+use Rattle.gate_steps.{proofs.call_events.{Giving.view_in-is, Opening.times-deal}, specs.{Histories.IsReached, Rules.TableShows, Tables.IsClosing}}
+use Rattle.gate_steps.specs.{call_events.GhostAgrees.IsStill, declared.seating.Knowledge.Knowledge}
+use Rattle.vfs_gates.{proofs.{Parting.rest-at, Resting.in_dealt}, specs.Ended.{Ended, HasOpeningWords, IsLeftAfter, IsLeftBySchedule}}
 
 -- all numbers are back in a seat whose views rest: so each number rests, and has the view that the seat knows
 pub ended : (c : Config) (k : Knowledge) (ws : List ℕ) → IsClosing c ws k → AllRest c k.items →
@@ -22,19 +22,13 @@ ended c k ws closing rest all = let items : DealtNumbers = k.items in record {
   goes_on = closing.seen;
 }
 
--- a number that was dealt and has done nothing has an opening view
-dealt_view : (n from k : ℕ) → view_in n (deal from k) ≡ opening_view
-dealt_view n from zero = refl
-dealt_view n from (suc k) = by_bool (eqb from n) (λ b. cond b opening_view (view_in n (deal (suc from) k)) ≡ opening_view) refl
-    (dealt_view n (suc from) k)
-
 -- so gates that are closed with the first task, which knows that no number has had a step, have all words as they begin
 pub opens_so : (c : Config) → HasOpeningWords c (first_items c)
 opens_so c ws seen e =
     let w : World = e.ended.world in
     let view : (t : ℕ) → t < c.tasks → w.views t ≡ opening_view =
     λ t lt. view_in-is w.views (first_items c) t e.mine (let once = times-deal t 0 c.tasks (omega arith) (omega arith) in omega arith) ∙
-    dealt_view t 0 c.tasks in
+    in_dealt t 0 c.tasks in
     subst (TableShows c ws) (e.ended.ruled.opens (λ t lt. ap (λ (v : View). v.events) (view t lt))) e.ended.ruled.words
 
 -- some schedule leaves what closed gates have

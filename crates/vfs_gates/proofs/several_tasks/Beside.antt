@@ -1,12 +1,11 @@
 -- What tasks that meet know of each other's calls.
 use Rattle.vfs_gates.proofs.Prelude.{Action, Bool, Busy, ChangeMount, Config, DealtNumbers, Encloses, Entry, Err, GateError, Grant, HasDone}
-use Rattle.vfs_gates.proofs.Prelude.{HaveHistory, IfErr, Level, List, Meets, Mount, Numbered, Ok, Op, Performs, RemountSb, Reply, Rests, Result}
-use Rattle.vfs_gates.proofs.Prelude.{SeatedTask, StaySeen, WantWrite, [], ap, arith, get_elem?, length, mounts_of, own_actions, own_number, own_view}
-use Rattle.vfs_gates.proofs.Prelude.{refl, same_stays_seen, some, stays_seen_on, subst, suc, sym, true, update_at, ℕ, ◌++◌, ◌+◌, ◌<◌, ◌∙◌, ◌∷◌, ◌≡◌}
-use Rattle.vfs_gates.proofs.Prelude.{◌≤◌}
+use Rattle.vfs_gates.proofs.Prelude.{HaveHistory, IfErr, Level, List, Meets, Mount, Ok, Op, Performs, RemountSb, Reply, Rests, Result, SeatedTask}
+use Rattle.vfs_gates.proofs.Prelude.{StaySeen, WantWrite, [], ap, arith, get_elem?, length, mounts_of, own_actions, own_number, own_view, refl}
+use Rattle.vfs_gates.proofs.Prelude.{same_stays_seen, stays_seen_on, subst, sym, true, update_at, ℕ, ◌++◌, ◌+◌, ◌<◌, ◌∙◌, ◌∷◌, ◌≡◌, ◌≤◌}
 use Rattle.{gate_steps.proofs.call_events.Grown.both_stay_seen, gate_world.specs.Views.held_at}
-use Rattle.vfs_gates.proofs.{Holding.adds, Resting.change_busy, Returning.was_done, several_tasks.Keeping.{change_refused, remount_busy}}
-use Rattle.vfs_gates.specs.Meetings.{HoldsAt}
+use Rattle.vfs_gates.proofs.{Holding.adds, Resting.change_busy, Returning.was_done, call_laws.Timing.second_place}
+use Rattle.vfs_gates.{proofs.several_tasks.Keeping.{change_refused, remount_busy}, specs.Meetings.HoldsAt}
 
 -- what either had seen, both have seen
 pub met_stays : (one two first second : SeatedTask) → Meets one two first second →
@@ -26,15 +25,10 @@ met_stays one two first second m =
       subst (StaySeen two.seen) at_second its,
     )
 
--- what stands in the second of two lists
-second_there : (mine : DealtNumbers) (y : Numbered) (ys : DealtNumbers) → (k : ℕ) × (get_elem? (mine ++ y ∷ ys) k ≡ some y)
-second_there [] y ys = (0, refl)
-second_there (x ∷ mine) y ys = let r = second_there mine y ys in (suc r.0, r.1)
-
 pub second_has : (mine others : DealtNumbers) → 1 ≤ length others → HasDone (own_number others) (own_view others).actions (mine ++ others)
 second_has mine [] there = absurd (omega arith)
 second_has mine (y ∷ ys) there =
-    let r = second_there mine y ys in record { place = r.0; view = y.view; there = r.1; done = refl }
+    let r = second_place mine y ys in record { place = r.0; view = y.view; there = r.1; done = refl }
 
 -- a call of the first of two tasks that meet before it and after it
 pub enclosed : (one two begins beside left first second : SeatedTask) → Meets one two begins beside → left.config ≡ begins.config →

@@ -2,7 +2,7 @@
 use Rattle.vfs_gates.proofs.Prelude.{Action, Bool, Config, DealtNumbers, Entry, Grant, HasDone, HaveHistory, IsAllowed, IsLegal, IsPrefix, IsWithin}
 use Rattle.vfs_gates.proofs.Prelude.{Limits, List, Mount, State, View, WordName, World, [], actions_append, actions_since, actions_so_far, and_parts}
 use Rattle.vfs_gates.proofs.Prelude.{ap, arith, dite, end_of, eqb_tells, false≢true, has_flag, if◌then◌else◌, inl, inr, model_limits, mounts_of, not}
-use Rattle.vfs_gates.proofs.Prelude.{numbered, own_part, part_more, read, shown, subst, sym, true, update_at, whole_run, world_after, ℕ, ℕ_discrete}
+use Rattle.vfs_gates.proofs.Prelude.{numbered, own_part, part_append, read, shown, subst, sym, true, update_at, whole_run, world_after, ℕ, ℕ_discrete}
 use Rattle.vfs_gates.proofs.Prelude.{◌++◌, ◌+◌, ◌-◌, ◌<◌, ◌==◌, ◌∙◌, ◌∷◌, ◌≡◌, ◌≤◌, ◌⊎◌}
 use Rattle.access_model.specs.{Actions.mounts_after, Histories.Done, Laws.IsReadOnly, declared.actions.Action.TheVariants.Return}
 use Rattle.{cpu_words.specs.declared.names.WordName.TheVariants.{MountFlags, Remount, SbFlags}, finite_sums.proofs.Totals.update_off}
@@ -20,12 +20,12 @@ stood c n a b d list f g first last =
     let there : own_part n (actions_so_far c b) ≡ q ++ list =
     ap (λ (l : List Entry). own_part n (actions_so_far c l)) f.1 ∙
     (ap (own_part n) (actions_append c a f.0) ∙
-    (part_more n (actions_since c a f.0) (actions_so_far c a) ∙ ap (λ (l : List Action). q ++ l) first)) in
+    (part_append n (actions_since c a f.0) (actions_so_far c a) ∙ ap (λ (l : List Action). q ++ l) first)) in
     let whole : list ≡ p ++ (q ++ list) =
     sym last ∙
     (ap (λ (l : List Entry). own_part n (actions_so_far c l)) g.1 ∙
     (ap (own_part n) (actions_append c b g.0) ∙
-    (part_more n (actions_since c b g.0) (actions_so_far c b) ∙ ap (λ (l : List Action). p ++ l) there))) in
+    (part_append n (actions_since c b g.0) (actions_so_far c b) ∙ ap (λ (l : List Action). p ++ l) there))) in
     there ∙ in_between p q list whole
 
 -- in the schedule of a state each number has the list that it has there

@@ -3,7 +3,7 @@ use Rattle.vfs_gates.proofs.Prelude.{Action, Bool, Called, Config, DealtNumbers,
 use Rattle.vfs_gates.proofs.Prelude.{IsPrefix, IsWithin, Level, Limits, List, Mount, NoneSince, Ok, Op, Reply, SbRo, SbRw, Seals, SeatedTask, Start}
 use Rattle.vfs_gates.proofs.Prelude.{State, TakesEffect, WantWrite, [], actions_append, actions_since, actions_so_far, after_action, after_more, ap}
 use Rattle.vfs_gates.proofs.Prelude.{append-nil, append_assoc, arith, call_effect, end_of, false, get_elem?, held_by, inl, inr, model_limits, only}
-use Rattle.vfs_gates.proofs.Prelude.{own_part, part_more, refl, shown, some, state_of_trace, subst, sym, true, update_at, whole_run, ℕ, ◌++◌, ◌+◌}
+use Rattle.vfs_gates.proofs.Prelude.{own_part, part_append, refl, shown, some, state_of_trace, subst, sym, true, update_at, whole_run, ℕ, ◌++◌, ◌+◌}
 use Rattle.vfs_gates.proofs.Prelude.{◌∙◌, ◌∷◌, ◌≡◌}
 use Rattle.access_model.{proofs.{Closed.closed, Frozen.{frozen_shut, frozen_still}, Lists.follows}, specs.Histories.{Done, levels_of}}
 use Rattle.{access_model.specs.Laws.{IsFrozenFor, IsFrozenStill, NeverLeaves}, gate_steps.specs.call_events.SeatedTasks.own_number}
@@ -103,7 +103,7 @@ module _ (h : Holder) (c : Config) (lim : IsWithin c) (a d more : List Entry) (i
         still = subst (λ (x : List Done). IsFrozenStill h (end_of base) (end_of x)) (sym same)
             (frozen_still l h (at.2 ++ gap) base (subst (IsLegal l) same behind.1) held
             (never_leaves h (at.2 ++ gap) (none_of_both (Thaws h) at.2 gap in_call in_gap)));
-        own = part_more k at.2 before ∙ ap (λ (x : List Action). x ++ own_part k before) at.6;
+        own = part_append k at.2 before ∙ ap (λ (x : List Action). x ++ own_part k before) at.6;
       }
 
 -- A call that lies between two states, in the first of which all is frozen for this holder. No number thaws for it in between.

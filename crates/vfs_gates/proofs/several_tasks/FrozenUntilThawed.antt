@@ -5,16 +5,16 @@ use Rattle.vfs_gates.proofs.Prelude.{Op, Reply, Result, SeatedTask, State, StayS
 use Rattle.vfs_gates.proofs.Prelude.{actions_append, actions_of, actions_since, actions_so_far, after_action, after_more, and_parts, ap, append_assoc}
 use Rattle.vfs_gates.proofs.Prelude.{append_cancel_right, arith, cases_Bool, each_event, end_of, eqb_tells, event_of, false, false≢true, found_by}
 use Rattle.vfs_gates.proofs.Prelude.{get_elem?, held_by, if◌then◌else◌, inl, inr, is_load, length, model_limits, next_of, not, only, own_actions}
-use Rattle.vfs_gates.proofs.Prelude.{own_number, own_part, own_view, part_more, ran_items, read, refl, shown, some, state_of_trace, subst, sym, true}
-use Rattle.vfs_gates.proofs.Prelude.{whole_run, with_holder, world_after, ℕ, ◌++◌, ◌<◌, ◌==◌, ◌∙◌, ◌∷◌, ◌≡◌, ◌≤◌, ◌⊎◌}
+use Rattle.vfs_gates.proofs.Prelude.{own_number, own_part, own_view, part_append, ran_items, read, refl, shown, some, state_of_trace, subst, sym}
+use Rattle.vfs_gates.proofs.Prelude.{true, whole_run, with_holder, world_after, ℕ, ◌++◌, ◌<◌, ◌==◌, ◌∙◌, ◌∷◌, ◌≡◌, ◌≤◌, ◌⊎◌}
 use Rattle.access_model.{proofs.{Frozen.frozen_shut, Held.stays_frozen}, specs.{Histories.Done, Laws.IsFrozenFor}}
 use Rattle.access_model.specs.declared.actions.{Action.TheVariants.Leave, Holder.TheVariants.{Kernel, User}, Holders.Holders}
 use Rattle.access_model.specs.declared.{errors.GateError.TheVariants.Invalid, replies.Next.TheVariants.Done as Ends}
 use Rattle.cpu_words.specs.declared.{events.Touch.TheVariants.Load, names.WordName.TheVariants.{Holders as HoldersWord, Stage}}
-use Rattle.freeze_levels.specs.Holders.{holders_in}
+use Rattle.{freeze_levels.specs.Holders.holders_in, gate_steps.proofs.call_events.Effects.none_moves}
 use Rattle.gate_world.specs.{Headline.IsOneRun, declared.operations.Op.TheVariants.Snapshot, traces.Found.{says_incomplete, says_unheld, some_event}}
 use Rattle.{gated_tree.specs.Refusals.{finds_thawed, loads_stage}, std.proofs.Common.◌||◌}
-use Rattle.vfs_gates.{proofs.Holding.{adds, no_move, stays}, specs.Frozen.{NeedsFreeze, NeverThaws, holders_of}}
+use Rattle.vfs_gates.{proofs.Holding.{adds, stays}, specs.Frozen.{NeedsFreeze, NeverThaws, holders_of}}
 
 -- of a history: each action by which this holder leaves is of this number
 abbrev pub OnlyThawsBy : Holder → ℕ → List Done → Type 0
@@ -169,7 +169,7 @@ pub some_number : (c : Config) (op : Op) (items : DealtNumbers) (seen gone : Lis
     (state_of_trace c (own_number items) op trace).comes ≡ Ends answer → AreMoves c op items seen trace gone → 1 ≤ length items
 some_number c op (x ∷ xs) seen gone trace answer ends moves = omega arith
 some_number c op [] seen gone [] answer ends moves = absurd (let f : ⊥ = cc in f)
-some_number c op [] seen gone (e ∷ earlier) answer ends moves = absurd (no_move c op earlier e moves.0 gone _ moves.1)
+some_number c op [] seen gone (e ∷ earlier) answer ends moves = absurd (none_moves c op earlier e moves.0 gone _ moves.1)
 
 -- A call that was refused and has added nothing.
 module _ (op : Op) (old left : SeatedTask) (refusal : GateError) (called : Called op old left (Err refusal))
@@ -215,11 +215,11 @@ module _ (op : Op) (old left : SeatedTask) (refusal : GateError) (called : Calle
       let so_far : own_part n (actions_so_far c es) ≡ q ++ own_actions old =
       ap (λ (l : List Entry). own_part n (actions_so_far c l)) during.is ∙
       (ap (own_part n) (actions_append c began since) ∙
-      (part_more n (actions_since c began since) (actions_so_far c began) ∙ ap (λ (l : List Action). q ++ l) had)) in
+      (part_append n (actions_since c began since) (actions_so_far c began) ∙ ap (λ (l : List Action). q ++ l) had)) in
       let whole : own_actions old ≡ p ++ (q ++ own_actions old) =
       sym (list_left lim (es ++ rest) during.leaves) ∙
       (ap (own_part n) (actions_append c es rest) ∙
-      (part_more n (actions_since c es rest) (actions_so_far c es) ∙ ap (λ (l : List Action). p ++ l) so_far)) in
+      (part_append n (actions_since c es rest) (actions_so_far c es) ∙ ap (λ (l : List Action). p ++ l) so_far)) in
       so_far ∙ in_between p q (own_actions old) whole
 
 module _ (h : Holder) (op : Op) (old left : SeatedTask) (called : Called op old left (Err Invalid)) (needs : NeedsFreeze h op) where

@@ -3,22 +3,17 @@ use Rattle.vfs_gates.proofs.Prelude.{Action, Bool, Called, Config, DealtNumbers,
 use Rattle.vfs_gates.proofs.Prelude.{IsLegal, IsPrefix, IsWithin, Level, Limits, List, Mount, NoneSince, Ok, Op, Reply, Seals, SeatedTask, Start}
 use Rattle.vfs_gates.proofs.Prelude.{State, StaySeen, TakesEffect, WantWrite, [], actions_append, actions_of, actions_since, actions_so_far}
 use Rattle.vfs_gates.proofs.Prelude.{after_action, after_more, ap, append-nil, append_assoc, call_effect, end_of, false, get_elem?, held_by}
-use Rattle.vfs_gates.proofs.Prelude.{model_limits, only, own_part, refl, shown, some, state_of_trace, subst, sym, true, whole_run, with_holder, ℕ}
-use Rattle.vfs_gates.proofs.Prelude.{◌++◌, ◌∙◌, ◌∷◌, ◌≡◌}
-use Rattle.access_model.{proofs.Frozen.frozen_still, specs.{Histories.Done, declared.actions.{Holder.TheVariants.{Kernel, User}, Holders.Holders}}}
-use Rattle.gate_steps.specs.call_events.SeatedTasks.{own_number}
-use Rattle.vfs_gates.proofs.several_tasks.FrozenOut.{GrantsFrozen, all_closed, grants_frozen, never_leaves, no_start, no_write, stays_writable}
-use Rattle.vfs_gates.proofs.several_tasks.{Keeping.NoneOfThese, Shut.{none_between, none_later, none_within, splits_at}}
-use Rattle.vfs_gates.specs.Meetings.{IsWritable, Thaws}
+use Rattle.vfs_gates.proofs.Prelude.{model_limits, only, own_part, refl, shown, some, state_of_trace, subst, sym, true, whole_run, ℕ, ◌++◌, ◌∙◌, ◌∷◌}
+use Rattle.vfs_gates.proofs.Prelude.{◌≡◌}
+use Rattle.{access_model.{proofs.Frozen.frozen_still, specs.Histories.Done}, gate_steps.specs.call_events.SeatedTasks.own_number}
+use Rattle.vfs_gates.proofs.{call_laws.TreeStays.now_held, several_tasks.FrozenOut.{GrantsFrozen, all_closed, grants_frozen, never_leaves, no_start}}
+use Rattle.vfs_gates.proofs.several_tasks.{FrozenOut.{no_write, stays_writable}, Keeping.NoneOfThese}
+use Rattle.vfs_gates.{proofs.several_tasks.Shut.{none_between, none_later, none_within, splits_at}, specs.Meetings.{IsWritable, Thaws}}
 
 -- a freeze that was granted has added its holder last
 abbrev first_dropped : List Action → List Action
 first_dropped [] = []
 first_dropped (a ∷ rest) = rest
-
-held_now : (h : Holder) (holders : Holders) → held_by (with_holder h true holders) h ≡ true
-held_now Kernel holders = refl
-held_now User holders = refl
 
 -- so it stands when its call returns, where no thaw lies in between
 freeze_held : (h : Holder) (c : Config) → IsWithin c → (a d more : List Entry) → d ≡ a ++ more → NoneOfThese (Thaws h) (actions_since c a more) →
@@ -32,7 +27,7 @@ freeze_held h c lim a d more is none k rest began since from to its =
     actions_append c began since ∙ (ap (λ (x : List Done). x ++ actions_so_far c began) at.3 ∙ append_assoc at.0 (at.1 ∷ at.2) (actions_so_far c began)) in
     let during : NoneOfThese (Thaws h) (actions_since c began since) = none_within (Thaws h) c a began d more from since to is none in
     let held : held_by (end_of (at.1 ∷ before)).holders h ≡ true =
-    subst (λ (x : Action). held_by (after_action (end_of before) at.1.0 x).holders h ≡ true) (sym at.4) (held_now h (end_of before).holders) in
+    subst (λ (x : Action). held_by (after_action (end_of before) at.1.0 x).holders h ≡ true) (sym at.4) (now_held h (end_of before).holders) in
     subst (λ (x : List Done). held_by (end_of x).holders h ≡ true) (sym whole)
     (frozen_still l h at.0 (at.1 ∷ before) (subst (IsLegal l) whole (whole_run c lim (began ++ since)).legal) held
     (never_leaves h at.0 (none_later (Thaws h) at.0 (at.1 ∷ at.2) (subst (NoneOfThese (Thaws h)) at.3 during)))).frozen.1

@@ -4,7 +4,7 @@ use Rattle.vfs_gates.proofs.Prelude.{GateError, HasDone, HasSeen, IsAllowed, IsE
 use Rattle.vfs_gates.proofs.Prelude.{RemountSb, Reply, Result, SbRo, SbRw, SeatedTask, Steps, TakesEffect, Traced, WordName, Words, []}
 use Rattle.vfs_gates.proofs.Prelude.{actions_append, actions_since, actions_so_far, after_more, and_parts, ap, append-nil, arith, call_effect}
 use Rattle.vfs_gates.proofs.Prelude.{cases_Bool, each_event, end_of, eqb_tells, false≢true, found_read_only, found_sealed, get_elem?, if◌then◌else◌}
-use Rattle.vfs_gates.proofs.Prelude.{inl, inr, is_load, length, model_limits, mounts_of, next_of, only, own_part, part_more, read, refl, some}
+use Rattle.vfs_gates.proofs.Prelude.{inl, inr, is_load, length, model_limits, mounts_of, next_of, only, own_part, part_append, read, refl, some}
 use Rattle.vfs_gates.proofs.Prelude.{state_of_trace, subst, sym, true, whole_rule, whole_run, world_after, ℕ, ◌&&◌, ◌++◌, ◌+◌, ◌∙◌, ◌∷◌, ◌≡◌, ◌≤◌}
 use Rattle.access_model.{proofs.Lists.follows, specs.{Histories.Done, declared.actions.Action.TheVariants.MountRo}}
 use Rattle.{access_model.specs.declared.errors.GateError.TheVariants.Hook, cpu_words.specs.declared.names.WordName.TheVariants.SbFlags}
@@ -41,7 +41,7 @@ module _ (l : Limits) (n m : ℕ) (list : List Action) (holds : 1 ≤ mounts_of 
       let OwnIf : Bool → Type 0 = λ mine. (if mine then a.1 ∷ own_part n log else own_part n log) ≡ list in
       let same : own_part n log ≡ list = elim (eqb_tells a.0 n) [
         | inl is ↦ absurd (too_long a.1 (own_part n more) list
-            (ap (λ (k : List Action). a.1 ∷ k) (sym (part_more n more earlier ∙ ap (λ (k : List Action). own_part n more ++ k) first)) ∙
+            (ap (λ (k : List Action). a.1 ∷ k) (sym (part_append n more earlier ∙ ap (λ (k : List Action). own_part n more ++ k) first)) ∙
             subst OwnIf is.0 last))
         | inr other ↦ subst OwnIf other.0 last
       ] in

@@ -5,8 +5,8 @@ use Rattle.vfs_gates.proofs.Prelude.{NoneSince, Ok, Op, Reply, SbRo, SbRw, Seate
 use Rattle.vfs_gates.proofs.Prelude.{Words, [], actions_append, actions_of, actions_since, actions_so_far, after_action, after_more, and_parts, ap}
 use Rattle.vfs_gates.proofs.Prelude.{append-nil, append_assoc, append_cancel_right, call_effect, cases_Bool, dite, each_event, end_of, eqb_tells}
 use Rattle.vfs_gates.proofs.Prelude.{false, found_read_only, get_elem?, if◌then◌else◌, inl, inr, is_load, model_limits, next_of, only, own_part}
-use Rattle.vfs_gates.proofs.Prelude.{part_more, read, refl, some, state_of_trace, subst, sym, true, update_at, whole_rule, whole_run, world_after, ℕ}
-use Rattle.vfs_gates.proofs.Prelude.{ℕ_discrete, ◌&&◌, ◌++◌, ◌+◌, ◌<◌, ◌∙◌, ◌∷◌, ◌≡◌}
+use Rattle.vfs_gates.proofs.Prelude.{part_append, read, refl, some, state_of_trace, subst, sym, true, update_at, whole_rule, whole_run, world_after}
+use Rattle.vfs_gates.proofs.Prelude.{ℕ, ℕ_discrete, ◌&&◌, ◌++◌, ◌+◌, ◌<◌, ◌∙◌, ◌∷◌, ◌≡◌}
 use Rattle.access_model.specs.{Histories.Done, Laws.IsReadOnly, declared.actions.Action.TheVariants.{MountRo, MountRw}}
 use Rattle.{finite_sums.{proofs.Totals.update_off, specs.Sums.update}, gate_steps.specs.call_events.SeatedTasks.own_number}
 use Rattle.{gate_world.specs.traces.Found.says_read_only, std.proofs.lemmas.{Bool.both_ways, List.append_cancel_left}}
@@ -86,7 +86,7 @@ none_between Is c lim one two s r f g more is none =
     let was : own_part t (actions_so_far c a) ≡ (f.world.views t).actions = ap (own_part t) f.history.reached.made ∙ f.history.lists t in
     let now : own_part t (actions_so_far c b) ≡ (g.world.views t).actions = ap (own_part t) g.history.reached.made ∙ g.history.lists t in
     let same : own_part t log ++ (f.world.views t).actions ≡ since.0 ++ (f.world.views t).actions =
-    sym (part_more t log (actions_so_far c a) ∙ ap (λ (l : List Action). own_part t log ++ l) was) ∙
+    sym (part_append t log (actions_so_far c a) ∙ ap (λ (l : List Action). own_part t log ++ l) was) ∙
     (sym (ap (own_part t) whole) ∙ (now ∙ since.1)) in
     subst (NoneIs Is) (sym (append_cancel_right (own_part t log) since.0 (f.world.views t).actions same)) since.2)
 

@@ -1,7 +1,7 @@
 -- A call comes after all that its task was told.
 use Rattle.vfs_gates.proofs.Prelude.{Action, Called, Config, DealtNumbers, Entry, GateError, HasDone, HasSeen, HaveHistory, IsPrefix, List, Op, Reply}
 use Rattle.vfs_gates.proofs.Prelude.{Result, SeatedTask, StaySeen, TakesEffect, Traced, [], actions_append, actions_since, actions_so_far, after_more}
-use Rattle.vfs_gates.proofs.Prelude.{ap, arith, call_effect, get_elem?, length, own_actions, own_number, own_part, own_view, part_more, ran_items}
+use Rattle.vfs_gates.proofs.Prelude.{ap, arith, call_effect, get_elem?, length, own_actions, own_number, own_part, own_view, part_append, ran_items}
 use Rattle.vfs_gates.proofs.Prelude.{refl, same_stays_seen, state_of_trace, stays_seen_on, subst, sym, ℕ, ◌++◌, ◌∙◌, ◌∷◌, ◌≡◌, ◌≤◌}
 use Rattle.vfs_gates.{proofs.several_tasks.{Enclosed.done_there, FrozenUntilThawed.{some_number, some_ran}}, specs.Meetings.{ComesAfterList, SawList}}
 
@@ -28,7 +28,7 @@ comes_after_list op old left answer n list called told =
       more = own_part n gap;
       behind = ap (λ (l : List Entry). own_part n (actions_so_far c l)) from.1 ∙
           (ap (own_part n) (actions_append c one from.0) ∙
-          (part_more n gap (actions_so_far c one) ∙
+          (part_append n gap (actions_so_far c one) ∙
           ap (λ (l : List Action). own_part n gap ++ l) (done_there c told.items told.then told.history n list told.there)));
       adds = ap (λ (t : SeatedTask). (own_view t.items).actions) called.after ∙
           (ran_list c op called.trace old.items there ∙

@@ -1,14 +1,10 @@
 -- the next number goes to a task that begins
 use Rattle.gate_runs.proofs.Prelude.{DealtNumbers, Err, GateError, HasBegun, HaveNotFrozen, NeverFreezes, Ok, Result, SeatedTask, [], ap}
 use Rattle.gate_runs.proofs.Prelude.{err_from_is_err_and, own_view, refl, spare_of, subst, sym, ℕ, ◌∙◌, ◌∷◌, ◌≡◌}
-use Rattle.gate_runs.{proofs.Keeping.have_not, specs.Homes.IsReady}
 use Rattle.std.specs.Prelude.{OnOk}
-use Rattle.vfs_gates.{proofs.Splitting.{gives_on, has_begun, refused_for_memory}, specs.{Parts.SplitOf, Seating.{given_of, kept_of}}}
+use Rattle.vfs_gates.{proofs.{Rooming.kept_view, Splitting.{gives_on, has_begun, refused_for_memory}}, specs.{Parts.SplitOf, Seating.given_of}}
+use Rattle.gate_runs.{proofs.Keeping.have_not, specs.Homes.IsReady}
 use Rattle.gate_runs.proofs.threads.start_worker.Goals as goal
-
-own_kept : (n : ℕ) (items : DealtNumbers) → own_view (kept_of n items) ≡ own_view items
-own_kept n [] = refl
-own_kept n (x ∷ xs) = refl
 
 -- a new task has one number, which has done nothing
 one_given : (n : ℕ) (items : DealtNumbers) → spare_of (given_of n items) ≡ []
@@ -54,7 +50,7 @@ returns-clause-from g c = (c.split.ensures.table ∙ c.requires.from.0, c.split.
 pub returns-clause-same : goal.returns-clause-same
 returns-clause-same g c =
     let made = c.in_ok-other.ensures.made in
-    where_granted c.spawn_worker.result (ap (λ (t : SeatedTask). own_view t.items) made.kept ∙ own_kept made.number c.args.task.now.items)
+    where_granted c.spawn_worker.result (ap (λ (t : SeatedTask). own_view t.items) made.kept ∙ kept_view made.number c.args.task.now.items)
 
 pub returns-clause-rests : goal.returns-clause-rests
 returns-clause-rests g c = where_granted c.spawn_worker.result (c.in_ok-other.ensures.rests.1 c.requires.rests)

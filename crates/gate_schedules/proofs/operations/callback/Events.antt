@@ -39,7 +39,7 @@ module _ (b : Callback) (counted : ℕ → ℕ → ℕ) where
   level_taken_same : (s : CallbackStep) → level_taken_after (callback_next b s).0 (callback_next b s).1 counted ≡ counted
   level_taken_same s = grind arith
 
-no_action : (b : Callback) (s : CallbackStep) (found : ℕ) → (callback_after b s found).1 ≡ None
+pub no_action : (b : Callback) (s : CallbackStep) (found : ℕ) → (callback_after b s found).1 ≡ None
 no_action b s found = grind arith
 
 after_at_levels : (n : Next Callback) → IsAtLevels (phase_after (map_next Phase.Callbacks n))

@@ -2,11 +2,11 @@
 use Rattle.gate_schedules.proofs.Prelude.{Action, ActionFits, Callback, CauseOf, Config, Fits, Fitting, List, Next, Op, Option, Phase, Some, World}
 use Rattle.gate_schedules.proofs.Prelude.{after_step, arith, found_at, held_after, held_of, map_next, no_roles, phase_after, refl, subst, sym, ℕ, ◌∷◌}
 use Rattle.gate_schedules.proofs.Prelude.{◌≤◌}
-use Rattle.gate_schedules.proofs.frames.{Frames.sync_none, OperationLaws.{OpLaws, PhaseLaws, word_among}, Snapshots.completes_none}
-use Rattle.gate_schedules.proofs.operations.callback.{Events.callback_keeps, Trace.{CallbackAt, callback_inductive}}
-use Rattle.gate_schedules.proofs.operations.readers.{Fits.{callback_acts_none, callback_goes, callback_there, level_there}, Runs.callback_runs}
-use Rattle.gate_schedules.proofs.{operations.readers.Waits.callback_waits, traces.TraceInvariant.traces_tell}
 use Rattle.percpu_rwsem.specs.Callbacks.{callback_after}
+use Rattle.gate_schedules.proofs.frames.{Frames.sync_none, OperationLaws.{OpLaws, PhaseLaws, word_among}, Snapshots.completes_none}
+use Rattle.gate_schedules.proofs.operations.callback.{Events.{callback_keeps, no_action}, Trace.{CallbackAt, callback_inductive}}
+use Rattle.gate_schedules.proofs.operations.readers.{Fits.{callback_goes, callback_there, level_there}, Runs.callback_runs, Waits.callback_waits}
+use Rattle.gate_schedules.proofs.traces.TraceInvariant.{traces_tell}
 
 -- what comes after a step of a callback has no cause
 callback_cause : (c : Config) (t : ℕ) (w : World) (earlier : List World) (n : Next Callback) →
@@ -20,11 +20,11 @@ callback_phase c b = record {
   completes = λ within w good t lt hook e. completes_none c w t hook (Phase.Callbacks b) (λ trace found. refl);
   word = λ n le t lt held hook f. word_among c n le _ (callback_there c b b.step f.0 f.1 f.3);
   acts = λ within t held found hook f.
-      subst (ActionFits held) (sym (callback_acts_none b b.step found)) tt;
+      subst (ActionFits held) (sym (no_action b b.step found)) tt;
   goes = λ within t held found hook f.
       subst (λ (a : Option Action). Fits c t (held_after a held)
       (phase_after (map_next Phase.Callbacks (callback_after b b.step found).0)))
-      (sym (callback_acts_none b b.step found)) (callback_goes c within t held b b.step found f);
+      (sym (no_action b b.step found)) (callback_goes c within t held b b.step found f);
   agrees = λ t held seen same fits. fits;
   stays = λ w next earlier good t f e was quiet h. tt;
   causes = λ w earlier good t lt hook e after is h.

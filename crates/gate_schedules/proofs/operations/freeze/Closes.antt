@@ -74,7 +74,7 @@ closed_apart : (level nodes : ℕ) → freeze_holder_role (level_closed level no
 closed_apart level nodes = grind arith
 
 -- what is so of a freeze that closes a level and of one that waits at it is so of one whose down-write waits
-by_wait : (P : FreezeStep → Type 0) (d : DownWrite) (s : DownWriteStep) → P (FreezeStep.Closes d) → P (FreezeStep.Waits d) → P (closing_waits d s)
+pub by_wait : (P : FreezeStep → Type 0) (d : DownWrite) (s : DownWriteStep) → P (FreezeStep.Closes d) → P (FreezeStep.Waits d) → P (closing_waits d s)
 by_wait P d s goes waits = grind arith
 
 -- how a freeze stands with the levels after a step of a down-write

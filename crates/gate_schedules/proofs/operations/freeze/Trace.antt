@@ -5,12 +5,12 @@ use Rattle.gate_schedules.proofs.Prelude.{TransitionNext, UpWrite, UpWriteStep, 
 use Rattle.gate_schedules.proofs.Prelude.{at_freeze, cases_Bool, dirty_in, down_write_after, eq-eqb, eqb_tells, event_of, exit_made, false, found_by}
 use Rattle.gate_schedules.proofs.Prelude.{has_flag, if◌then◌else◌, inl, inr, map_next, ne_eqb, node_after, on_exit, refl, subst, suc, sym}
 use Rattle.gate_schedules.proofs.Prelude.{transition_after, true, with_hook, zero, ℕ, ◌-◌, ◌==◌, ◌∙◌, ◌∷◌, ◌≡◌, ◌≤◌}
-use Rattle.{access_model.specs.Holders.nobody, freeze_levels.specs.Freezes.{after_clearing, after_reopening, after_undoing, closing_waits}}
+use Rattle.{access_model.specs.Holders.nobody, freeze_levels.specs.Freezes.{after_clearing, after_reopening, after_undoing}}
 use Rattle.gate_world.specs.{Operations.{all_levels_closed, failed_adds, two_levels_closed, word_decided}, traces.Found.{ReadAnswer, cleans}}
 use Rattle.gate_world.specs.traces.{Found.{found_complete, found_sealed, gave_up, level_opened, stored_stage}, Traces.IsHonestAnswer}
 use Rattle.{node_words.specs.Phases.clears_at, percpu_rwsem.specs.Transitions.transition_next, std.proofs.{Common.bit_and, lemmas.Nat.Bits.and_pow}}
-use Rattle.gate_schedules.proofs.operations.freeze.Sums.{ClosingNext, ClosingSays, FoundAsBefore, closing_at, closing_event, closing_found}
-use Rattle.gate_schedules.proofs.{operations.freeze.Sums.{closing_leaves, closing_trace}, traces.Cleans.{LeaveAccesses, cleans_leave}}
+use Rattle.gate_schedules.proofs.operations.freeze.{Closes.by_wait, Sums.{ClosingNext, ClosingSays, FoundAsBefore, closing_at, closing_event}}
+use Rattle.gate_schedules.proofs.{operations.freeze.Sums.{closing_found, closing_leaves, closing_trace}, traces.Cleans.{LeaveAccesses, cleans_leave}}
 use Rattle.gate_schedules.proofs.traces.TraceInvariant.{InvariantAfter, InvariantAfterStep, IsInductive, TraceLaws, event_at, traces_tell}
 
 -- a freeze of the superblock by a task, at this step
@@ -128,10 +128,6 @@ failed_same : (g : ℕ) (trace earlier : List Traced) → stored_stage 3 trace �
     failed_adds g earlier ≡ failed_adds g trace
 failed_same g trace earlier third marks = grind arith
 
--- where a freeze that closes a level and one that waits at it say so, one whose down-write waits does
-either_waits : (P : FreezeStep → Type 0) (d : DownWrite) (s : DownWriteStep) → P (FreezeStep.Closes d) → P (FreezeStep.Waits d) → P (closing_waits d s)
-either_waits P d s goes waits = grind arith
-
 -- a down-write waits
 wait_says : (c : Config) (t : ℕ) (holder : Holder) (i : ℕ) (x : Freeze) (e : Traced) (earlier : List Traced) (added : List Action) (d : DownWrite)
     (action : Option Action) (z : FreezeStep) → Phase.Freezes (at_freeze x z) ≡ freeze_at c t holder z →
@@ -146,7 +142,7 @@ closing_says : (c : Config) (t : ℕ) (holder : Holder) (i : ℕ) (s : DownWrite
     (action : Option Action) → IsClosing i (e ∷ earlier) added → ClosingNext c i (e ∷ earlier) n action →
     InvariantAfter (FreezeAt c t holder) c (Op.Freeze holder) (e ∷ earlier)
     (map_next Phase.Freezes (after_closing (freeze_of c t holder (FreezeStep.Closes (closing_at c i s))) i n)) (actions_after action added)
-closing_says c t holder i s e earlier added n action level h = grind (arith, closing_at, either_waits, wait_says)
+closing_says c t holder i s e earlier added n action level h = grind (arith, closing_at, by_wait, wait_says)
 
 -- a step that gives `umount` back leaves what is told
 lock_leaves : (c : Config) (holder : Holder) (answer : Result Reply GateError) (value : ℕ) (hook : HookAnswer) (earlier : List Traced)

@@ -4,7 +4,7 @@ use Rattle.gate_schedules.proofs.Prelude.{HookAnswer, IsGood, IsWithin, Moves, N
 use Rattle.gate_schedules.proofs.Prelude.{WordName, Words, World, after_step, ap, arith, at_level, eqb_tells, false, has_open, held_at, held_of}
 use Rattle.gate_schedules.proofs.Prelude.{holds_level, inl, inr, level_role_of, map_next, model_limits, nat_lt, not, phase_after, put, read, refl}
 use Rattle.gate_schedules.proofs.Prelude.{shown, subst, sym, sync_role_of, true, true≢false, unpack, update, update_at, update_same, view_with}
-use Rattle.gate_schedules.proofs.Prelude.{wrap_add, ℕ, ◌&&◌, ◌+◌, ◌<◌, ◌==◌, ◌||◌, ◌∙◌, ◌≡◌, ◌≤◌}
+use Rattle.gate_schedules.proofs.Prelude.{wrap_add, ℕ, ◌+◌, ◌<◌, ◌==◌, ◌||◌, ◌∙◌, ◌≡◌, ◌≤◌}
 use Rattle.access_model.specs.{Actions.IsAllowed, declared.actions.{Action.TheVariants.Grant, Gate.TheVariants.Level}}
 use Rattle.{access_model.specs.declared.replies.Reply.TheVariants.Unit as UnitReply, cpu_words.proofs.gate_counts.LevelLaws.{is_granted, is_refused}}
 use Rattle.cpu_words.specs.declared.{events.Touch.TheVariants.{Add, Load, Sub}, names.WordName.TheVariants.{Block, LevelCount, Section, Sync}}
@@ -12,7 +12,7 @@ use Rattle.{cpu_words.specs.gate_counts.Levels.Out as CountsNot, freeze_laws.spe
 use Rattle.gate_world.specs.{Fits.{ReadFits, ReadStepFits}, Operations.holds_none_from, Roles.{count_role_if, read_count_role}}
 use Rattle.percpu_rwsem.specs.{Readers.{at_down_read, left_blocked, step_found}, declared.readers.DownReadStep.TheVariants.{CountsDown, CountsUpFast}}
 use Rattle.percpu_rwsem.specs.declared.readers.DownReadStep.TheVariants.{CountsUpSlow, EntersSection, LeavesAdmitted, LeavesBlocked, LoadsBlock}
-use Rattle.{percpu_rwsem.specs.declared.readers.DownReadStep.TheVariants.LoadsSync, std.proofs.lemmas.Bool.Decides.nat_tests}
+use Rattle.{percpu_rwsem.specs.declared.readers.DownReadStep.TheVariants.LoadsSync, std.proofs.lemmas.Bool.{Decides.nat_tests, and_parts}}
 use Rattle.gate_schedules.proofs.{frames.Frames.{count_none, level_view_as}, levels.Counts.{LevelHoldsAfter, SameElsewhere, backs_off, bit_room}}
 use Rattle.gate_schedules.proofs.levels.Counts.{count_on, down_beside, enters_fast, held_bit, level_follows, seeks, up_beside, words_down, words_up}
 use Rattle.gate_schedules.proofs.levels.Parts.{IsAtLevels, SameAtMounts, SameOffLevels, beside_levels, counts_left_at, level_parts, level_shown}
@@ -24,18 +24,13 @@ or_left : (a b : Bool) → b ≡ false → (b || not a) ≡ true → a ≡ false
 or_left true b e h = absurd (true≢false (sym h ∙ ap (λ x. x || false) e))
 or_left false b e h = refl
 
--- both of two that hold together
-and_both : (a b : Bool) → (a && b) ≡ true → (a ≡ true) × (b ≡ true)
-and_both true b h = (refl, h)
-and_both false b h = absurd (true≢false (sym h))
-
 -- a number that isn't below another
 not_below : (k i : ℕ) → i ≤ k → nat_lt k i ≡ false
 not_below k i h = grind (arith, nat_tests)
 
 -- who holds no level from one up holds none of these
 pub none_from : (levels : ℕ → Bool) (i j : ℕ) → holds_none_from i levels ≡ true → 1 ≤ i → i ≤ j → j ≤ 3 → levels j ≡ false
-none_from levels i j h l1 le l3 = grind (arith, or_left, nat_lt, not_below, and_both)
+none_from levels i j h l1 le l3 = grind (arith, or_left, nat_lt, not_below, and_parts)
 
 -- What is so of the step that a sync word leads to.
 record IsPath (s : DownReadStep) : Type 0 where

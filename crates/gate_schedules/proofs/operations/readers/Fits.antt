@@ -1,6 +1,6 @@
 -- What fits after a step of a down-read, an up-read and a callback.
 use Rattle.gate_schedules.proofs.Prelude.{ActionFits, Bool, Callback, Config, Done, DownRead, DownReadStep, DownReads, Err, Fits, Go, Holdings}
-use Rattle.gate_schedules.proofs.Prelude.{IsWithin, IsWord, Next, None, Ok, PhaseFits, Wait, arith, common_steps, down_read_after, down_read_next}
+use Rattle.gate_schedules.proofs.Prelude.{IsWithin, IsWord, Next, Ok, PhaseFits, Wait, arith, common_steps, down_read_after, down_read_next}
 use Rattle.gate_schedules.proofs.Prelude.{extents_of, held_after, map_next, phase_after, true, ℕ, ◌<◌, ◌≡◌, ◌≤◌}
 use Rattle.gate_world.specs.{Fits.{GraceFits, ReadFits, ReadStepFits}, Operations.{holds_none_from, is_level_number}}
 use Rattle.gate_world.specs.declared.work.Phase.TheVariants.{Callbacks}
@@ -52,10 +52,6 @@ read_fits c t i p held n h = grind arith
 pub callback_there : (c : Config) (b : Callback) (s : CallbackStep) → 1 ≤ b.level → b.level ≤ 3 → GraceFits c.tasks s →
     IsWord (extents_of c) (callback_next b s).0
 callback_there c b s l1 l3 f = grind arith
-
--- no step of a callback adds an action
-pub callback_acts_none : (b : Callback) (s : CallbackStep) (found : ℕ) → (callback_after b s found).1 ≡ None
-callback_acts_none b s found = grind arith
 
 module _ (c : Config) (within : IsWithin c) (t : ℕ) (held : Holdings) (b : Callback) where
   -- what comes after each step of a callback fits

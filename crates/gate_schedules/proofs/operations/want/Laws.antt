@@ -1,12 +1,12 @@
 -- All that is proved of a want and of a drop.
 use Rattle.gate_schedules.proofs.Prelude.{Bool, Config, Fits, Fitting, MountPhase, Next, Op, Phase, Some, Want, World, after_step, ap, arith}
 use Rattle.gate_schedules.proofs.Prelude.{found_at, held_of, ltb-true, most_events, nat_lt, no_roles, refl, subst, true, want_after, ℕ, ◌∙◌, ◌∷◌, ◌≡◌}
-use Rattle.gate_world.specs.refusals.Causes.{asks}
+use Rattle.{gate_world.specs.refusals.Causes.asks, std.proofs.lemmas.Bool.and_parts}
 use Rattle.gate_schedules.proofs.frames.{Frames.role_none, OperationLaws.{IsSmall, OpLaws, PhaseLaws, by_bool, word_among}, Snapshots.completes_none}
 use Rattle.gate_schedules.proofs.{mounts.Runs.mounts_run, operations.want.Causes.{next_asked, next_cause, want_cause_stays, want_own}}
 use Rattle.gate_schedules.proofs.operations.want.{Events.{drop_keeps, want_keeps}, Fits.{want_acts, want_goes, want_there}, Loads.want_here}
-use Rattle.gate_schedules.proofs.operations.want.{Trace.{DropAt, WantAt, drop_inductive, want_inductive as want_traced}, Waits.next_waits}
-use Rattle.gate_schedules.proofs.{operations.want.Waits.want_waits, traces.TraceInvariant.{TraceLaws, traces_tell}, trees.worlds.Holders.both_true}
+use Rattle.gate_schedules.proofs.operations.want.Trace.{DropAt, WantAt, drop_inductive, want_inductive as want_traced}
+use Rattle.gate_schedules.proofs.{operations.want.Waits.{next_waits, want_waits}, traces.TraceInvariant.{TraceLaws, traces_tell}}
 
 pub want_phase : (c : Config) (x : Want) → PhaseLaws c (Phase.Mounts (MountPhase.Want x))
 want_phase c x = record {
@@ -49,13 +49,13 @@ drop_phase c m p = record {
 pub want_op : (c : Config) (m p : ℕ) (wait : Bool) → OpLaws c (Op.Want m p wait)
 want_op c m p wait = record {
   fits = λ t held there order room.
-      let at : (nat_lt m c.mounts ≡ true) × (nat_lt p c.processors ≡ true) = both_true (nat_lt m c.mounts) (nat_lt p c.processors) there in
+      let at : (nat_lt m c.mounts ≡ true) × (nat_lt p c.processors ≡ true) = and_parts (nat_lt m c.mounts) (nat_lt p c.processors) there in
       (ltb-true m c.mounts at.0, ltb-true p c.processors at.1, ltb-true (held.mounts m) 1024 room);
   starts_aside = λ t k. record no_roles { mount = λ y. role_none y m k };
   cause = λ t w earlier. tt;
   order_agrees = λ held seen same there. refl;
   room_agrees = λ held seen same there. ap (λ y. nat_lt y 1024) (same.mounts m
-      (ltb-true m c.mounts (both_true (nat_lt m c.mounts) (nat_lt p c.processors) there).0));
+      (ltb-true m c.mounts (and_parts (nat_lt m c.mounts) (nat_lt p c.processors) there).0));
   restores = λ refusal trace before order. refl;
   file = λ t held order room. tt;
   traces = λ lim. traces_tell (λ t. WantAt c m p wait) c (Op.Want m p wait) (λ t. want_traced c t m p wait);
@@ -66,4 +66,4 @@ drop_traces : (c : Config) (m p : ℕ) → TraceLaws c (Op.DropMount m p)
 drop_traces c m p = traces_tell (λ t. DropAt m p) c (Op.DropMount m p) (λ t. drop_inductive c t m p)
 
 pub drop_op : (c : Config) (m p : ℕ) → OpLaws c (Op.DropMount m p)
-drop_op c m p = grind (arith, both_true, ltb-true, drop_traces)
+drop_op c m p = grind (arith, and_parts, ltb-true, drop_traces)

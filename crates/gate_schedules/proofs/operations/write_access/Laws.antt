@@ -5,7 +5,7 @@ use Rattle.gate_schedules.proofs.Prelude.{closed, down_read_after, false, found_
 use Rattle.gate_schedules.proofs.Prelude.{nat_lt, no_roles, not, phase_after, refl, role_of, sym, sync_role_of, true, true≢false, update, update_same}
 use Rattle.gate_schedules.proofs.Prelude.{want_after, ℕ, ◌&&◌, ◌<◌, ◌∙◌, ◌∷◌, ◌≡◌, ◌≤◌}
 use Rattle.{access_model.specs.Histories.levels_of, composite_ops.specs.write_access.Phases.{leaves_on, then_gives_back, then_wants}}
-use Rattle.gate_world.specs.{Fits.WriteFits, refusals.Causes.{asks, asks_level}}
+use Rattle.{gate_world.specs.{Fits.WriteFits, refusals.Causes.{asks, asks_level}}, std.proofs.lemmas.Bool.and_parts}
 use Rattle.gate_schedules.proofs.frames.{Agreeing.none_agree, Frames.{count_none, role_on, sync_none}, OperationLaws.{OpLaws, PhaseLaws}}
 use Rattle.gate_schedules.proofs.frames.{SameRolesOffTree.update_twice, Snapshots.completes_none}
 use Rattle.gate_schedules.proofs.operations.readers.{Causes.{read_not_closed, read_own, read_stays}, Laws.{end_phase, read_phase}, Waits.read_waits}
@@ -13,7 +13,7 @@ use Rattle.gate_schedules.proofs.operations.want.{Causes.{want_cause_stays, want
 use Rattle.gate_schedules.proofs.operations.write_access.{Alike.{alike_takes, alike_wants}, Causes.{takes_asks, takes_cause, takes_waits}}
 use Rattle.gate_schedules.proofs.operations.write_access.{Causes.{wants_asked, wants_cause, wants_waits}, Events.{first_world, write_fits_now}}
 use Rattle.gate_schedules.proofs.operations.write_access.{Events.{write_runs, write_step}, Trace.{DropAt, WriteAt, drop_inductive, write_inductive}}
-use Rattle.gate_schedules.proofs.{traces.TraceInvariant.{TraceLaws, traces_given_reads, traces_tell}, trees.worlds.Holders.both_true}
+use Rattle.gate_schedules.proofs.traces.TraceInvariant.{TraceLaws, traces_given_reads, traces_tell}
 
 -- what fits after a step at level 1, with the mount to come
 takes_fits : (c : Config) (t : ℕ) (held : Holdings) (m : ℕ) (r : DownRead) (found : ℕ) →
@@ -204,7 +204,7 @@ want_write_op c m p = record {
   room_agrees = λ held seen same there. ap (λ y. nat_lt y 1024) (same.mounts m (in_mount c m p there).0);
   restores = λ refusal trace before order.
       let none : (not (levels_of before 1) ≡ true) × ((not (levels_of before 2) && not (levels_of before 3)) ≡ true) =
-      both_true (not (levels_of before 1)) (not (levels_of before 2) && not (levels_of before 3)) order in
+      and_parts (not (levels_of before 1)) (not (levels_of before 2) && not (levels_of before 3)) order in
       λ j. record (holdings_of before) { levels = level_restored (levels_of before) (is_false (levels_of before 1) none.0) j };
   file = λ t held order room. tt;
   traces = λ lim. traces_given_reads (λ t. WriteAt c m p t) c (Op.WantWrite m p) (λ t. write_inductive c t m p);
@@ -215,4 +215,4 @@ drop_write_traces : (c : Config) (m p : ℕ) → TraceLaws c (Op.DropWrite m p)
 drop_write_traces c m p = traces_tell (λ t. DropAt m p) c (Op.DropWrite m p) (λ t. drop_inductive c t m p)
 
 pub drop_write_op : (c : Config) (m p : ℕ) → OpLaws c (Op.DropWrite m p)
-drop_write_op c m p = grind (arith, in_mount, both_true, ltb-true, drop_write_traces)
+drop_write_op c m p = grind (arith, in_mount, and_parts, ltb-true, drop_write_traces)

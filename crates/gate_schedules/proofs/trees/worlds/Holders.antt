@@ -1,18 +1,14 @@
 -- Who is at a level with an access at some mount: nobody has shut what it came through.
 use Rattle.gate_schedules.proofs.Prelude.{AtLevel, AtMount, Bool, Config, DownWriteStep, FreezeStep, Freezing, IsGood, LevelRole, MountHoldsIn}
-use Rattle.gate_schedules.proofs.Prelude.{Option, Owner, Phase, Some, Stages, World, ap, arith, at_level, at_mount, cases_Bool, cases_lt, false}
+use Rattle.gate_schedules.proofs.Prelude.{Option, Owner, Phase, Some, Stages, World, ap, arith, at_level, at_mount, cases_Bool, cases_lt}
 use Rattle.gate_schedules.proofs.Prelude.{freeze_stage_role, held_at, held_of, holds_level, inl, inr, is_frozen_whole, level_role_of, ltb-true}
-use Rattle.gate_schedules.proofs.Prelude.{nat_lt, refl, ro_bit, stage_role_of, stage_roles, suc, sym, total, total_at, true, true≢false, zero, ℕ}
-use Rattle.gate_schedules.proofs.Prelude.{◌&&◌, ◌-◌, ◌<◌, ◌==◌, ◌≡◌, ◌≤◌, ◌⊎◌}
+use Rattle.gate_schedules.proofs.Prelude.{nat_lt, refl, ro_bit, stage_role_of, stage_roles, suc, sym, total, total_at, true, true≢false, zero, ℕ, ◌-◌}
+use Rattle.gate_schedules.proofs.Prelude.{◌<◌, ◌==◌, ◌≡◌, ◌≤◌, ◌⊎◌}
 use Rattle.cpu_words.{proofs.gate_counts.LevelLaws.{none_frozen, none_passed}, specs.gate_counts.{Gates.past, Levels.Passed}}
 use Rattle.freeze_laws.{proofs.stages.CitedLaws.freeze_is_under_way, specs.stages.Roles.{Place, passed_at, passed_by}}
 use Rattle.gate_world.specs.{Operations.{is_writer, some_mount}, Roles.{count_beside, freeze_position, place_of, position_count}}
-use Rattle.mount_counts.specs.Roles.{mount_as_gate}
+use Rattle.{mount_counts.specs.Roles.mount_as_gate, std.proofs.lemmas.Bool.and_parts}
 use Rattle.gate_schedules.proofs.frames.Stages.{stages_in, stages_right}
-
-pub both_true : (a b : Bool) → (a && b) ≡ true → (a ≡ true) × (b ≡ true)
-both_true true b h = (refl, h)
-both_true false b h = absurd (true≢false (sym h))
 
 pub mount_there : (n : ℕ) (held : ℕ → ℕ) → some_mount n held ≡ true → (m : ℕ) × (m < n) × (0 < held m)
 mount_there zero held h = absurd (true≢false (sym h))
@@ -114,5 +110,5 @@ module _ (c : Config) (w : World) (good : IsGood c w) (t : ℕ) (lt : t < c.task
 
   pub writer_not_frozen : is_writer c (held_of (w.views t)) ≡ true → w.words.stage ≡ 4 → ⊥
   writer_not_frozen writes frozen =
-      let both : (holds_level (w.views t) 1 ≡ true) × (some_mount c.mounts (held_at (w.views t)) ≡ true) = both_true _ _ writes in
+      let both : (holds_level (w.views t) 1 ≡ true) × (some_mount c.mounts (held_at (w.views t)) ≡ true) = and_parts _ _ writes in
       omega (arith, frozen, (writer_apart 1 (inl refl) both.0 both.1).unfrozen)

@@ -10,8 +10,8 @@ use Rattle.{access_model.specs.Actions.IsWriter, cpu_words.specs.gate_counts.Gat
 use Rattle.{freeze_laws.specs.stages.Roles.passed_by, gate_world.specs.{Fits.TreeAccess, Operations.{is_faulter, is_writer, may_mark, some_mount}}}
 use Rattle.{gate_world.specs.{Remounts.{loop_role, remount_role}, Roles.remount_tree_role}, gated_tree.specs.Calls.phase_role}
 use Rattle.gated_tree.specs.{Phases.{after, mark_done, snapshot_after}, Roles.{MayDirty, MayRemove, bare_by, cleared, is_bare, sealed_by}}
-use Rattle.mount_counts.specs.Roles.{barring_of, mount_as_gate, skips}
-use Rattle.gate_schedules.proofs.trees.worlds.{Holders.{IsOpen, both_true, mount_there, none_past, writer_apart}, Roles.{close_apart, freeze_apart}}
+use Rattle.{mount_counts.specs.Roles.{barring_of, mount_as_gate, skips}, std.proofs.lemmas.Bool.and_parts}
+use Rattle.gate_schedules.proofs.trees.worlds.{Holders.{IsOpen, mount_there, none_past, writer_apart}, Roles.{close_apart, freeze_apart}}
 use Rattle.gate_schedules.{proofs.trees.worlds.Trees.{nobody_reads, sealed_frozen}, specs.trees.Events.{HasLeave, MayClean}}
 use Rattle.gate_schedules.specs.trees.Steps.{MayMark, TreeAllowsStep}
 
@@ -70,18 +70,18 @@ module _ (c : Config) (w : World) (good : IsGood c w) where
   module _ (t : ℕ) (lt : t < c.tasks) where
     pub writer_open : is_writer c (held_of (w.views t)) ≡ true → IsOpen w c.tasks 1
     writer_open writes =
-        let both : (holds_level (w.views t) 1 ≡ true) × (some_mount c.mounts (held_at (w.views t)) ≡ true) = both_true _ _ writes in
+        let both : (holds_level (w.views t) 1 ≡ true) × (some_mount c.mounts (held_at (w.views t)) ≡ true) = and_parts _ _ writes in
         writer_apart c w good t lt 1 (inl refl) both.0 both.1
 
     pub faulter_open : is_faulter c (held_of (w.views t)) ≡ true → IsOpen w c.tasks 2
     faulter_open faults =
-        let both : (holds_level (w.views t) 2 ≡ true) × (some_mount c.mounts (held_at (w.views t)) ≡ true) = both_true _ _ faults in
+        let both : (holds_level (w.views t) 2 ≡ true) × (some_mount c.mounts (held_at (w.views t)) ≡ true) = and_parts _ _ faults in
         writer_apart c w good t lt 2 (inr refl) both.0 both.1
 
     may_remove : is_writer c (held_of (w.views t)) ≡ true → MayRemove (tree_bounds c) (tree_of w)
     may_remove writes =
         let way : IsOpen w c.tasks 1 = writer_open writes in
-        let both : (holds_level (w.views t) 1 ≡ true) × (some_mount c.mounts (held_at (w.views t)) ≡ true) = both_true _ _ writes in
+        let both : (holds_level (w.views t) 1 ≡ true) × (some_mount c.mounts (held_at (w.views t)) ≡ true) = and_parts _ _ writes in
         let m : (m : ℕ) × (m < c.mounts) × (0 < held_at (w.views t) m) = mount_there c.mounts (held_at (w.views t)) both.1 in
         let clear : is_bare_at w.words ≡ 0 = λ j. bare_by (way.unset j) (way.writable j) in
         record {
@@ -130,7 +130,7 @@ module _ (c : Config) (w : World) (good : IsGood c w) where
 
     writer_shown : is_writer c (held_of (w.views t)) ≡ true → IsWriter (model_limits c) (shown c w) t
     writer_shown writes =
-        let both : (holds_level (w.views t) 1 ≡ true) × (some_mount c.mounts (held_at (w.views t)) ≡ true) = both_true _ _ writes in
+        let both : (holds_level (w.views t) 1 ≡ true) × (some_mount c.mounts (held_at (w.views t)) ≡ true) = and_parts _ _ writes in
         (both.0, mount_there c.mounts (held_at (w.views t)) both.1)
 
     create_leave : (x : Create) (s : CreateStep) (found : ℕ) → IsWriter (model_limits c) (shown c w) t → LeaveFor (create_after x s found).1
@@ -148,7 +148,7 @@ module _ (c : Config) (w : World) (good : IsGood c w) where
     -- a page fault has leave inside level 2, with an access at some mount; a write-back inside level 3
     mark_leave_now : (dirty : Bool) (file : ℕ) → may_mark dirty c (held_of (w.views t)) ≡ true →
         HasLeave (model_limits c) (shown c w) t (mark_done dirty file)
-    mark_leave_now dirty file may = grind (arith, both_true, mount_there)
+    mark_leave_now dirty file may = grind (arith, and_parts, mount_there)
 
     mark_leave : (x : Mark) (s : MarkStep) (found : ℕ) → may_mark x.dirty c (held_of (w.views t)) ≡ true →
         LeaveFor (mark_after x s found).1

@@ -1,6 +1,7 @@
 -- each load goes on from what the one before it left
 use Rattle.vfs_gates.proofs.Prelude.{BufferWords, Go, LoadsKids, None, Some, arith, at_snapshot, refl, snapshot_at, still_stands}
-use Rattle.vfs_gates.proofs.Loading.{fewer_left, kids_last, kids_noted, kids_on, next_node, noted_nowhere, noted_on, noted_to, taking_leaves}
+use Rattle.call_ends.proofs.Closing.{fewer_nodes}
+use Rattle.vfs_gates.proofs.Loading.{kids_last, kids_noted, kids_on, next_node, noted_nowhere, noted_on, noted_to, taking_leaves}
 use Rattle.vfs_gates.specs.Noted.{with_kids}
 use Rattle.vfs_gates.proofs.snapshots.load_kids.Goals as goal
 
@@ -17,7 +18,7 @@ pub find-found-requires-clause-stands : goal.find-found-requires-clause-stands
 find-found-requires-clause-stands c = still_stands c.loop-next.invariant.noted.led c.requires.stands
 
 pub loop-next-smaller : goal.loop-next-smaller
-loop-next-smaller c = fewer_left c.loop-next.node c.args.snapshot.nodes c.in-Some.next c.in-Some.ensures
+loop-next-smaller c = fewer_nodes c.loop-next.node c.args.snapshot.nodes c.in-Some.next c.in-Some.ensures
 
 pub loop-next-preserved : goal.loop-next-preserved
 loop-next-preserved c =
