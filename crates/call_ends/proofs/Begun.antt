@@ -1,9 +1,10 @@
 -- A taking or a return of write access that has begun stands at its first step.
 use Rattle.call_ends.proofs.Prelude.{Accesses, Bool, Op, Phase, Some, Writes, arith, refl, subst, sym, ℕ, ◌≡◌}
+use Rattle.std.proofs.Common.{List, [], ◌∷◌}
 use Rattle.composite_ops.specs.declared.write_access.phases.WritePhase.{TheVariants.{Drops, Ends, GivesBack, Takes, Wants}, WritePhase}
 use Rattle.gate_steps.specs.{Seating.DealtNumbers, call_events.{GhostAgrees.GhostAgrees, Turns.{StateAgrees, state_at}}}
 use Rattle.gate_world.specs.{Beginnings.first_phase, declared.{config.Config.Config, operations.Op.TheVariants.WantWrite}}
-use Rattle.{percpu_rwsem.specs.declared.readers.{DownRead.DownRead, DownReadStep.TheVariants.EntersSection}, std.proofs.Common.{List, [], ◌∷◌}}
+use Rattle.percpu_rwsem.specs.declared.readers.{DownRead.DownRead, DownReadStep.TheVariants.EntersSection}
 use Rattle.call_ends.specs.Paths.{taking_at}
 
 -- where one begins, and by which operation

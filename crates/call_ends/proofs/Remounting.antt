@@ -1,15 +1,16 @@
 -- What comes after each step of a remount's line.
 use Rattle.call_ends.proofs.Prelude.{Accesses, Bool, Go, None, Ok, Some, after_of, ap, arith, false, refl, remounting_at, subst, sym, true, ℕ, ◌∙◌}
 use Rattle.call_ends.proofs.Prelude.{◌≡◌}
-use Rattle.{access_model.specs.declared.actions.Action.TheVariants.Clean, cpu_words.specs.{Sums.sum_taking, declared.sums.Sum.Sum}}
-use Rattle.{cpu_words.specs.declared.sums.Taken.TheVariants.{More as MoreWords, Total}, gate_world.specs.Accesses.accesses_after}
-use Rattle.{gate_world.specs.declared.work.Phase.TheVariants.Remounts, mount_counts.proofs.laws.Sets.{leaves_here, lowest_held}}
-use Rattle.mount_counts.specs.{Phases.has_flag, Remounts.{let_go, past_mount, remount_from}, Sets.{has_mount, lowest, no_mounts, one_mount}}
-use Rattle.mount_counts.specs.{Sets.{with_mount, without_lowest}, declared.remounts.{Remount.Remount, RemountStep.RemountStep}}
-use Rattle.mount_counts.specs.declared.remounts.RemountStep.TheVariants.{ClearsHold, ClearsMark, LoadsFlags, LoadsRemoved, LoadsRemovedAgain}
-use Rattle.mount_counts.specs.declared.remounts.RemountStep.TheVariants.{LoadsStage, LoadsSuperblock, Locks, SetsHold, SetsReadOnly, SetsRemount}
-use Rattle.{mount_counts.specs.declared.{remounts.RemountStep.TheVariants.Sums, sets.MountSet.MountSet}, node_words.specs.Nodes.node_after}
 use Rattle.std.{proofs.{Common.{bit_and, if◌then◌else◌, nat_lt, not, true≢false, ◌+◌, ◌<◌, ◌==◌}, lemmas.Nat.and_le_l}, specs.Int.{bit_not, w8}}
+use Rattle.access_model.specs.declared.actions.Action.TheVariants.{Clean}
+use Rattle.cpu_words.specs.{Sums.sum_taking, declared.sums.{Sum.Sum, Taken.TheVariants.{More as MoreWords, Total}}}
+use Rattle.gate_world.specs.{Accesses.accesses_after, declared.work.Phase.TheVariants.Remounts}
+use Rattle.mount_counts.{proofs.laws.Sets.{leaves_here, lowest_held}, specs.{Phases.has_flag, Remounts.{let_go, past_mount, remount_from}}}
+use Rattle.mount_counts.specs.{Sets.{has_mount, lowest, no_mounts, one_mount, with_mount, without_lowest}, declared.remounts.Remount.Remount}
+use Rattle.mount_counts.specs.declared.remounts.RemountStep.{RemountStep, TheVariants.{ClearsHold, ClearsMark, LoadsFlags, LoadsRemoved}}
+use Rattle.mount_counts.specs.declared.remounts.RemountStep.TheVariants.{LoadsRemovedAgain, LoadsStage, LoadsSuperblock, Locks, SetsHold}
+use Rattle.mount_counts.specs.declared.{remounts.RemountStep.TheVariants.{SetsReadOnly, SetsRemount, Sums}, sets.MountSet.MountSet}
+use Rattle.node_words.specs.Nodes.{node_after}
 use Rattle.call_ends.proofs.Closing.{other_number, same_number}
 
 -- what comes after one of so many, by whether there is one more

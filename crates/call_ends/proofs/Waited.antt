@@ -1,10 +1,11 @@
 -- How many steps came to a wait, one after the other.
 use Rattle.call_ends.proofs.Prelude.{Go, Next, None, Op, Phase, SeatedTask, Some, Wait, ap, arith, subst, sym, ℕ, ◌-◌, ◌∙◌, ◌≡◌}
+use Rattle.std.proofs.Common.{Result, min, ◌+◌, ◌^◌}
 use Rattle.{access_model.specs.declared.{errors.GateError.GateError, replies.{Next.TheVariants.Done, Reply.Reply}}, atomic_table.specs.Seated.TableId}
 use Rattle.{cpu_words.specs.Hooks.HookAnswer, freeze_levels.specs.declared.hooks.HookCall.HookCall}
 use Rattle.gate_steps.specs.{Seating.DealtNumbers, call_events.Asking.{CalledAsking, OpAfterStepAsking, OpUnderWayAsking, WereAsked}}
 use Rattle.gate_steps.specs.{call_events.{SeatedTasks.task_state, Waited.counted}, declared.seating.Knowledge.Knowledge}
-use Rattle.{gate_world.specs.{Views.phase_after, declared.config.Config.Config}, std.proofs.Common.{Result, min, ◌+◌, ◌^◌}}
+use Rattle.gate_world.specs.{Views.phase_after, declared.config.Config.Config}
 
 -- a count that stands still at its end is of a sum the same
 counted_more : (n : ℕ) → counted (counted n + 1) ≡ counted (n + 1)

@@ -1,8 +1,9 @@
 -- Where a callback stands after each part of its line.
+use Rattle.std.specs.Prelude.{Bool, None, Ok, Option, Some, false, true, ℕ}
 use Rattle.access_model.specs.{Replies.map_next, declared.replies.{Next.{Next, TheVariants.{Done, Go, Wait}}, Reply.TheVariants.Ran}}
-use Rattle.{gate_world.specs.declared.work.Phase.{Phase, TheVariants.Callbacks}, percpu_rwsem.specs.declared.callbacks.Callback.Callback}
-use Rattle.percpu_rwsem.specs.declared.{callbacks.CallbackStep.{CallbackStep, TheVariants.{AwaitsSections, CallsBack}}, grace.Grace.Grace}
-use Rattle.{percpu_rwsem.specs.declared.transitions.Transition.TheVariants.Loads, std.specs.Prelude.{Bool, None, Ok, Option, Some, false, true, ℕ}}
+use Rattle.gate_world.specs.declared.work.Phase.{Phase, TheVariants.Callbacks}
+use Rattle.percpu_rwsem.specs.declared.callbacks.{Callback.Callback, CallbackStep.{CallbackStep, TheVariants.{AwaitsSections, CallsBack}}}
+use Rattle.percpu_rwsem.specs.declared.{grace.Grace.Grace, transitions.Transition.TheVariants.Loads}
 
 -- a callback of a level, among so many tasks, at this step
 abbrev pub calling_at : ℕ → ℕ → CallbackStep → Phase

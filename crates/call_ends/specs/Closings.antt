@@ -1,10 +1,11 @@
 -- Where the closing of a level by a freeze stands after each part of it.
-use Rattle.{access_model.specs.{Replies.map_next, declared.replies.Next.{Next, TheVariants.{Go, Wait}}}, freeze_levels.specs.Freezes.at_freeze}
-use Rattle.freeze_levels.specs.{Freezes.level_closed, Levels.closing, declared.freezes.{Freeze.Freeze, FreezeStep.{FreezeStep, TheVariants.Closes}}}
-use Rattle.{freeze_levels.specs.declared.freezes.FreezeStep.TheVariants.Waits, gate_world.specs.declared.work.Phase.{Phase, TheVariants.Freezes}}
+use Rattle.std.specs.Prelude.{Bool, None, Option, Some, false, true, ℕ}
+use Rattle.access_model.specs.{Replies.map_next, declared.replies.Next.{Next, TheVariants.{Go, Wait}}}
+use Rattle.freeze_levels.specs.{Freezes.{at_freeze, level_closed}, Levels.closing, declared.freezes.{Freeze.Freeze, FreezeStep.FreezeStep}}
+use Rattle.freeze_levels.specs.declared.freezes.FreezeStep.TheVariants.{Closes, Waits}
+use Rattle.gate_world.specs.declared.work.Phase.{Phase, TheVariants.Freezes}
 use Rattle.percpu_rwsem.specs.{Writers.{at_down_write, sum_begun}, declared.{grace.Grace.Grace, transitions.Transition.TheVariants.Loads}}
 use Rattle.percpu_rwsem.specs.declared.writers.DownWriteStep.{DownWriteStep, TheVariants.{AwaitsSections, CallsBack}}
-use Rattle.std.specs.Prelude.{Bool, None, Option, Some, false, true, ℕ}
 
 -- a freeze that closes a level, at this step of its down-write
 abbrev pub closing_at : Freeze → ℕ → DownWriteStep → Phase

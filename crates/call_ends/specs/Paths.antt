@@ -1,9 +1,10 @@
 -- What comes next of operations whose usual steps are done in a line.
+use Rattle.std.specs.Prelude.{Bool, Ok, false, true, ℕ}
 use Rattle.access_model.specs.{Replies.map_next, declared.replies.{Next.{Next, TheVariants.Done}, Reply.TheVariants.Unit as UnitReply}}
 use Rattle.composite_ops.specs.declared.{file_closes.phases.ClosePhase.ClosePhase, write_access.phases.WritePhase.{TheVariants.Takes, WritePhase}}
 use Rattle.gate_world.specs.declared.work.Phase.{Phase, TheVariants.{Closes, DownReads, Mounts, Writes}}
 use Rattle.mount_counts.specs.declared.phases.{Change.Change, MountPhase.TheVariants.{Change as Changes, Want as Wants}, Want.Want}
-use Rattle.{percpu_rwsem.specs.declared.readers.{DownRead.DownRead, DownReadStep.DownReadStep}, std.specs.Prelude.{Bool, Ok, false, true, ℕ}}
+use Rattle.percpu_rwsem.specs.declared.readers.{DownRead.DownRead, DownReadStep.DownReadStep}
 
 -- what comes next of a want of an access at a mount, as phases
 abbrev pub of_want : Next Want → Next Phase

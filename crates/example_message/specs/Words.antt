@@ -1,9 +1,10 @@
 -- What word tells, and what a copy has that is made when word came.
-use Rattle.{access_model.specs.Histories.own_part, gate_world.specs.{Headline.{actions_so_far, world_after}, Moments.IsPresentTree}}
-use Rattle.gate_world.specs.declared.{entries.Entry.Entry, operations.Op.TheVariants.Snapshot as SnapshotOp, views.Snapshot.Snapshot}
-use Rattle.{gated_tree.specs.declared.trees.TreeWords.TreeWords, std.specs.Prelude.{IfOk, IfSome, List, Ok, Option, Result, Some, [], true, ℕ, ◌+◌}}
-use Rattle.{std.specs.Prelude.{◌∷◌, ◌≡◌, ◌≤◌}, vfs_gates.specs.{Action.{Action, TheVariants.Grow}, GateError.GateError, Grown.HasSeen}}
-use Rattle.vfs_gates.specs.{Meetings.{Config, SawList, TableId}, Runs.Performs, TaskStates.{SeatedTask, own_view}, declared.Gates.Gates}
+use Rattle.{access_model.specs.Histories.own_part, std.specs.Prelude.{IfOk, IfSome, List, Ok, Option, Result, Some, [], true, ℕ, ◌+◌, ◌∷◌, ◌≡◌, ◌≤◌}}
+use Rattle.gate_world.specs.{Headline.{actions_so_far, world_after}, Moments.IsPresentTree, declared.entries.Entry.Entry}
+use Rattle.gate_world.specs.declared.{operations.Op.TheVariants.Snapshot as SnapshotOp, views.Snapshot.Snapshot}
+use Rattle.gated_tree.specs.declared.trees.TreeWords.{TreeWords}
+use Rattle.vfs_gates.specs.{Action.{Action, TheVariants.Grow}, GateError.GateError, Grown.HasSeen, Meetings.{Config, SawList, TableId}, Runs.Performs}
+use Rattle.vfs_gates.specs.{TaskStates.{SeatedTask, own_view}, declared.Gates.Gates}
 use Rattle.example_message.specs.declared.backup.TreeCopy.{TreeCopy}
 
 -- how often a file was made larger in a list of actions

@@ -4,14 +4,16 @@ use Rattle.gate_runs.proofs.Prelude.{GateError, Gates, Grow, HasWriteAccess, IsR
 use Rattle.gate_runs.proofs.Prelude.{ReadOnly, Repeats, Reply, Rests, Result, SeatedTask, Some, Traced, User, WantWrite, WriterRefused, [], adds, ap}
 use Rattle.gate_runs.proofs.Prelude.{arith, false, inl, inr, own_actions, refl, refusal_at, subst, suc, sym, true, zero, ℕ, ◌++◌, ◌+◌, ◌<◌, ◌∙◌, ◌∷◌}
 use Rattle.gate_runs.proofs.Prelude.{◌≡◌, ◌⊎◌}
+use Rattle.std.proofs.Common.{if◌then◌else◌, lt-ltb, ◌≢◌}
 use Rattle.access_model.specs.{Histories.{levels_of, mounts_of}, Holders.{held_by, nobody}}
 use Rattle.access_model.specs.declared.actions.{Action.TheVariants.{Grant, Hold, Leave, Reopen, Stage}, Gate.TheVariants.{Level, Mount}}
 use Rattle.access_model.specs.declared.errors.GateError.TheVariants.{Hook, Invalid, IsDir, NoEntry, NoSpace, Order, TooMany}
 use Rattle.{cpu_words.specs.Hooks.HookAnswer, freeze_levels.specs.declared.hooks.HookCall.{HookCall, TheVariants.UnfreezeFs}}
-use Rattle.gate_steps.{proofs.call_events.ThawAsks.refused_thaw, specs.call_events.{Asked.{AskedByRefused, failed}, Asking.{Ask, PerformsAsking}}}
-use Rattle.{gate_steps.specs.call_events.Asking.{WereAsked, asks_of}, gate_world.specs.Holdings.{Holdings, held_after, holdings_of}}
-use Rattle.gate_world.specs.{Operations.some_mount, declared.operations.Op.TheVariants.{Callback, Snapshot, Thaw}, traces.Found.found_complete}
-use Rattle.{gate_world.specs.traces.{Found.{found_sealed, found_shared}, Traces.IsHonestAnswer}, std.proofs.Common.{if◌then◌else◌, lt-ltb, ◌≢◌}}
+use Rattle.gate_steps.{proofs.call_events.ThawAsks.refused_thaw, specs.call_events.Asked.{AskedByRefused, failed}}
+use Rattle.gate_steps.specs.call_events.Asking.{Ask, PerformsAsking, WereAsked, asks_of}
+use Rattle.gate_world.specs.{Holdings.{Holdings, held_after, holdings_of}, Operations.some_mount}
+use Rattle.gate_world.specs.{declared.operations.Op.TheVariants.{Callback, Snapshot, Thaw}, traces.Found.{found_complete, found_sealed, found_shared}}
+use Rattle.gate_world.specs.traces.Traces.{IsHonestAnswer}
 use Rattle.vfs_gates.proofs.{Grown.call_stays_seen, Holding.{as_before_twice, keeps, refused_call_keeps, rests_on, unchanged}}
 use Rattle.vfs_gates.{proofs.Returning.{done_idle, return_restores, was_done}, specs.{Frozen.{holders_of, stage_of}, Grown.StaySeen}}
 use Rattle.vfs_gates.specs.{Held.takes_nothing, Runs.{Replies, told_as, unit_of}}

@@ -2,6 +2,7 @@
 use Rattle.gate_runs.proofs.Prelude.{Action, Again, Bool, Called, Config, Create, Err, File, GateError, Gives, HasBegun, List, None, Op, ReadOnly}
 use Rattle.gate_runs.proofs.Prelude.{Reply, Result, SeatedTask, Some, Traced, View, WantWrite, [], adds, ap, arith, false, inl, inr, own_actions}
 use Rattle.gate_runs.proofs.Prelude.{own_number, own_view, refl, spare_of, subst, suc, sym, true, zero, ℕ, ◌++◌, ◌+◌, ◌<◌, ◌∙◌, ◌∷◌, ◌≡◌, ◌≤◌, ◌⊎◌}
+use Rattle.std.proofs.{Common.{if◌then◌else◌, ◌==◌}, lemmas.Bool.{Decides.eqb_tells, and_parts, false≢true}}
 use Rattle.access_model.specs.{Actions.after_action, Histories.{Done, IsLegal, end_of, own_part}, Laws.IsReadOnly, States.{IsDirectory, Limits}}
 use Rattle.access_model.specs.{States.State, declared.{actions.Kind.TheVariants.Dir, errors.GateError.TheVariants.{NoEntry, NoSpace, NotDir}}}
 use Rattle.cpu_words.specs.{Words.read, declared.{events.{Event.Event, Touch.{TheVariants.Load, Touch}}, names.WordName.{TheVariants.Node, WordName}}}
@@ -10,9 +11,9 @@ use Rattle.gate_steps.proofs.call_events.{Grown.only, Moments.actions_append, Sp
 use Rattle.gate_steps.specs.{Seating.{DealtNumbers, HaveHistory, HaveViews, one_if, times}, call_events.{Runs.AreMoves, Spans.IsEventDuring}}
 use Rattle.gate_world.specs.{Configs.{IsWithin, model_limits}, Headline.{actions_since, actions_so_far, world_after}, Rules.Tree, Shown.shown}
 use Rattle.gate_world.specs.{Work.next_of, declared.entries.Entry.{Entry, TheVariants.Steps}, traces.Found.{is_load, says_read_only}}
-use Rattle.{gate_world.specs.traces.Traces.{IsHonestAnswer, actions_of}, gated_tree.specs.Refusals.{finds_file, finds_free, loads_node}}
+use Rattle.gate_world.specs.traces.Traces.{IsHonestAnswer, actions_of}
+use Rattle.gated_tree.specs.Refusals.{finds_file, finds_free, loads_node}
 use Rattle.node_words.specs.Nodes.{dirty_in, kind_in, node_shown, parent_in, removed_in, size_in}
-use Rattle.std.proofs.{Common.{if◌then◌else◌, ◌==◌}, lemmas.Bool.{Decides.eqb_tells, and_parts, false≢true}}
 use Rattle.vfs_gates.proofs.{Rounds.own_ends, several_tasks.{Enclosed.read_only_found, FrozenUntilThawed.{SomeSays, load_finds, some_of}}}
 use Rattle.vfs_gates.specs.Splitting.{HaveDoneNothing}
 use Rattle.gate_runs.{proofs.Keeping.called_stays, specs.Refusals.EndsCreate}

@@ -7,8 +7,9 @@ use Rattle.access_model.specs.declared.errors.GateError.TheVariants.{Busy, Hook}
 use Rattle.cpu_words.specs.{Hooks.HookAnswer, declared.{events.Touch.{TheVariants.And, Touch}, names.WordName.{TheVariants.Node, WordName}}}
 use Rattle.freeze_levels.specs.declared.hooks.HookCall.{HookCall, TheVariants.KeepWaiting}
 use Rattle.gate_steps.{proofs.call_events.{Asked.either_way, FreezeAsks.refused_freeze}, specs.call_events.Asked.{AskedByRefusedFreeze, failed}}
-use Rattle.{gate_steps.specs.call_events.Asking.{Ask, WereAsked, asks_of}, gate_world.specs.Operations.{all_levels_closed, failed_adds}}
-use Rattle.gate_world.specs.{Operations.two_levels_closed, traces.{Found.{clean_found, cleans, gave_up, stored_stage}, Traces.IsHonestAnswer}}
+use Rattle.gate_steps.specs.call_events.Asking.{Ask, WereAsked, asks_of}
+use Rattle.gate_world.specs.Operations.{all_levels_closed, failed_adds, two_levels_closed}
+use Rattle.gate_world.specs.traces.{Found.{clean_found, cleans, gave_up, stored_stage}, Traces.IsHonestAnswer}
 use Rattle.{mount_counts.specs.Phases.has_flag, vfs_gates.specs.{Frozen.{holders_of, stage_of}, Patience.found_somebody, Runs.{told_as, unit_of}}}
 use Rattle.gate_runs.specs.Patience.{FreezesWith, with_patience}
 

@@ -1,8 +1,8 @@
 -- What the task of a thread comes home with: the remounter, which has number 1, and each writer.
-use Rattle.access_model.specs.declared.errors.GateError.{GateError}
+use Rattle.{access_model.specs.declared.errors.GateError.GateError, std.specs.Prelude.{IfErr, IfOk, Result, length, ℕ, ◌++◌, ◌+◌, ◌<◌, ◌≡◌, ◌≤◌}}
 use Rattle.run_plans.specs.{Plans.run_config, declared.{counts.{Remounts.Remounts, Writes.Writes}, plans.Plan.Plan}}
-use Rattle.{std.specs.Prelude.{IfErr, IfOk, Result, length, ℕ, ◌++◌, ◌+◌, ◌<◌, ◌≡◌, ◌≤◌}, vfs_gates.specs.{Grown.StaySeen, Held.Rests, Seating.times}}
-use Rattle.vfs_gates.specs.{Splitting.HasBegun, TaskStates.{IsFrom, SeatedTask, own_number, spare_of}, declared.Gates.Gates}
+use Rattle.vfs_gates.specs.{Grown.StaySeen, Held.Rests, Seating.times, Splitting.HasBegun, TaskStates.{IsFrom, SeatedTask, own_number, spare_of}}
+use Rattle.vfs_gates.specs.declared.Gates.{Gates}
 use Rattle.gate_runs.specs.{Counts.{both, no_remounts, no_writes}, Keeping.HaveNotFrozen, Observers.was_held, Parts.{Remounted, Wrote}}
 use Rattle.gate_runs.specs.{Refusals.WriterRefused, Rounds.{RemountRound, Repeats, WriterRound}, declared.threads.Met.Met}
 use Rattle.gate_runs.specs.declared.threads.Met.TheVariants.{Remounter, Writer}

@@ -1,8 +1,8 @@
 -- How long a freeze of a run waits for who is inside a level: how often it looks again before it gives up.
+use Rattle.std.specs.Prelude.{Bool, Err, None, Ok, Option, Result, Some, false, suc, true, zero, ℕ, ◌≡◌}
 use Rattle.access_model.specs.declared.{actions.Holder.TheVariants.User, errors.GateError.{GateError, TheVariants.Hook}}
 use Rattle.{cpu_words.specs.Hooks.HookAnswer, freeze_levels.specs.declared.hooks.HookCall.{HookCall, TheVariants.KeepWaiting}}
 use Rattle.{gate_steps.specs.call_events.Asking.PerformsAsking, gate_world.specs.declared.operations.Op.TheVariants.Freeze}
-use Rattle.std.specs.Prelude.{Bool, Err, None, Ok, Option, Result, Some, false, suc, true, zero, ℕ, ◌≡◌}
 use Rattle.vfs_gates.specs.{Patience.found_somebody, TaskStates.SeatedTask}
 
 -- What who has so much patience answers to whether to look again, and what is left of it. None has no end. Each look uses up one, and where none is left

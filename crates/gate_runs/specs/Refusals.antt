@@ -1,8 +1,9 @@
 -- Which refusals of a call end a run, why it was refused so, and why a run is refused whose numbers are within their limits.
+use Rattle.std.specs.Prelude.{Err, None, true, ℕ, ◌+◌, ◌<◌, ◌≡◌, ◌⊎◌}
 use Rattle.access_model.specs.{Holders.held_by, declared.{actions.{Holder.TheVariants.User, Kind.TheVariants.File}, errors.GateError.GateError}}
 use Rattle.access_model.specs.declared.errors.GateError.TheVariants.{Again, Busy, Invalid, IsDir, NoEntry, NoMemory, NoSpace}
-use Rattle.{gate_world.specs.declared.operations.Op.{Op, TheVariants.{Create, Freeze, Grow, WantWrite}}, run_plans.specs.Plans.processor_of}
-use Rattle.{run_plans.specs.{Plans.run_config, declared.counts.Writes.Writes}, std.specs.Prelude.{Err, None, true, ℕ, ◌+◌, ◌<◌, ◌≡◌, ◌⊎◌}}
+use Rattle.gate_world.specs.declared.operations.Op.{Op, TheVariants.{Create, Freeze, Grow, WantWrite}}
+use Rattle.run_plans.specs.{Plans.{processor_of, run_config}, declared.counts.Writes.Writes}
 use Rattle.vfs_gates.specs.{Frozen.{MayFreeze, NeedsFreeze, holders_of}, Grown.StaySeen, Held.{IsAsBefore, Rests, own_actions}, Runs.Called}
 use Rattle.vfs_gates.specs.{Splitting.{Gives, HasBegun}, TaskStates.{IsFrom, SeatedTask, own_number, refusal_at}, declared.Gates.Gates}
 use Rattle.gate_runs.specs.{Counts.no_writes, Rounds.{CreatesFile, Does, IsRefused, Repeats, Takes, WriterRound}}

@@ -1,10 +1,11 @@
 -- What each task of a run does, call by call, and when who looks on is called.
+use Rattle.std.specs.Prelude.{Bool, Err, None, Ok, Option, Some, false, suc, true, zero, ℕ, ◌+◌, ◌≡◌, ◌⊎◌}
 use Rattle.access_model.specs.declared.{actions.{Holder.TheVariants.User, Kind.TheVariants.File}, errors.GateError.GateError}
 use Rattle.access_model.specs.declared.errors.GateError.TheVariants.{Again, Busy, ReadOnly}
 use Rattle.gate_world.specs.declared.operations.Op.{Op, TheVariants.{Callback, ChangeMount, Create, DropWrite, Grow, Snapshot, Thaw, WantWrite}}
 use Rattle.run_plans.specs.{Plans.processor_of, declared.counts.{Copies.Copies, Remounts.Remounts, Tried.TheVariants.{Copied, GaveUp as GivenUp}}}
-use Rattle.{run_plans.specs.declared.counts.{Tried.Tried, Writes.Writes}, std.specs.Prelude.{Bool, Err, None, Ok, Option, Some, false, suc, true}}
-use Rattle.{std.specs.Prelude.{zero, ℕ, ◌+◌, ◌≡◌, ◌⊎◌}, vfs_gates.specs.{Runs.{Performs, Replies, node_of, ran_of}, TaskStates.SeatedTask}}
+use Rattle.run_plans.specs.declared.counts.{Tried.Tried, Writes.Writes}
+use Rattle.vfs_gates.specs.{Runs.{Performs, Replies, node_of, ran_of}, TaskStates.SeatedTask}
 use Rattle.gate_runs.specs.{Counts.{blocks_of, with_ran, with_round, with_try, with_waits}, Patience.{Froze, GaveUp}}
 
 -- so many rounds from one state to another, by their numbers from 0, each going on where the one before it ended

@@ -1,7 +1,7 @@
 -- What a run tells of its gates once they are closed.
+use Rattle.std.specs.Prelude.{None, Option, slice_index, ℕ, ◌*◌, ◌≡◌}
 use Rattle.cpu_words.specs.{Names.{place, stride}, declared.names.WordName.TheVariants.Used}
-use Rattle.run_plans.specs.{Plans.run_config, declared.counts.{Details.Details, Totals.Totals}}
-use Rattle.{std.specs.Prelude.{None, Option, slice_index, ℕ, ◌*◌, ◌≡◌}, vfs_gates.specs.Ended.{ClosedState, Ended}}
+use Rattle.{run_plans.specs.{Plans.run_config, declared.counts.{Details.Details, Totals.Totals}}, vfs_gates.specs.Ended.{ClosedState, Ended}}
 use Rattle.gate_runs.specs.{Counts.{CountsRounds, gave_up_told}, Parts.{AllDid, EndsAs}}
 
 -- What a run tells of gates that are closed: the blocks that their files have in the end, and that nothing is held. In the state that they

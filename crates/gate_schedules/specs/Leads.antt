@@ -1,8 +1,9 @@
 -- What a sum in progress is sure to find, at a mount as at a level.
+use Rattle.std.specs.Prelude.{ℕ, ◌*◌, ◌+◌, ◌<◌, ◌≡◌, ◌≤◌}
 use Rattle.{cpu_words.specs.{Sums.lead, gate_counts.{Gates.unread, Levels.{Summing as SumsLevel, level_as_gate}}}, finite_sums.specs.Sums.total}
 use Rattle.gate_world.specs.{Headline.LevelsLead, Levels.{at_level, level_role_of}, Rules.{at_mount, role_of}, Worlds.World}
-use Rattle.{gate_world.specs.declared.config.Config.Config, mount_counts.specs.Roles.{Summing, admitted, hold_bit, mount_as_gate}}
-use Rattle.std.specs.Prelude.{ℕ, ◌*◌, ◌+◌, ◌<◌, ◌≡◌, ◌≤◌}
+use Rattle.gate_world.specs.declared.config.Config.{Config}
+use Rattle.mount_counts.specs.Roles.{Summing, admitted, hold_bit, mount_as_gate}
 
 -- who seeks an access at a mount, isn't admitted, and has added to word k or a later one
 abbrev pub to_come_at_mount : Config → World → ℕ → ℕ → ℕ

@@ -4,16 +4,17 @@ use Rattle.gate_steps.proofs.Prelude.{Op, Option, Phase, Some, TableInvariantHol
 use Rattle.gate_steps.proofs.Prelude.{done_by, entered, first_phase, found_by, get_elem?, held_of, items_after, items_of, knows, length, map, next_of}
 use Rattle.gate_steps.proofs.Prelude.{place, refl, set, some, subst, suc, sym, table_index, table_length, view_after_with_others, ℕ, ◌<◌, ◌∙◌, ◌∷◌}
 use Rattle.gate_steps.proofs.Prelude.{◌≡◌}
+use Rattle.std.proofs.{Common.{is_some, length-set, slice_index}, lemmas.List.map-set}
 use Rattle.access_model.specs.{Histories.{Done, IsLegal, IsMerge, end_of}, States.State as Shown}
-use Rattle.{atomic_table.specs.Table.{Allows, Me, State, keeps}, cpu_words.specs.{Names.{IsWord, words_in_all}, Touches.left}}
-use Rattle.{cpu_words.specs.Words.{Words, put, read}, finite_sums.{proofs.Totals.{update_at, update_off}, specs.Sums.update}}
-use Rattle.{freeze_laws.specs.moments.Moments.HaveDone, gate_schedules.proofs.frames.{Snapshots.others_apart, ValidWords.events_may_be}}
-use Rattle.gate_schedules.proofs.{operations.AllOperations.phase_keeps, schedules.{Beginnings.may_begin, Lists.{begin_lists, beside_lists}}}
-use Rattle.gate_schedules.proofs.schedules.{Phases.word_there, Schedule.{begun_keeps, legal_more}, Snapshots.{begin_moments, beside_moments}}
-use Rattle.{gate_schedules.proofs.trees.worlds.Frozen.frozen_whole, gate_world.specs.{Beginnings.view_refusal, Configs.{extents_kept, model_limits}}}
-use Rattle.gate_world.specs.{Fits.Fits, Moments.AllHaveMoments, Rules.{Fitting, IsGood, Moves, StepKeeps}, Shown.shown, Views.begun_view}
-use Rattle.gate_world.specs.Worlds.{after_step, after_step_with_others, found_at, phase_action, value_at, with_action, words_after}
-use Rattle.{gate_world.specs.traces.TraceStates.ReadIsValid, std.proofs.{Common.{is_some, length-set, slice_index}, lemmas.List.map-set}}
+use Rattle.atomic_table.specs.Table.{Allows, Me, State, keeps}
+use Rattle.cpu_words.specs.{Names.{IsWord, words_in_all}, Touches.left, Words.{Words, put, read}}
+use Rattle.{finite_sums.{proofs.Totals.{update_at, update_off}, specs.Sums.update}, freeze_laws.specs.moments.Moments.HaveDone}
+use Rattle.gate_schedules.proofs.{frames.{Snapshots.others_apart, ValidWords.events_may_be}, operations.AllOperations.phase_keeps}
+use Rattle.gate_schedules.proofs.schedules.{Beginnings.may_begin, Lists.{begin_lists, beside_lists}, Phases.word_there, Schedule.begun_keeps}
+use Rattle.gate_schedules.proofs.{schedules.{Schedule.legal_more, Snapshots.{begin_moments, beside_moments}}, trees.worlds.Frozen.frozen_whole}
+use Rattle.gate_world.specs.{Beginnings.view_refusal, Configs.{extents_kept, model_limits}, Fits.Fits, Moments.AllHaveMoments}
+use Rattle.gate_world.specs.{Rules.{Fitting, IsGood, Moves, StepKeeps}, Shown.shown, Views.begun_view, Worlds.{after_step, after_step_with_others}}
+use Rattle.gate_world.specs.{Worlds.{found_at, phase_action, value_at, with_action, words_after}, traces.TraceStates.ReadIsValid}
 use Rattle.gate_steps.proofs.{Dealing.{inside, known_here, redealt, times-at}, Growing.seen_all, Reaching.{begun_reached, stepped_reached}}
 use Rattle.gate_steps.{proofs.{Stores.there_found, TableWords.table_written}, specs.Histories.{HasHistory, IsReached, then_begins, then_steps}}
 use Rattle.gate_steps.specs.{Rules.TableShows, Seating.{NumberMayStep, OwnNumberMayStep, happened, world_entered}}

@@ -1,9 +1,9 @@
 -- What the core's calls answer, in the state that its memory shows.
+use Rattle.std.specs.Prelude.{None, Option, Result, Some, if◌then◌else◌, nat_lt, ℕ}
 use Rattle.access_model.specs.declared.{errors.GateError.GateError, replies.Next.{Next, TheVariants.{Done, Go, Wait}}}
 use Rattle.{cpu_words.specs.{Hooks.HookAnswer, Touches.event_of}, freeze_levels.specs.declared.hooks.HookKind.HookKind}
 use Rattle.gate_world.specs.{Beginnings.or_refusal, Work.{after_of, hook_of, next_of}, Worlds.{World, begin_refusal, found_at, value_at}}
 use Rattle.gate_world.specs.declared.{config.Config.Config, operations.Op.Op, work.Phase.Phase}
-use Rattle.std.specs.Prelude.{None, Option, Result, Some, if◌then◌else◌, nat_lt, ℕ}
 use Rattle.gate_transitions.specs.declared.steps.{Progress.{Progress, TheVariants.{Done as Ended, Going, Idle, Waiting}}, Step.Step}
 
 -- the refusal, where there is one

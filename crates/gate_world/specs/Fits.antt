@@ -1,5 +1,6 @@
 -- What a phase says of its numbers and of its task's own accesses: they are accesses with which its operation may begin, as its own
 -- actions have changed them since.
+use Rattle.std.specs.Prelude.{Bool, None, Option, Some, false, true, ℕ, ◌<◌, ◌≡◌, ◌≤◌, ◌⊎◌}
 use Rattle.access_model.specs.{Holders.{held_by, is_unheld, with_holder}, declared.actions.Action.{Action, TheVariants.{Close, Grant, Open, Return}}}
 use Rattle.access_model.specs.declared.actions.{Gate.TheVariants.{Level, Mount}, Holder.Holder, Kind.TheVariants.File}
 use Rattle.composite_ops.specs.declared.file_closes.phases.ClosePhase.{ClosePhase, TheVariants.{Enters, FreesNode, Leaves as CloseLeaves}}
@@ -14,11 +15,11 @@ use Rattle.freeze_levels.specs.declared.thaws.ThawStep.TheVariants.{Leaves, Reop
 use Rattle.gated_tree.specs.{Calls.TreePhaseFits, declared.phases.TreePhase.TheVariants.{ClearMarks as TreeClears, Mark as TreeMarks}}
 use Rattle.gated_tree.specs.declared.phases.TreePhase.{TheVariants.{OpenFile as OpensOne, Snapshot as Snapshots}, TreePhase}
 use Rattle.mount_counts.specs.declared.phases.{ChangeStep.{ChangeStep, TheVariants.Sums}, MountPhase.{MountPhase, TheVariants.{Change, Drop, Want}}}
-use Rattle.{node_words.specs.{Nodes.IsLawful, declared.nodes.NodeWord.NodeWord}, percpu_rwsem.specs.{SyncWords.on_exit, Writers.sum_begun}}
-use Rattle.percpu_rwsem.specs.declared.{callbacks.CallbackStep.{CallbackStep, TheVariants.AwaitsSections}, readers.DownRead.DownRead}
-use Rattle.percpu_rwsem.specs.declared.{readers.DownReadStep.{DownReadStep, TheVariants.LeavesAdmitted}, writers.DownWrite.DownWrite}
-use Rattle.percpu_rwsem.specs.declared.writers.DownWriteStep.{DownWriteStep, TheVariants.{AwaitsSections as AwaitsReaders, Sums as SumsLevel}}
-use Rattle.{percpu_rwsem.specs.declared.writers.UpWrite.UpWrite, std.specs.Prelude.{Bool, None, Option, Some, false, true, ℕ, ◌<◌, ◌≡◌, ◌≤◌, ◌⊎◌}}
+use Rattle.node_words.specs.{Nodes.IsLawful, declared.nodes.NodeWord.NodeWord}
+use Rattle.percpu_rwsem.specs.{SyncWords.on_exit, Writers.sum_begun, declared.callbacks.CallbackStep.{CallbackStep, TheVariants.AwaitsSections}}
+use Rattle.percpu_rwsem.specs.declared.readers.{DownRead.DownRead, DownReadStep.{DownReadStep, TheVariants.LeavesAdmitted}}
+use Rattle.percpu_rwsem.specs.declared.writers.{DownWrite.DownWrite, DownWriteStep.DownWriteStep}
+use Rattle.percpu_rwsem.specs.declared.writers.{DownWriteStep.TheVariants.{AwaitsSections as AwaitsReaders, Sums as SumsLevel}, UpWrite.UpWrite}
 use Rattle.gate_world.specs.{Holdings.Holdings, Operations.{holds_none, holds_none_from, is_writer, may_mark}, Remounts.RemountFits}
 use Rattle.gate_world.specs.{Roles.{close_file, tree_file}, Trees.tree_bounds, declared.{config.Config.Config, work.Phase.Phase}}
 use Rattle.gate_world.specs.declared.work.Phase.TheVariants.{Callbacks, Closes, DownReads, Freezes, Mounts, Remounts, Thaws, Trees, UpReads, Writes}

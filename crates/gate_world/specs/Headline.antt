@@ -1,14 +1,15 @@
 -- The theorem: what holds of every execution.
+use Rattle.std.specs.Prelude.{Bool, Err, List, None, Option, Some, [], false, if◌then◌else◌, true, ℕ, ◌%◌, ◌+◌, ◌<◌, ◌==◌, ◌≡◌, ◌≤◌, ◌⊎◌}
 use Rattle.access_model.specs.{Histories.{Done, IsLegal, IsMerge, end_of}, Holders.held_by, Laws.{IsFrozenStill, NeverLeaves, NobodyHoldsClosed}}
 use Rattle.access_model.specs.{States.{is_removed, one_if}, declared.{actions.Holder.Holder, errors.GateError.GateError}}
 use Rattle.access_model.specs.declared.replies.Next.TheVariants.{Done as Ended}
 use Rattle.cpu_words.specs.{Sums.lead, declared.{events.Touch.{TheVariants.Store, Touch}, names.WordName.{TheVariants.Holders, WordName}}}
-use Rattle.{cpu_words.specs.gate_counts.{Gates.{counted as counted_of, unread}, Levels.{Summing, level_as_gate}}, finite_sums.specs.Sums.total}
-use Rattle.{freeze_laws.specs.levels.Roles.fast, freeze_levels.specs.{Holders.word_of, declared.freezes.FreezeStep.FreezeStep}}
+use Rattle.cpu_words.specs.gate_counts.{Gates.{counted as counted_of, unread}, Levels.{Summing, level_as_gate}}
+use Rattle.{finite_sums.specs.Sums.total, freeze_laws.specs.levels.Roles.fast}
+use Rattle.freeze_levels.specs.{Holders.word_of, declared.freezes.FreezeStep.FreezeStep}
 use Rattle.gated_tree.specs.{Calls.words_loaded, Roles.{seen_as, tree_word}, Trees.{IsClean, IsSound}}
 use Rattle.gated_tree.specs.declared.{phases.TreePhase.TheVariants.Snapshot as Snapshots, snapshots.Snapshot.Snapshot}
 use Rattle.{mount_counts.specs.{Phases.has_flag, Roles.counted}, percpu_rwsem.specs.{SyncWords.unpack, declared.sync_word.SyncWord.SyncWord}}
-use Rattle.std.specs.Prelude.{Bool, Err, List, None, Option, Some, [], false, if◌then◌else◌, true, ℕ, ◌%◌, ◌+◌, ◌<◌, ◌==◌, ◌≡◌, ◌≤◌, ◌⊎◌}
 use Rattle.gate_world.specs.{Configs.model_limits, Levels.{at_level, is_frozen_whole, level_role_of, sync_role_of}, Moments.AllHaveMoments}
 use Rattle.gate_world.specs.{Owners.last_left, Rules.{Moves, at_mount, owns}, Shown.shown, Views.{HoldsAsBefore, held_at, holds_level}}
 use Rattle.gate_world.specs.{Worlds.{World, action_of, happens, history, opening, run, task_of}, declared.{config.Config.Config, entries.Entry.Entry}}

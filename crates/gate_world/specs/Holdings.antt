@@ -1,6 +1,7 @@
 -- What a task holds, of every kind, as one value.
+use Rattle.std.specs.Prelude.{Bool, List, None, Option, Some, ℕ, ◌<◌, ◌≡◌, ◌≤◌}
 use Rattle.access_model.specs.{Actions.{levels_after, mounts_after, opens_after}, Histories.{levels_of, mounts_of, opens_of}}
-use Rattle.{access_model.specs.declared.actions.Action.Action, std.specs.Prelude.{Bool, List, None, Option, Some, ℕ, ◌<◌, ◌≡◌, ◌≤◌}}
+use Rattle.access_model.specs.declared.actions.Action.{Action}
 use Rattle.gate_world.specs.declared.config.Config.{Config}
 
 -- so many accesses at each mount, whether it is inside each level, and which files it has open

@@ -1,9 +1,10 @@
 -- Freeze levels: what each predicate of one reads of the words and of each task's view.
+use Rattle.std.specs.Prelude.{List, Option, Some, [], if◌then◌else◌, ℕ, ◌%◌, ◌+◌, ◌<◌, ◌==◌, ◌∷◌, ◌≡◌}
 use Rattle.composite_ops.specs.declared.{file_closes.phases.ClosePhase.ClosePhase, write_access.phases.WritePhase.WritePhase}
 use Rattle.cpu_words.specs.{Words.Words, declared.events.{Event.Event, Touch.{TheVariants.{Add, Sub}, Touch}}}
 use Rattle.cpu_words.specs.{declared.names.WordName.{TheVariants.LevelCount, WordName}, gate_counts.Levels.{LevelRole, LevelView, Out as CountsNot}}
-use Rattle.{finite_sums.specs.Sums.update, freeze_laws.specs.levels.{Operations.{callback_role, down_read_inside}, Roles.{Out as IsApart, SyncRole}}}
-use Rattle.{freeze_laws.specs.stages.Roles.is_full, std.specs.Prelude.{List, Option, Some, [], if◌then◌else◌, ℕ, ◌%◌, ◌+◌, ◌<◌, ◌==◌, ◌∷◌, ◌≡◌}}
+use Rattle.finite_sums.specs.Sums.{update}
+use Rattle.freeze_laws.specs.{levels.{Operations.{callback_role, down_read_inside}, Roles.{Out as IsApart, SyncRole}}, stages.Roles.is_full}
 use Rattle.gate_world.specs.Roles.{freeze_position, position_count, position_sync, read_level_role, read_sync_role, sync_role_if, thaw_position}
 use Rattle.gate_world.specs.{Views.holds_level, declared.{views.View.View, work.Phase.Phase}}
 

@@ -1,4 +1,6 @@
 -- Two rows for each operation: where it begins, and what is claimed of it. What it does are its steps.
+use Rattle.std.specs.Prelude.{Bool, Err, List, None, Ok, Option, Result, Some, [], false, if◌then◌else◌, nat_lt, not, suc, true, zero, ℕ, ◌&&◌, ◌*◌}
+use Rattle.std.specs.Prelude.{◌++◌, ◌+◌, ◌<◌, ◌||◌, ◌∷◌, ◌≡◌, ◌≢◌, ◌⊎◌}
 use Rattle.access_model.specs.declared.actions.Action.{Action, TheVariants.{Close as CloseAction, Create as CreateAction, Grant, Grow as GrowAction}}
 use Rattle.access_model.specs.declared.actions.Action.TheVariants.{Hold, Leave, MountRo, MountRw, MoveTo as MoveToAction, Open as OpenAction, Pass}
 use Rattle.access_model.specs.declared.actions.Action.TheVariants.{Remove as RemoveAction, Reopen, Return, SbRo, SbRw, Stage as StageAction}
@@ -21,8 +23,7 @@ use Rattle.gated_tree.specs.declared.snapshots.{Snapshot.Snapshot, SnapshotStep.
 use Rattle.mount_counts.specs.declared.phases.{ChangeStep.TheVariants.Locks, MountPhase.TheVariants.{Change as Changes, Drop as Drops, Want as Wants}}
 use Rattle.mount_counts.specs.declared.{phases.WantStep.TheVariants.CountsUp, remounts.RemountStep.TheVariants.Locks as RemountLocks}
 use Rattle.percpu_rwsem.specs.declared.{callbacks.CallbackStep.TheVariants.Claims, readers.DownReadStep.TheVariants.EntersSection}
-use Rattle.{percpu_rwsem.specs.declared.transitions.Transition.TheVariants.Loads, std.specs.Prelude.{Bool, Err, List, None, Ok, Option, Result, Some}}
-use Rattle.std.specs.Prelude.{[], false, if◌then◌else◌, nat_lt, not, suc, true, zero, ℕ, ◌&&◌, ◌*◌, ◌++◌, ◌+◌, ◌<◌, ◌||◌, ◌∷◌, ◌≡◌, ◌≢◌, ◌⊎◌}
+use Rattle.percpu_rwsem.specs.declared.transitions.Transition.TheVariants.{Loads}
 use Rattle.gate_world.specs.{Holdings.Holdings, declared.{config.Config.Config, operations.Op.{Op, TheVariants.{Callback, ChangeMount}}}}
 use Rattle.gate_world.specs.declared.operations.Op.TheVariants.{Close as CloseOp, Create as CreateOp, DropMount, DropWrite, End, Fault as FaultOp}
 use Rattle.gate_world.specs.declared.operations.Op.TheVariants.{Flush as FlushOp, Freeze as FreezeOp, Grow as GrowOp, MoveTo as MoveToOp}

@@ -1,10 +1,10 @@
 -- The invariant: what holds of words and views between any two steps. One predicate for each mount, one for the owner's words.
+use Rattle.std.specs.Prelude.{Bool, None, Option, Some, false, suc, true, ℕ, ◌<◌, ◌≡◌, ◌≤◌}
 use Rattle.access_model.specs.{Actions.{IsAllowed, after_action}, States.{State, openers}, declared.actions.Action.Action}
 use Rattle.{cpu_words.specs.{Hooks.HookAnswer, Words.Words, gate_counts.Levels.LevelHolds}, finite_sums.specs.Sums.total}
 use Rattle.freeze_laws.specs.{levels.Roles.SyncNumberHolds, stages.Roles.{Aside, StageRole, StagesHold}}
 use Rattle.{freeze_levels.specs.holder_laws.Roles.{Apart, HolderRole, HoldersHold}, gated_tree.specs.Roles.TreeHolds}
 use Rattle.{mount_counts.specs.Roles.{MountHolds, MountView, Out, Role}, node_words.specs.Nodes.{dirty_in, opens_in}}
-use Rattle.std.specs.Prelude.{Bool, None, Option, Some, false, suc, true, ℕ, ◌<◌, ◌≡◌, ◌≤◌}
 use Rattle.gate_world.specs.{Configs.model_limits, Fits.{Fits, HasFile, file_of}, Levels.{SectionsAreOdd, at_level, inside, is_frozen_whole}}
 use Rattle.gate_world.specs.{Levels.sync_role_of, Owners.KnowsWords, Remounts.{remount_owns, remount_role, remount_sets}}
 use Rattle.gate_world.specs.Roles.{freeze_holder_role, freeze_owns, freeze_stage_role, mount_owns, mount_role, remount_stage_role, thaw_holder_role}

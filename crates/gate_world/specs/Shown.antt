@@ -1,8 +1,7 @@
 -- The shown state: what words and views show of the access model.
-use Rattle.{access_model.specs.States.State, finite_sums.specs.Sums.total}
+use Rattle.{access_model.specs.States.State, finite_sums.specs.Sums.total, std.specs.Prelude.{Option, Some, if◌then◌else◌, ℕ, ◌&&◌, ◌+◌, ◌==◌, ◌||◌}}
 use Rattle.{freeze_levels.specs.{Holders.holders_in, declared.freezes.FreezeStep.FreezeStep}, mount_counts.specs.Roles.ro_bit}
 use Rattle.{node_words.specs.Nodes.node_shown, percpu_rwsem.specs.declared.writers.DownWriteStep.DownWriteStep}
-use Rattle.std.specs.Prelude.{Option, Some, if◌then◌else◌, ℕ, ◌&&◌, ◌+◌, ◌==◌, ◌||◌}
 use Rattle.gate_world.specs.{Views.{has_open, held_at, holds_level}, Worlds.World, declared.{config.Config.Config, work.Phase.Phase}}
 
 -- 1 where a down-write of its own level sums the words of this one: its `block` is set, and no sum was 0 yet

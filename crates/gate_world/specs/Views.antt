@@ -1,8 +1,10 @@
 -- What is known of one task number, and what its next step makes of it.
+use Rattle.std.specs.Prelude.{Bool, List, None, Option, Some, [], ℕ, ◌+◌, ◌∷◌, ◌≡◌}
 use Rattle.access_model.specs.{Histories.{levels_of, mounts_of, opens_of}, declared.{actions.Action.Action, replies.Next.Next}}
-use Rattle.{access_model.specs.declared.replies.Next.TheVariants.{Done, Go, Wait}, cpu_words.specs.{Hooks.HookAnswer, Touches.{event_of, found_by}}}
-use Rattle.cpu_words.specs.declared.{events.{Event.Event, Touch.{TheVariants.{Add, Sub}, Touch}}, names.WordName.{TheVariants.MountCount, WordName}}
-use Rattle.{finite_sums.specs.Sums.update, std.specs.Prelude.{Bool, List, None, Option, Some, [], ℕ, ◌+◌, ◌∷◌, ◌≡◌}}
+use Rattle.access_model.specs.declared.replies.Next.TheVariants.{Done, Go, Wait}
+use Rattle.cpu_words.specs.{Hooks.HookAnswer, Touches.{event_of, found_by}, declared.events.{Event.Event, Touch.{TheVariants.{Add, Sub}, Touch}}}
+use Rattle.cpu_words.specs.declared.names.WordName.{TheVariants.MountCount, WordName}
+use Rattle.finite_sums.specs.Sums.{update}
 use Rattle.gate_world.specs.{Holdings.{Holdings, holdings_of}, Work.{after_of, next_of}, declared.{operations.Op.Op, views.Traced.Traced}}
 use Rattle.gate_world.specs.{declared.{views.View.View, work.Phase.Phase}, traces.Snapshots.{completes, last_snapshot}}
 

@@ -1,14 +1,15 @@
 -- The phases of all layers as one.
-use Rattle.access_model.specs.{Replies.map_next, declared.{actions.Action.Action, replies.Next.Next}}
+use Rattle.{access_model.specs.{Replies.map_next, declared.{actions.Action.Action, replies.Next.Next}}, std.specs.Prelude.{None, Option, ℕ, ◌≡◌}}
 use Rattle.composite_ops.specs.declared.write_access.phases.WritePhase.{TheVariants.{Drops, Ends, GivesBack, Takes, Wants}, WritePhase}
 use Rattle.composite_ops.specs.file_closes.Phases.{after as close_after, next as close_next}
 use Rattle.composite_ops.specs.write_access.Phases.{after as write_after, leaves_on, next as write_next}
-use Rattle.{cpu_words.specs.{Hooks.HookAnswer, declared.{events.Touch.Touch, names.WordName.WordName}}, freeze_levels.specs.Freezes.freeze_after}
-use Rattle.freeze_levels.specs.{Freezes.{freeze_hook, freeze_next}, Thaws.{thaw_after, thaw_hook, thaw_next}, declared.hooks.HookKind.HookKind}
-use Rattle.{gated_tree.specs.Phases.{after as tree_after, next as tree_next}, mount_counts.specs.Phases.{after, next}}
-use Rattle.mount_counts.specs.{Remounts.{remount_after, remount_next}, declared.phases.MountPhase.TheVariants.{Drop as PlainDrop, Want as PlainWant}}
+use Rattle.cpu_words.specs.{Hooks.HookAnswer, declared.{events.Touch.Touch, names.WordName.WordName}}
+use Rattle.freeze_levels.specs.{Freezes.{freeze_after, freeze_hook, freeze_next}, Thaws.{thaw_after, thaw_hook, thaw_next}}
+use Rattle.freeze_levels.specs.declared.hooks.HookKind.{HookKind}
+use Rattle.gated_tree.specs.Phases.{after as tree_after, next as tree_next}
+use Rattle.mount_counts.specs.{Phases.{after, next}, Remounts.{remount_after, remount_next}}
+use Rattle.mount_counts.specs.declared.phases.MountPhase.TheVariants.{Drop as PlainDrop, Want as PlainWant}
 use Rattle.percpu_rwsem.specs.{Callbacks.{callback_after, callback_next}, Readers.{down_read_after, down_read_next, up_read_after, up_read_next}}
-use Rattle.std.specs.Prelude.{None, Option, ℕ, ◌≡◌}
 use Rattle.gate_world.specs.{Roles.remount_hook, declared.work.Phase.Phase}
 use Rattle.gate_world.specs.declared.work.Phase.TheVariants.{Callbacks, Closes, DownReads, Freezes, Mounts, Remounts, Thaws, Trees, UpReads, Writes}
 

@@ -1,7 +1,7 @@
 -- A state, which is the words and one view per task number, and what a transition does to it.
+use Rattle.std.specs.Prelude.{List, None, Option, Some, [], if◌then◌else◌, nat_lt, ℕ, ◌∷◌}
 use Rattle.access_model.specs.{Histories.Done, declared.{actions.Action.Action, errors.GateError.{GateError, TheVariants.Invalid}}}
 use Rattle.{cpu_words.specs.{Hooks.HookAnswer, Touches.{found_by, left}, Words.{Words, opening_words, put, read}}, finite_sums.specs.Sums.update}
-use Rattle.std.specs.Prelude.{List, None, Option, Some, [], if◌then◌else◌, nat_lt, ℕ, ◌∷◌}
 use Rattle.gate_world.specs.{Beginnings.{first_phase, view_refusal}, Views.{begun_view, opening_view, view_after_with_others}}
 use Rattle.gate_world.specs.{Work.{after_of, next_of}, declared.{config.Config.Config, entries.Entry.{Entry, TheVariants.{Begins, Steps}}}}
 use Rattle.gate_world.specs.declared.{operations.Op.Op, views.View.View, work.Phase.Phase}

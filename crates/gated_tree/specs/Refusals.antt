@@ -1,9 +1,10 @@
 -- Why a call at the tree is refused: tests of one step, and for each call what its steps must have found. `Seen test` is that some
 -- step of the call passed the test.
-use Rattle.access_model.specs.declared.errors.GateError.{GateError, TheVariants.{Again, Invalid, IsDir, NoEntry, NoSpace, NotDir}}
-use Rattle.cpu_words.specs.declared.{events.{Event.Event, Touch.{TheVariants.{Cas, Load}, Touch}}, names.WordName.TheVariants.{Node, Stage, Umount}}
-use Rattle.{cpu_words.specs.declared.names.WordName.{TheVariants.Used, WordName}, node_words.specs.Nodes.{kind_in, removed_in, size_in}}
 use Rattle.std.specs.Prelude.{Bool, false, nat_lt, not, true, ℕ, ◌&&◌, ◌+◌, ◌<◌, ◌==◌, ◌||◌, ◌≡◌, ◌≤◌, ◌⊎◌}
+use Rattle.access_model.specs.declared.errors.GateError.{GateError, TheVariants.{Again, Invalid, IsDir, NoEntry, NoSpace, NotDir}}
+use Rattle.cpu_words.specs.declared.events.{Event.Event, Touch.{TheVariants.{Cas, Load}, Touch}}
+use Rattle.cpu_words.specs.declared.names.WordName.{TheVariants.{Node, Stage, Umount, Used}, WordName}
+use Rattle.node_words.specs.Nodes.{kind_in, removed_in, size_in}
 use Rattle.gated_tree.specs.declared.{changes.{Create.Create, MoveTo.MoveTo}, growth.Grow.Grow, snapshots.Snapshot.Snapshot}
 
 -- the step loads this node

@@ -1,8 +1,8 @@
 -- The tree behind the gates: what holds of its words between any two steps, and what that reads of each task's phase.
-use Rattle.access_model.specs.{States.{IsDirectory, is_dirty, is_removed, one_if, size_of}, declared.actions.Kind.TheVariants.File}
-use Rattle.{access_model.specs.declared.actions.NodeInfo.NodeInfo, finite_sums.specs.Sums.total}
-use Rattle.node_words.specs.{Nodes.{IsNode, node_shown, word_of}, declared.nodes.NodeWord.NodeWord}
 use Rattle.std.specs.Prelude.{None, Option, Some, false, if◌then◌else◌, nat_le, nat_lt, suc, true, zero, ℕ, ◌+◌, ◌-◌, ◌<◌, ◌==◌, ◌||◌, ◌≡◌, ◌≤◌}
+use Rattle.access_model.specs.{States.{IsDirectory, is_dirty, is_removed, one_if, size_of}, declared.actions.Kind.TheVariants.File}
+use Rattle.access_model.specs.declared.actions.NodeInfo.{NodeInfo}
+use Rattle.{finite_sums.specs.Sums.total, node_words.specs.{Nodes.{IsNode, node_shown, word_of}, declared.nodes.NodeWord.NodeWord}}
 use Rattle.gated_tree.specs.Trees.{is_child, is_same}
 
 -- What a task is doing at the tree. `file` is its file's node as it was loaded, `dir` a directory's number, `blocks` a charge.

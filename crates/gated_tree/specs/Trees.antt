@@ -1,8 +1,9 @@
 -- A snapshot of the tree: what it shows, and when it is sound and clean.
+use Rattle.std.specs.Prelude.{Bool, None, Option, Some, false, if◌then◌else◌, is_some, length, not, replicate, slice_index, slice_set, suc, zero, ℕ}
+use Rattle.std.specs.Prelude.{◌<◌, ◌==◌, ◌≡◌}
 use Rattle.access_model.specs.{States.{IsDirectory, is_dirty, size_of}, declared.actions.NodeInfo.NodeInfo}
 use Rattle.{cpu_words.specs.declared.names.WordName.{TheVariants.{Kids, Node, Used}, WordName}, finite_sums.specs.Sums.total}
-use Rattle.{node_words.specs.Nodes.{node_after, node_shown}, std.specs.Prelude.{Bool, None, Option, Some, false, if◌then◌else◌, is_some, length, not}}
-use Rattle.std.specs.Prelude.{replicate, slice_index, slice_set, suc, zero, ℕ, ◌<◌, ◌==◌, ◌≡◌}
+use Rattle.node_words.specs.Nodes.{node_after, node_shown}
 use Rattle.gated_tree.specs.declared.{snapshots.SnapshotStep.{SnapshotStep, TheVariants.LoadsKids}, trees.{Tree.Tree, TreeWords.TreeWords}}
 
 -- the words of a snapshot

@@ -1,13 +1,13 @@
 -- How the program ends that did what was asked for.
+use Rattle.std.proofs.Common.{Bool, Err, IfOk, List, None, Ok, Option, Result, Some, ap, false, inl, inr, refl, subst, suc, sym, true, zero, ℕ, ◌∙◌}
+use Rattle.std.{proofs.Common.{◌≡◌, ◌⊎◌}, specs.Borrow.Bor}
 use Rattle.command_line.specs.{CommandLine.IsPlainOfInput, declared.words.{Numbers.Numbers, OutcomeForm.TheVariants.Text, Outcomes.Outcomes}}
 use Rattle.command_line.specs.declared.words.{ProgramRequest.ProgramRequest, Replay.Replay, ReplayForm.ReplayForm}
 use Rattle.command_line.specs.declared.words.{ReplayForm.TheVariants.{Columns, Events, Html, Json, Plain}, Validation.Validation}
 use Rattle.exit_status.specs.{Endings.of_file, declared.ends.ProgramEnding.{ProgramEnding, TheVariants.{Blessed, Done, DoneOfFile, DoneOverGates}}}
 use Rattle.exit_status.specs.declared.ends.ProgramEnding.TheVariants.{Listed, Misused, Passed, Possible, Ran, Refused, Shown, Told}
 use Rattle.{program_checks.specs.Checks.{TellsPassed, count_checked}, program_replay.specs.Replays.{EndsReplayed, done_in, done_of, ending_of}}
-use Rattle.{schedule_lines.specs.declared.bytes.replay_faults.ReplayFault.ReplayFault, std.proofs.Common.{Bool, Err, IfOk, List, None, Ok, Option}}
-use Rattle.std.{proofs.Common.{Result, Some, ap, false, inl, inr, refl, subst, suc, sym, true, zero, ℕ, ◌∙◌, ◌≡◌, ◌⊎◌}, specs.Borrow.Bor}
-use Rattle.transcripts.specs.Replayed.{Replayed}
+use Rattle.{schedule_lines.specs.declared.bytes.replay_faults.ReplayFault.ReplayFault, transcripts.specs.Replayed.Replayed}
 use Rattle.mntgate.specs.{Asking.{EndsAsked, EndsOutcomes, EndsReplay, EndsRun, TellsSomePassed}, Outcomes.EndsTold, Validated.EndsValidated}
 use Rattle.mntgate.specs.Validated.EndsValidated.{HasNoVerdict, IsCutOff, IsImpossible, IsPossible, IsUnread}
 use mathlib.Core.Bool.{true≢false}

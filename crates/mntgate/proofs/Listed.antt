@@ -1,11 +1,12 @@
 -- How the program ends that was asked for the outcomes of a race.
+use Rattle.std.proofs.Common.{Bool, Err, IfErr, IfOk, IsTrue, List, None, Ok, Option, Result, Some, [], ap, arith, false, inl, inr, refl, subst, sym}
+use Rattle.std.{proofs.{Common.{true, ℕ, ◌++◌, ◌<◌, ◌↔◌, ◌∙◌, ◌≡◌, ◌≤◌, ◌⊎◌}, lemmas.Bool.cases_lt}, specs.Io.KnownBytes.{Appends, Keeps}}
+use Rattle.std.specs.Result.{OnErr, OnOk}
 use Rattle.{command_line.specs.declared.words.Outcomes.Outcomes, exit_status.specs.declared.ends.ProgramEnding.ProgramEnding}
 use Rattle.{gate_core.specs.Memory.Memory, outcome_forms.specs.Told.{TellsAll, TellsSome}}
 use Rattle.{program_checks.specs.{Claims.{PrintsClaims, TellsClaims}, declared.claims.Judged.Judged}, race_files.specs.{Left.Left, Races.IsRaceIn}}
-use Rattle.{race_outcomes.specs.Outcomes.{HaveOwnTexts, IsIdle}, races.specs.declared.calls.Call.Call, schedule_lines.specs.bytes.Writing.AppendsPart}
-use Rattle.{schedule_lines.specs.declared.{faults.Fault.TheVariants.WriteFailed, output.Output.Output}, std.proofs.Common.{Bool, Err, IfErr, IfOk}}
-use Rattle.std.proofs.Common.{IsTrue, List, None, Ok, Option, Result, Some, [], ap, arith, false, inl, inr, refl, subst, sym, true, ℕ, ◌++◌, ◌<◌, ◌↔◌}
-use Rattle.std.{proofs.{Common.{◌∙◌, ◌≡◌, ◌≤◌, ◌⊎◌}, lemmas.Bool.cases_lt}, specs.{Io.KnownBytes.{Appends, Keeps}, Result.{OnErr, OnOk}}}
+use Rattle.{race_outcomes.specs.Outcomes.{HaveOwnTexts, IsIdle}, races.specs.declared.calls.Call.Call}
+use Rattle.schedule_lines.specs.{bytes.Writing.AppendsPart, declared.{faults.Fault.TheVariants.WriteFailed, output.Output.Output}}
 use Rattle.mntgate.specs.Outcomes.{IsListed, IsUnlisted, IsUnlisted.IsCutOff, TellsAs, TellsRace, details_of, list_ending, method_of, outcomes_told}
 use Rattle.mntgate.specs.declared.unlisted.Unlisted.{TheVariants.Unwritten, Unlisted}
 

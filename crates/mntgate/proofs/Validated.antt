@@ -1,8 +1,9 @@
 -- How the program ends that was asked about a history.
-use Rattle.{command_line.specs.declared.words.Validation.Validation, exit_status.specs.declared.ends.ProgramEnding.ProgramEnding}
-use Rattle.{exit_status.specs.declared.ends.ProgramEnding.TheVariants.{Possible, Refused}, history_files.specs.Verdicts.{HasPossible, IsImpossibleAt}}
-use Rattle.{history_files.specs.declared.telling.Impossible.Impossible, schedule_lines.specs.bytes.Writing.AppendsPart}
 use Rattle.std.{proofs.Common.{IfSome, List, None, Option, Some, inl, inr, refl, ℕ, ◌≡◌, ◌⊎◌}, specs.Io.KnownBytes.Appends}
+use Rattle.command_line.specs.declared.words.Validation.{Validation}
+use Rattle.exit_status.specs.declared.ends.ProgramEnding.{ProgramEnding, TheVariants.{Possible, Refused}}
+use Rattle.history_files.specs.{Verdicts.{HasPossible, IsImpossibleAt}, declared.telling.Impossible.Impossible}
+use Rattle.schedule_lines.specs.bytes.Writing.{AppendsPart}
 use Rattle.mntgate.specs.Validated.{AreRead, EndsValidated, EndsValidated.{IsCutOff, IsImpossible, IsPossible}}
 
 -- a verdict was printed

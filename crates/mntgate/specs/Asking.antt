@@ -1,10 +1,11 @@
 -- What the program does that is asked for something, and how it ends.
+use Rattle.std.specs.{Borrow.Bor, Prelude.{List, None, Option, Some, codes, false, suc, vec_len, ℕ, ◌≡◌, ◌⊎◌}}
 use Rattle.command_line.specs.declared.words.{Numbers.Numbers, OutcomeForm.TheVariants.Text, Outcomes.Outcomes, ProgramRequest.ProgramRequest}
 use Rattle.command_line.specs.declared.words.{Replay.Replay, ReplayForm.TheVariants.Plain}
 use Rattle.exit_status.specs.declared.ends.ProgramEnding.{ProgramEnding, TheVariants.{Blessed, Listed, Misused, Passed, Ran, Refused, Told}}
-use Rattle.{gate_runs.specs.Told.WasRun, program_checks.specs.Checks.{TellsPassed, count_checked}, program_replay.specs.Replays.EndsReplayed}
-use Rattle.{program_replay.specs.Replays.{EndsReplayedFile, EndsReplayedNamed, IsRefusedUnread, done_in, done_of}, run_plans.specs.Meetings.unseen}
-use Rattle.{run_plans.specs.Plans.MayRun, std.specs.{Borrow.Bor, Prelude.{List, None, Option, Some, codes, false, suc, vec_len, ℕ, ◌≡◌, ◌⊎◌}}}
+use Rattle.{gate_runs.specs.Told.WasRun, program_checks.specs.Checks.{TellsPassed, count_checked}}
+use Rattle.program_replay.specs.Replays.{EndsReplayed, EndsReplayedFile, EndsReplayedNamed, IsRefusedUnread, done_in, done_of}
+use Rattle.run_plans.specs.{Meetings.unseen, Plans.MayRun}
 use Rattle.mntgate.specs.{Outcomes.EndsTold, Validated.EndsValidated}
 use Rattle.command_line.specs.declared.words.ProgramRequest.TheVariants as ask
 

@@ -1,14 +1,15 @@
 -- What the program writes of a race.
-use Rattle.{command_line.specs.declared.words.Outcomes.Outcomes, exit_status.specs.{Endings.IsInput, declared.ends.ProgramEnding.ProgramEnding}}
-use Rattle.{exit_status.specs.declared.ends.ProgramEnding.TheVariants.{Listed, Refused}, exploration.specs.declared.stops.Stop.TheVariants.NoMemory}
-use Rattle.{gate_core.specs.Memory.Memory, outcome_forms.specs.{Told.{TellsAll, TellsSome, margin_of, mark_of}, declared.details.Details.Details}}
-use Rattle.outcome_forms.specs.declared.details.Schedules.{Schedules, TheVariants.{Columns, Lines, Untold}}
+use Rattle.std.specs.{Io.KnownBytes.{Appends, Keeps}, Prelude.{All, Bool, IfSome, List, Option, [], false, is_some, true, ℕ, ◌++◌, ◌≡◌}}
+use Rattle.command_line.specs.declared.words.Outcomes.{Outcomes}
+use Rattle.exit_status.specs.{Endings.IsInput, declared.ends.ProgramEnding.{ProgramEnding, TheVariants.{Listed, Refused}}}
+use Rattle.{exploration.specs.declared.stops.Stop.TheVariants.NoMemory, gate_core.specs.Memory.Memory}
+use Rattle.outcome_forms.specs.{Told.{TellsAll, TellsSome, margin_of, mark_of}, declared.details.{Details.Details, Schedules.Schedules}}
+use Rattle.outcome_forms.specs.declared.details.Schedules.TheVariants.{Columns, Lines, Untold}
 use Rattle.program_checks.specs.{Claims.{HasBadClaim, TellsClaims, race_lines}, declared.claims.Judged.{Judged, TheVariants.Hold}}
 use Rattle.race_files.specs.{Calls.is_claim, FirstFaults.IsFaultTold, Left.lines_in, Races.IsRaceIn}
 use Rattle.race_outcomes.specs.{Outcomes.HaveOwnTexts, declared.listing.Method.{Method, TheVariants.{Full, Reduced}}}
 use Rattle.{races.specs.declared.{calls.Call.Call, courses.CallAnswers.CallAnswers}, replay_forms.specs.Styles.style_of}
 use Rattle.schedule_lines.specs.{bytes.Writing.AppendsPart, declared.faults.Fault.TheVariants.WriteFailed}
-use Rattle.std.specs.{Io.KnownBytes.{Appends, Keeps}, Prelude.{All, Bool, IfSome, List, Option, [], false, is_some, true, ℕ, ◌++◌, ◌≡◌}}
 use Rattle.mntgate.specs.declared.unlisted.Unlisted.{TheVariants.{BadClaim, Faulty, Stopped, Unsaved, Unwritten}, Unlisted}
 use Rattle.command_line.specs.declared.words.ScheduleForm as words
 use Rattle.command_line.specs.declared.words.ScheduleForm.TheVariants as words_as

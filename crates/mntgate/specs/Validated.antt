@@ -1,8 +1,9 @@
 -- What the program does that is asked about a history.
+use Rattle.std.specs.{Io.KnownBytes.{Appends, Keeps}, Prelude.{IfSome, List, Option, ℕ, ◌≡◌}}
 use Rattle.command_line.specs.declared.words.Validation.{Validation}
 use Rattle.exit_status.specs.{Endings.IsInput, declared.ends.ProgramEnding.{ProgramEnding, TheVariants.{Possible, Refused}}}
 use Rattle.history_files.specs.{Unjudged.IsUnjudged, Verdicts.{HasPossible, IsImpossibleAt}, declared.validating.Unvalidated.Unvalidated}
-use Rattle.{schedule_lines.specs.bytes.Writing.AppendsPart, std.specs.{Io.KnownBytes.{Appends, Keeps}, Prelude.{IfSome, List, Option, ℕ, ◌≡◌}}}
+use Rattle.schedule_lines.specs.bytes.Writing.{AppendsPart}
 
 -- these bytes are all of what was there to be read, of standard input; of a file's no contract tells
 abbrev pub AreRead : Validation → Option (List ℕ) → List ℕ → Type 0

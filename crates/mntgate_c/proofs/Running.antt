@@ -1,9 +1,9 @@
 -- Runs of steps, a step more at a time.
+use Rattle.std.proofs.Common.{None, Ok, Some, ap, refl, suc, sym, zero, ℕ, ◌∙◌, ◌≡◌}
 use Rattle.{access_model.specs.declared.replies.Next.{Next, TheVariants.{Done, Go, Wait}}, cpu_words.specs.{Hooks.HookAnswer, Touches.found_by}}
 use Rattle.gate_steps.specs.call_events.Stepped.{Stepped}
 use Rattle.gate_transitions.specs.{Answers.{asked_by, progress_of}, declared.steps.{Progress.{Progress, TheVariants.Going}, Step.Step}}
-use Rattle.gate_world.specs.{Views.phase_after, Work.{after_of, next_of}, declared.work.Phase.Phase}
-use Rattle.{std.proofs.Common.{None, Ok, Some, ap, refl, suc, sym, zero, ℕ, ◌∙◌, ◌≡◌}, vfs_gates.specs.TaskStates.SeatedTask}
+use Rattle.{gate_world.specs.{Views.phase_after, Work.{after_of, next_of}, declared.work.Phase.Phase}, vfs_gates.specs.TaskStates.SeatedTask}
 use Rattle.mntgate_c.specs.Runs.{RunsOn, StepsOn}
 
 -- where an operation goes on, a phase comes next

@@ -1,8 +1,8 @@
 -- A task that was split, and took the numbers back, has all its numbers still.
-use Rattle.access_model.specs.declared.errors.GateError.{GateError, TheVariants.{NoMemory, Order, TooMany}}
-use Rattle.{gate_steps.proofs.Giving.times-without_other, gate_world.specs.{Views.opening_view, declared.views.View.View}}
 use Rattle.std.proofs.Common.{[], ap, arith, cond, eq-eqb, eqb, false, inl, inr, length, ne_eqb, refl, subst, sym, true, ℕ, ◌++◌, ◌+◌, ◌↔◌, ◌∙◌, ◌∷◌}
 use Rattle.std.proofs.{Common.{◌≡◌, ◌≢◌, ◌≤◌}, lemmas.Bool.Decides.eqb_tells}
+use Rattle.access_model.specs.declared.errors.GateError.{GateError, TheVariants.{NoMemory, Order, TooMany}}
+use Rattle.{gate_steps.proofs.Giving.times-without_other, gate_world.specs.{Views.opening_view, declared.views.View.View}}
 use Rattle.vfs_gates.{proofs.{Grown.{both_stay_seen, same_stays_seen}, Rounds.{joined_rests, times-append}}, specs.{Grown.StaySeen, Held.Rests}}
 use Rattle.vfs_gates.specs.{Parts.{SplitOf, SplitRefused}, Seating.{DealtNumbers, given_of, kept_of, numbered, renewed, times, view_in, without}}
 use Rattle.vfs_gates.specs.TaskStates.{SeatedTask, own_number, own_view, spare_of}

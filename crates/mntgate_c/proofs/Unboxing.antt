@@ -1,6 +1,7 @@
 -- The machine value of an `Unboxed`: its pointer and its allocator's. Assumes `Logic`.
+use Rattle.std.proofs.Common.{List, [], refl, subst, ℕ, ◌++◌, ◌∷◌, ◌≡◌}
 use Rattle.core.{proofs.{alloc.Calls.{Al, handle_tells}, cell.Inside.Good}, specs.declared.alloc.Allocator.Ghosts}
-use Rattle.{std.proofs.Common.{List, [], refl, subst, ℕ, ◌++◌, ◌∷◌, ◌≡◌}, std_alloc.{proofs.ResultValues.and_tt, specs.Box.Ownership.box_owns}}
+use Rattle.std_alloc.{proofs.ResultValues.and_tt, specs.Box.Ownership.box_owns}
 use base.Logic.{fst∗, never}
 use denote.{Builtin.RawPtr, Memory.lone, Param.{Laws.Laws, layout}, RattleType.{RattleType, Valss}}
 use denote.{RawPtr.{Ptr, block_ptr, in_a_block, null_ptr, ptr_val}, Steps.nothing, Struct.{Owning.shape, Struct.within}}

@@ -1,11 +1,12 @@
 -- What the numbers of a record tell C of a step.
+use Rattle.std.specs.Prelude.{None, Option, Some, if◌then◌else◌, ℕ, ◌+◌, ◌==◌, ◌^◌}
 use Rattle.access_model.specs.declared.actions.Action.{Action, TheVariants.{Clean, Close, Create, Dirty, Grant, Grow, Hold, Leave, MountRo, MountRw}}
 use Rattle.access_model.specs.declared.actions.Action.TheVariants.{MoveTo, Open, Pass, Remove, Reopen, Return, SbRo, SbRw, Stage as StageAction}
 use Rattle.access_model.specs.declared.actions.{Gate.TheVariants.{Level, Mount}, Holder.TheVariants.{Kernel, User}, Kind.TheVariants.{Dir, File}}
 use Rattle.cpu_words.specs.declared.events.{Event.Event, Touch.{TheVariants.{Add, And, Cas, Load, Or, Store, Sub, Swap}, Touch}}
 use Rattle.cpu_words.specs.declared.names.WordName.TheVariants.{Block, Holders, Kids, LevelCount, MountCount, MountFlags, Node, Remount, Removed}
 use Rattle.cpu_words.specs.declared.names.WordName.{TheVariants.{SbFlags, Section, Stage, Sync, Umount, Used}, WordName}
-use Rattle.{gate_transitions.specs.declared.steps.Step.Step, std.specs.Prelude.{None, Option, Some, if◌then◌else◌, ℕ, ◌+◌, ◌==◌, ◌^◌}}
+use Rattle.gate_transitions.specs.declared.steps.Step.{Step}
 use Rattle.mntgate_c.specs.{Codes.progress_at, declared.events.{ActionRecord.ActionRecord, EventRecord.EventRecord, StepRecord.StepRecord}}
 use Rattle.mntgate_c.specs.declared.events.WordRecord.{WordRecord}
 

@@ -1,7 +1,9 @@
 -- What the numbers of a record tell of a configuration.
+use Rattle.std.specs.Prelude.{None, ℕ, ◌↔◌, ◌≡◌, ◌≤◌}
 use Rattle.{access_model.specs.declared.errors.GateError.{GateError, TheVariants.{NoMemory, Order, TooMany}}, gate_steps.specs.Rules.first_known}
-use Rattle.{gate_world.specs.declared.config.Config.Config, std.specs.Prelude.{None, ℕ, ◌↔◌, ◌≡◌, ◌≤◌}, vfs_gates.specs.{Grown.StaySeen, Held.Rests}}
-use Rattle.vfs_gates.specs.{Parts.GaveAll, Seating.{times, view_in}, TaskStates.{SeatedTask, own_number, own_view, task_state}}
+use Rattle.gate_world.specs.declared.config.Config.{Config}
+use Rattle.vfs_gates.specs.{Grown.StaySeen, Held.Rests, Parts.GaveAll, Seating.{times, view_in}}
+use Rattle.vfs_gates.specs.TaskStates.{SeatedTask, own_number, own_view, task_state}
 use Rattle.mntgate_c.specs.declared.openings.ConfigRecord.{ConfigRecord}
 
 abbrev pub config_of : ConfigRecord → Config

@@ -1,7 +1,8 @@
 -- What a run of steps is.
-use Rattle.{cpu_words.specs.Hooks.HookAnswer, gate_steps.specs.call_events.Stepped.Stepped, gate_transitions.specs.Answers.asked_by}
-use Rattle.{gate_transitions.specs.declared.steps.{Progress.{Progress, TheVariants.Going}, Step.Step}, gate_world.specs.declared.work.Phase.Phase}
-use Rattle.{std.specs.Prelude.{None, Ok, Some, suc, zero, ℕ, ◌≡◌, ◌≤◌, ◌⊎◌}, vfs_gates.specs.TaskStates.SeatedTask}
+use Rattle.{cpu_words.specs.Hooks.HookAnswer, std.specs.Prelude.{None, Ok, Some, suc, zero, ℕ, ◌≡◌, ◌≤◌, ◌⊎◌}}
+use Rattle.gate_steps.specs.call_events.Stepped.{Stepped}
+use Rattle.gate_transitions.specs.{Answers.asked_by, declared.steps.{Progress.{Progress, TheVariants.Going}, Step.Step}}
+use Rattle.{gate_world.specs.declared.work.Phase.Phase, vfs_gates.specs.TaskStates.SeatedTask}
 
 -- one step that reads no hook, and how the operation stands after it
 pub record StepsOn (old left : SeatedTask) (progress : Progress) : Type 0 where

@@ -1,7 +1,7 @@
 -- One task's accesses change: the list of all tasks' accesses, seen as a function, changes at that task alone.
-use Rattle.{access_model.specs.declared.actions.NodeInfo.NodeInfo, finite_sums.{proofs.Totals.update_same, specs.Sums.update}}
 use Rattle.std.proofs.Common.{Bool, List, None, Option, ap, false, get_or, get_or-set_other, get_or-set_same, inl, inr, length, set, slice_index}
 use Rattle.std.proofs.{Common.{slice_index_or, subst, sym, ℕ, ◌<◌, ◌∙◌, ◌≡◌}, Math.Path.fun_ext, lemmas.{Bool.Decides.eqb_tells, List.get_or_default}}
+use Rattle.{access_model.specs.declared.actions.NodeInfo.NodeInfo, finite_sums.{proofs.Totals.update_same, specs.Sums.update}}
 use Rattle.model_state.specs.{Shown.{held_of, inside_of, nothing, opens_of, tree_of}, declared.model.Accesses.Accesses}
 
 -- what is read of a list with one place changed is what was read of it, changed at that place

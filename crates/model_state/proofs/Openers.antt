@@ -1,6 +1,7 @@
 -- How many tasks have a file open: those past the last task have none, so it is those of the list of all tasks' accesses.
-use Rattle.{access_model.specs.States.{most_tasks, one_if, openers}, finite_sums.specs.Sums.total, std.proofs.Common.{List, ap, arith, false, get_or}}
-use Rattle.std.proofs.{Common.{inl, inr, length, refl, suc, zero, ℕ, ◌≡◌, ◌≤◌}, lemmas.{Bool.Decides.eqb_tells, List.get_or_past}}
+use Rattle.std.proofs.{Common.{List, ap, arith, false, get_or, inl, inr, length, refl, suc, zero, ℕ, ◌≡◌, ◌≤◌}, lemmas.Bool.Decides.eqb_tells}
+use Rattle.std.proofs.lemmas.List.{get_or_past}
+use Rattle.{access_model.specs.States.{most_tasks, one_if, openers}, finite_sums.specs.Sums.total}
 use Rattle.model_state.specs.{Shown.{nothing, opens_of}, declared.model.Accesses.Accesses}
 
 -- a sum of values that are 0 from a bound on is that below the bound

@@ -1,6 +1,6 @@
 -- Lists of one value, as functions: what a new model holds is what the opening state says.
-use Rattle.{access_model.specs.States.root, finite_sums.{proofs.Totals.update_off, specs.Sums.update}}
 use Rattle.std.proofs.{Common.{None, Some, arith, false, get_or, refl, replicate, set, suc, sym, zero, ℕ, ◌<◌, ◌∙◌, ◌≡◌}, Math.Path.fun_ext}
+use Rattle.{access_model.specs.States.root, finite_sums.{proofs.Totals.update_off, specs.Sums.update}}
 use Rattle.model_state.specs.{Shown.{flags_of, held_of, inside_of, nothing, opens_of, tree_of}, declared.model.Accesses.Accesses}
 
 -- a list of one value has it everywhere, and past the end it is the default

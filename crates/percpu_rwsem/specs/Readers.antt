@@ -1,9 +1,10 @@
 -- The order of steps of a down-read and an up-read: which word a step touches and how, and what comes after it.
+use Rattle.std.specs.Prelude.{Bool, Err, None, Ok, Option, Some, false, if◌then◌else◌, true, ℕ, ◌==◌}
 use Rattle.access_model.specs.declared.actions.{Action.{Action, TheVariants.{Grant, Return}}, Gate.TheVariants.Level}
 use Rattle.access_model.specs.declared.{errors.GateError.TheVariants.Again, replies.Next.{Next, TheVariants.{Done, Go, Wait}}}
-use Rattle.{access_model.specs.declared.replies.Reply.TheVariants.Unit as UnitReply, cpu_words.specs.declared.events.Touch.TheVariants.{Add, Load}}
-use Rattle.cpu_words.specs.declared.{events.Touch.{TheVariants.Sub, Touch}, names.WordName.{TheVariants.{Block, LevelCount, Section, Sync}, WordName}}
-use Rattle.std.specs.Prelude.{Bool, Err, None, Ok, Option, Some, false, if◌then◌else◌, true, ℕ, ◌==◌}
+use Rattle.access_model.specs.declared.replies.Reply.TheVariants.{Unit as UnitReply}
+use Rattle.cpu_words.specs.declared.events.Touch.{TheVariants.{Add, Load, Sub}, Touch}
+use Rattle.cpu_words.specs.declared.names.WordName.{TheVariants.{Block, LevelCount, Section, Sync}, WordName}
 use Rattle.percpu_rwsem.specs.{SyncWords.unpack, declared.readers.{DownRead.DownRead, DownReadStep.DownReadStep}}
 use Rattle.percpu_rwsem.specs.declared.readers.DownReadStep.TheVariants.{CountsDown, CountsUpFast, CountsUpSlow, EntersSection, LeavesAdmitted}
 use Rattle.percpu_rwsem.specs.declared.readers.{DownReadStep.TheVariants.{LeavesBlocked, LoadsBlock, LoadsSync}, UpRead.UpRead}

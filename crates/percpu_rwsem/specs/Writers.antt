@@ -1,9 +1,10 @@
 -- The order of steps of a down-write and an up-write: which word a step touches and how, and what comes after it.
-use Rattle.access_model.specs.declared.{actions.Action.{Action, TheVariants.{Pass, Reopen}}, replies.Next.{Next, TheVariants.{Done, Go, Wait}}}
-use Rattle.{access_model.specs.declared.replies.Reply.TheVariants.Unit as UnitReply, cpu_words.specs.Sums.sum_taking}
-use Rattle.cpu_words.specs.declared.{events.Touch.{TheVariants.{Load, Store, Swap}, Touch}, names.WordName.TheVariants.{Block, LevelCount, Section}}
-use Rattle.cpu_words.specs.declared.{names.WordName.{TheVariants.Sync, WordName}, sums.Taken.{Taken, TheVariants.{More as MoreWords, Total}}}
 use Rattle.std.specs.Prelude.{None, Ok, Option, Some, if◌then◌else◌, ℕ, ◌==◌}
+use Rattle.access_model.specs.declared.{actions.Action.{Action, TheVariants.{Pass, Reopen}}, replies.Next.{Next, TheVariants.{Done, Go, Wait}}}
+use Rattle.access_model.specs.declared.replies.Reply.TheVariants.{Unit as UnitReply}
+use Rattle.cpu_words.specs.{Sums.sum_taking, declared.events.Touch.{TheVariants.{Load, Store, Swap}, Touch}}
+use Rattle.cpu_words.specs.declared.{names.WordName.{TheVariants.{Block, LevelCount, Section, Sync}, WordName}, sums.Taken.Taken}
+use Rattle.cpu_words.specs.declared.sums.Taken.TheVariants.{More as MoreWords, Total}
 use Rattle.percpu_rwsem.specs.{Graces.{looked, started}, SyncWords.{is_passed, on_callback, on_enter, on_exit, unpack}}
 use Rattle.percpu_rwsem.specs.{Transitions.{transition_after, transition_next}, declared.grace.GraceNext.GraceNext}
 use Rattle.percpu_rwsem.specs.declared.{grace.GraceNext.TheVariants.{Ended, More as MoreSections, Wait as WaitsFor}, sync_word.GpState.GpState}

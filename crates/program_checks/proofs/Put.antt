@@ -1,7 +1,8 @@
 -- What lines say that are put.
-use Rattle.{schedule_lines.specs.{Printed.Prints, declared.output.Output.Output}, std.proofs.Common.{List, [], ap, append_assoc, arith, codes}}
-use Rattle.std.proofs.{Common.{length, length-append, refl, subst, sym, take, ℕ, ◌++◌, ◌+◌, ◌-◌, ◌∙◌, ◌∷◌, ◌≡◌, ◌≤◌}, Math.Seq.take-append_seam}
-use Rattle.std.{proofs.lemmas.List.{Elements.{All-append, All-cons, All-nil}, Sums.fold-append, append-nil}, specs.List.{All, fold}}
+use Rattle.std.proofs.Common.{List, [], ap, append_assoc, arith, codes, length, length-append, refl, subst, sym, take, ℕ, ◌++◌, ◌+◌, ◌-◌, ◌∙◌, ◌∷◌}
+use Rattle.std.proofs.{Common.{◌≡◌, ◌≤◌}, Math.Seq.take-append_seam, lemmas.List.{Elements.{All-append, All-cons, All-nil}, Sums.fold-append}}
+use Rattle.std.{proofs.lemmas.List.append-nil, specs.List.{All, fold}}
+use Rattle.schedule_lines.specs.{Printed.Prints, declared.output.Output.Output}
 use Rattle.program_checks.specs.Said.{PutsSaid, Say, says_line, text_of, unended}
 
 -- a text before a newline

@@ -1,6 +1,7 @@
 -- What lines say, as they are read one by one.
-use Rattle.{race_files.specs.Left.{Left, behind}, schedule_lines.specs.declared.output.Output.Output, std.proofs.Common.{List, [], ap, drop, sym}}
-use Rattle.std.{proofs.{Common.{take, true, ℕ, ◌+◌, ◌∙◌, ◌≡◌}, Math.Seq.take-add, lemmas.List.{Sums.fold-append, drop-drop}}, specs.List.fold}
+use Rattle.std.proofs.{Common.{List, [], ap, drop, sym, take, true, ℕ, ◌+◌, ◌∙◌, ◌≡◌}, Math.Seq.take-add, lemmas.List.{Sums.fold-append, drop-drop}}
+use Rattle.std.specs.List.{fold}
+use Rattle.{race_files.specs.Left.{Left, behind}, schedule_lines.specs.declared.output.Output.Output}
 use Rattle.program_checks.specs.Said.{SaysMore, said_by, says_line}
 
 -- one more line is read

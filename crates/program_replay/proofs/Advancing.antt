@@ -1,15 +1,17 @@
 -- After a step of one task, and after all have met, the gates show the state that the step's transition makes.
-use Rattle.cpu_words.{proofs.Places.written, specs.{Hooks.HookAnswer, Names.{IsWord, place}, Touches.{event_of, found_by, left}, Words.{Words, read}}}
-use Rattle.{cpu_words.specs.declared.events.Event.Event, finite_sums.proofs.Totals.{update_at, update_off}}
-use Rattle.gate_schedules.proofs.{frames.{Accesses.holdings_of_after, Places.are_few}, schedules.Phases.{fits_after, word_placed, word_there}}
-use Rattle.gate_steps.{proofs.call_events.Grown.{after_more, only_seen}, specs.Seating.{DealtNumbers, HasWitness, IsPrefix, items_after}}
-use Rattle.{gate_steps.specs.call_events.{Grown.HasSeen, Stepped.Stepped}, gate_transitions.specs.Answers.{phase_step, step_answer}}
-use Rattle.{gate_transitions.specs.declared.steps.Step.Step, gate_world.specs.{Configs.extents_kept, Fits.{Fits, PhaseFits}, Headline.world_after}}
-use Rattle.gate_world.specs.{Holdings.{held_after, holdings_of}, Views.{actions_after, held_of, phase_after, view_after}, Work.{after_of, next_of}}
-use Rattle.gate_world.specs.{Worlds.{World, after_step, found_at, happens, value_at, words_after}, declared.config.Config.Config}
-use Rattle.gate_world.specs.declared.{entries.Entry.{Entry, TheVariants.Steps}, operations.Op.Op, views.View.View, work.Phase.Phase}
 use Rattle.std.proofs.Common.{List, Option, Some, [], ap, arith, inl, inr, length, refl, slice_index_or, slice_set, subst, sym, ℕ, ◌<◌, ◌∙◌, ◌∷◌, ◌≡◌}
 use Rattle.std.proofs.{Common.{◌≢◌, ◌≤◌}, Math.ListN.length-set, lemmas.{Bool.{Decides.eqb_tells, lt-ltb}, List.get_or_default}}
+use Rattle.cpu_words.{proofs.Places.written, specs.{Hooks.HookAnswer, Names.{IsWord, place}, Touches.{event_of, found_by, left}, Words.{Words, read}}}
+use Rattle.cpu_words.specs.declared.events.Event.{Event}
+use Rattle.finite_sums.proofs.Totals.{update_at, update_off}
+use Rattle.gate_schedules.proofs.{frames.{Accesses.holdings_of_after, Places.are_few}, schedules.Phases.{fits_after, word_placed, word_there}}
+use Rattle.gate_steps.{proofs.call_events.Grown.{after_more, only_seen}, specs.Seating.{DealtNumbers, HasWitness, IsPrefix, items_after}}
+use Rattle.gate_steps.specs.call_events.{Grown.HasSeen, Stepped.Stepped}
+use Rattle.gate_transitions.specs.{Answers.{phase_step, step_answer}, declared.steps.Step.Step}
+use Rattle.gate_world.specs.{Configs.extents_kept, Fits.{Fits, PhaseFits}, Headline.world_after, Holdings.{held_after, holdings_of}}
+use Rattle.gate_world.specs.{Views.{actions_after, held_of, phase_after, view_after}, Work.{after_of, next_of}}
+use Rattle.gate_world.specs.{Worlds.{World, after_step, found_at, happens, value_at, words_after}, declared.config.Config.Config}
+use Rattle.gate_world.specs.declared.{entries.Entry.{Entry, TheVariants.Steps}, operations.Op.Op, views.View.View, work.Phase.Phase}
 use Rattle.vfs_gates.specs.TaskStates.{SeatedTask, own_number, own_view}
 use Rattle.program_replay.proofs.{Reading.{StepRead, come_on, step_read, view_on, world_on}, Still.{come, under_way}}
 use Rattle.program_replay.specs.{Shown.{IsShown, TasksShow}, Standing.{AreGathered, Stands, StandsLater}}

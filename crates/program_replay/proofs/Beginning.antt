@@ -1,11 +1,11 @@
 -- What the gates show as they begin, and after a beginning.
+use Rattle.std.proofs.Common.{List, None, Option, Some, ap, arith, inl, inr, is_some, length, slice_index_or, subst, sym, ℕ, ◌<◌, ◌∙◌, ◌≡◌, ◌≢◌}
+use Rattle.std.proofs.lemmas.{Bool.{Decides.eqb_tells, lt-ltb}, List.get_or_default}
 use Rattle.{access_model.specs.declared.errors.GateError.GateError, finite_sums.proofs.Totals.{update_at, update_off}}
 use Rattle.{gate_schedules.proofs.schedules.Beginnings.{first_fits, may_begin}, gate_transitions.specs.Answers.{begin_answer, unless_refused}}
 use Rattle.gate_world.specs.{Beginnings.{first_phase, refusal}, Fits.Fits, Holdings.holdings_of, Views.{begun_view, held_of}}
 use Rattle.gate_world.specs.{Worlds.{World, after_begin, begin_of, begin_refusal, happens}, declared.config.Config.Config}
 use Rattle.gate_world.specs.declared.{entries.Entry.TheVariants.Begins, operations.Op.Op, views.View.View, work.Phase.Phase}
-use Rattle.std.proofs.Common.{List, None, Option, Some, ap, arith, inl, inr, is_some, length, slice_index_or, subst, sym, ℕ, ◌<◌, ◌∙◌, ◌≡◌, ◌≢◌}
-use Rattle.std.proofs.lemmas.{Bool.{Decides.eqb_tells, lt-ltb}, List.get_or_default}
 use Rattle.vfs_gates.specs.TaskStates.{SeatedTask, own_number, own_view, refusal_at}
 use Rattle.program_replay.specs.{Shown.{IsShown, TasksShow}, Standing.with_begun}
 

@@ -1,11 +1,12 @@
 -- The calls of the gates that one thread drives, in the state that they show.
+use Rattle.std.proofs.Common.{Err, List, None, Ok, OnErr, OnOk, Option, Result, Some, ap, arith, inl, inr, length, refl, slice_index_or, slice_set}
+use Rattle.std.proofs.{Common.{subst, suc, sym, zero, ℕ, ◌-◌, ◌<◌, ◌∙◌, ◌∷◌, ◌≡◌}, lemmas.{Bool.{Decides.eqb_tells, lt-ltb}, List.get_or_default}}
 use Rattle.{access_model.specs.declared.errors.GateError.GateError, cpu_words.specs.{Hooks.HookAnswer, Names.place, declared.events.Event.Event}}
 use Rattle.gate_steps.specs.call_events.Stepped.{Stepped}
 use Rattle.gate_transitions.specs.{Answers.{asked_by, begin_answer, idle_step, step_answer, unless_refused, wanted_hook}, declared.steps.Step.Step}
 use Rattle.gate_world.specs.{Worlds.{World, happens}, declared.{config.Config.Config, entries.Entry.TheVariants.{Begins, Steps}, operations.Op.Op}}
-use Rattle.{gate_world.specs.declared.work.Phase.Phase, std.proofs.Common.{Err, List, None, Ok, OnErr, OnOk, Option, Result, Some, ap, arith, inl}}
-use Rattle.std.proofs.Common.{inr, length, refl, slice_index_or, slice_set, subst, suc, sym, zero, ℕ, ◌-◌, ◌<◌, ◌∙◌, ◌∷◌, ◌≡◌}
-use Rattle.{std.proofs.lemmas.{Bool.{Decides.eqb_tells, lt-ltb}, List.get_or_default}, vfs_gates.specs.TaskStates.{SeatedTask, refusal_at}}
+use Rattle.gate_world.specs.declared.work.Phase.{Phase}
+use Rattle.vfs_gates.specs.TaskStates.{SeatedTask, refusal_at}
 use Rattle.program_replay.proofs.{Advancing.{step_answered, step_shown}, Beginning.{begin_answered, begin_shown, refused_shown}, Idle.idle_steps}
 use Rattle.program_replay.specs.{Driven.{AreOthersKept, GatesShow, task_in, tasks_of}, Noted.words_after, Shown.{IsShown, TasksShow}}
 use Rattle.program_replay.specs.{Standing.{AreGathered, with_begun}, declared.gates_driver.GatesDriver.GatesDriver}

@@ -1,8 +1,8 @@
 -- Transitions of tasks that are idle or that there aren't.
+use Rattle.std.proofs.{Common.{Err, None, refl, ℕ, ◌<◌, ◌≡◌, ◌≤◌}, lemmas.Bool.{le-ltb, lt-ltb}}
 use Rattle.{access_model.specs.declared.errors.GateError.TheVariants.Invalid, cpu_words.specs.Hooks.HookAnswer}
 use Rattle.gate_transitions.specs.Answers.{begin_answer, idle_step, step_answer, wanted_hook}
 use Rattle.gate_world.specs.{Worlds.{World, happens}, declared.{config.Config.Config, entries.Entry.TheVariants.{Begins, Steps}, operations.Op.Op}}
-use Rattle.std.proofs.{Common.{Err, None, refl, ℕ, ◌<◌, ◌≡◌, ◌≤◌}, lemmas.Bool.{le-ltb, lt-ltb}}
 
 -- where there is no such task
 pub none_begins : (c : Config) (w : World) (t : ℕ) (op : Op) → c.tasks ≤ t → (begin_answer c w t op ≡ Err Invalid) × (happens c w (Begins t op) ≡ w)

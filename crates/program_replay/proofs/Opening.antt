@@ -1,10 +1,11 @@
 -- The gates as they begin show the opening.
+use Rattle.std.proofs.Common.{All, List, None, [], ap, arith, cond, eqb, false, get_or, length, refl, subst, suc, sym, true, zero, ℕ, ◌+◌, ◌<◌, ◌∷◌}
+use Rattle.std.proofs.Common.{◌≡◌, ◌≤◌}
 use Rattle.{cpu_words.{proofs.Places.opening_listed, specs.{Lists.AreOpening, Names.words_in_all}}, gate_schedules.proofs.frames.Places.are_few}
 use Rattle.gate_steps.{proofs.call_events.Grown.only_seen, specs.Rules.first_items}
 use Rattle.gate_steps.specs.{Seating.{DealtNumbers, deal, given_of, kept_of, renewed, view_in, without}, call_events.Grown.HasSeen}
 use Rattle.gate_world.specs.{Configs.{IsWithin, extents_kept}, Fits.Fits, Views.{held_of, opening_view}, Worlds.opening}
-use Rattle.{gate_world.specs.declared.{config.Config.Config, views.View.View}, std.proofs.Common.{All, List, None, [], ap, arith, cond, eqb, false}}
-use Rattle.std.proofs.Common.{get_or, length, refl, subst, suc, sym, true, zero, ℕ, ◌+◌, ◌<◌, ◌∷◌, ◌≡◌, ◌≤◌}
+use Rattle.gate_world.specs.declared.{config.Config.Config, views.View.View}
 use Rattle.vfs_gates.{proofs.Splitting.there_kept, specs.{Splitting.AreNumbered, TaskStates.{SeatedTask, own_number, own_view}}}
 use Rattle.program_replay.specs.Shown.{AreUntouched, IsNew, IsShown, TasksShow}
 

@@ -1,13 +1,14 @@
 -- What a step says of the execution before it and of the one after it.
+use Rattle.std.proofs.Common.{List, None, Option, Some, [], ap, arith, length, refl, subst, sym, ℕ, ◌<◌, ◌∙◌, ◌∷◌, ◌≡◌, ◌≤◌}
 use Rattle.{cpu_words.specs.{Hooks.HookAnswer, Words.Words}, finite_sums.proofs.Totals.update_at}
 use Rattle.gate_steps.{proofs.call_events.{Going.entered_actions, Grown.{after_more, only_seen}, Moments.run_append}, specs.Histories.then_begins}
 use Rattle.gate_steps.specs.Seating.{DealtNumbers, HasWitness, IsPrefix, done_by, entered, items_after, numbered, world_entered, world_left}
 use Rattle.gate_steps.specs.{call_events.{Grown.HasSeen, SeatedTasks.{own_number, own_view}, Stepped.ToldIn}, declared.seating.Numbered.Numbered}
-use Rattle.{gate_transitions.specs.{Answers.phase_step, declared.steps.Step.Step}, gate_world.specs.Headline.world_after}
-use Rattle.gate_world.specs.{Views.{actions_after, phase_after, view_after_with_others}, Work.after_of, Worlds.{World, found_at, opening, run}}
-use Rattle.gate_world.specs.{Worlds.{value_at, words_after}, declared.{config.Config.Config, entries.Entry.{Entry, TheVariants.{Begins, Steps}}}}
-use Rattle.{gate_world.specs.declared.{operations.Op.Op, views.View.View, work.Phase.Phase}, std.proofs.Common.{List, None, Option, Some, [], ap}}
-use Rattle.{std.proofs.Common.{arith, length, refl, subst, sym, ℕ, ◌<◌, ◌∙◌, ◌∷◌, ◌≡◌, ◌≤◌}, vfs_gates.proofs.call_laws.Blocked.same_words}
+use Rattle.gate_transitions.specs.{Answers.phase_step, declared.steps.Step.Step}
+use Rattle.gate_world.specs.{Headline.world_after, Views.{actions_after, phase_after, view_after_with_others}, Work.after_of}
+use Rattle.gate_world.specs.{Worlds.{World, found_at, opening, run, value_at, words_after}, declared.{config.Config.Config, entries.Entry.Entry}}
+use Rattle.gate_world.specs.declared.{entries.Entry.TheVariants.{Begins, Steps}, operations.Op.Op, views.View.View, work.Phase.Phase}
+use Rattle.vfs_gates.proofs.call_laws.Blocked.{same_words}
 use Rattle.program_replay.proofs.Still.{come, grows_on, view_stays, world_stays}
 
 -- the state after an execution, from the one after an earlier one

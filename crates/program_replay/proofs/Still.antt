@@ -1,11 +1,11 @@
 -- A number that has come no further has its view still, and a state in which no task has come further is the same state.
+use Rattle.std.proofs.Common.{List, None, Option, Some, [], ap, arith, inl, inr, is_some, length, nat_lt, refl, subst, suc, sym, ℕ, ◌*◌, ◌+◌, ◌<◌}
+use Rattle.std.proofs.{Common.{◌∙◌, ◌∷◌, ◌≡◌, ◌≤◌, ◌⊎◌}, lemmas.Bool.{Decides.eqb_tells, cases_Bool, ltb-true}}
 use Rattle.{access_model.specs.declared.errors.GateError.GateError, cpu_words.specs.Hooks.HookAnswer}
 use Rattle.finite_sums.proofs.Totals.{update_at, update_off}
 use Rattle.gate_world.specs.{Beginnings.{first_phase, refusal, view_refusal}, Holdings.Holdings, Views.{begun_view, held_of, view_after}}
 use Rattle.gate_world.specs.{Worlds.{World, begin_of, happens, run, step_of, task_of, value_at}, declared.{config.Config.Config, entries.Entry.Entry}}
 use Rattle.gate_world.specs.declared.{entries.Entry.TheVariants.{Begins, Steps}, operations.Op.Op, views.View.View, work.Phase.Phase}
-use Rattle.std.proofs.Common.{List, None, Option, Some, [], ap, arith, inl, inr, is_some, length, nat_lt, refl, subst, suc, sym, ℕ, ◌*◌, ◌+◌, ◌<◌}
-use Rattle.std.proofs.{Common.{◌∙◌, ◌∷◌, ◌≡◌, ◌≤◌, ◌⊎◌}, lemmas.Bool.{Decides.eqb_tells, cases_Bool, ltb-true}}
 
 -- 1 while an operation is under way
 abbrev pub under_way : Option Phase → ℕ

@@ -1,8 +1,8 @@
 -- How a replay ends that was asked for.
+use Rattle.std.specs.{Borrow.Bor, Io.KnownBytes.Keeps, Prelude.{Bool, Err, List, None, Ok, Option, Result, Some, false, true, ℕ, ◌≡◌}}
 use Rattle.command_line.specs.declared.words.ReplayForm.{ReplayForm, TheVariants.Plain}
 use Rattle.exit_status.specs.{Endings.of_file, declared.ends.ProgramEnding.{ProgramEnding, TheVariants.{Done, DoneOverGates, Refused, Shown}}}
-use Rattle.{schedule_lines.specs.declared.bytes.replay_faults.ReplayFault.ReplayFault, std.specs.{Borrow.Bor, Io.KnownBytes.Keeps}}
-use Rattle.{std.specs.Prelude.{Bool, Err, List, None, Ok, Option, Result, Some, false, true, ℕ, ◌≡◌}, transcripts.specs.Replayed.Replayed}
+use Rattle.{schedule_lines.specs.declared.bytes.replay_faults.ReplayFault.ReplayFault, transcripts.specs.Replayed.Replayed}
 
 -- how a replay ends that was done, in this form and over these gates, of standard input
 abbrev pub done_in : ReplayForm → Bool → ProgramEnding

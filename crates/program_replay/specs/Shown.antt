@@ -1,8 +1,9 @@
 -- Which state the gates show that one thread drives.
-use Rattle.{cpu_words.specs.{Lists.ListShows, Names.words_in_all}, gate_steps.specs.{Seating.DealtNumbers, call_events.Grown.HasSeen}}
+use Rattle.{cpu_words.specs.{Lists.ListShows, Names.words_in_all}, std.specs.Prelude.{List, None, [], length, slice_index_or, ℕ, ◌<◌, ◌∷◌, ◌≡◌, ◌≤◌}}
+use Rattle.gate_steps.specs.{Seating.DealtNumbers, call_events.Grown.HasSeen}
 use Rattle.gate_world.specs.{Configs.{IsWithin, extents_kept}, Fits.Fits, Headline.world_after, Views.{held_of, opening_view}, Worlds.World}
-use Rattle.{gate_world.specs.declared.{config.Config.Config, entries.Entry.Entry}, std.specs.Prelude.{List, None, [], length, slice_index_or, ℕ, ◌<◌}}
-use Rattle.{std.specs.Prelude.{◌∷◌, ◌≡◌, ◌≤◌}, vfs_gates.specs.TaskStates.{SeatedTask, own_number, own_view}}
+use Rattle.gate_world.specs.declared.{config.Config.Config, entries.Entry.Entry}
+use Rattle.vfs_gates.specs.TaskStates.{SeatedTask, own_number, own_view}
 use Rattle.program_replay.specs.Standing.{Stands}
 
 -- These transitions are the execution on the table. The task has seen them, and stands after them as it knows. In the state that is shown its number has

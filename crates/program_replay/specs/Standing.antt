@@ -1,7 +1,8 @@
 -- Where the tasks stand that one thread drives.
-use Rattle.{gate_steps.specs.{Seating.IsPrefix, call_events.Grown.HasSeen}, gate_world.specs.{Beginnings.first_phase, Headline.world_after}}
-use Rattle.{gate_world.specs.{Worlds.World, declared.{entries.Entry.Entry, operations.Op.Op}}, std.specs.Prelude.{List, Some, length, slice_index_or}}
-use Rattle.{std.specs.Prelude.{ℕ, ◌<◌, ◌≡◌, ◌≢◌, ◌≤◌}, vfs_gates.specs.TaskStates.{SeatedTask, own_number, own_view}}
+use Rattle.std.specs.Prelude.{List, Some, length, slice_index_or, ℕ, ◌<◌, ◌≡◌, ◌≢◌, ◌≤◌}
+use Rattle.gate_steps.specs.{Seating.IsPrefix, call_events.Grown.HasSeen}
+use Rattle.gate_world.specs.{Beginnings.first_phase, Headline.world_after, Worlds.World, declared.{entries.Entry.Entry, operations.Op.Op}}
+use Rattle.vfs_gates.specs.TaskStates.{SeatedTask, own_number, own_view}
 
 -- a task of which an operation has begun
 abbrev pub with_begun : Op → SeatedTask → SeatedTask

@@ -5,17 +5,18 @@ use Rattle.progress_laws.proofs.Prelude.{after_step, ap, arith, cases_Bool, comm
 use Rattle.progress_laws.proofs.Prelude.{freeze_owns, happens, happens_is, has_flag, if◌then◌else◌, inl, inr, map_next, owns, phase_after, refl, run}
 use Rattle.progress_laws.proofs.Prelude.{subst, sym, total, total_at, true, true≢false, update_at, value_at, view_after, whole_rule, words_after}
 use Rattle.progress_laws.proofs.Prelude.{world_after, ℕ, ◌<◌, ◌∙◌, ◌∷◌, ◌≡◌, ◌≤◌}
+use Rattle.std.proofs.{Common.{Result, ◌++◌}, lemmas.Bool.{cases_lt, le-ltb, lt-ltb}}
 use Rattle.access_model.specs.declared.{actions.{Action.Action, Holder.Holder}, replies.Reply.Reply}
 use Rattle.{cpu_words.specs.{Touches.event_of, declared.events.{Event.Event, Touch.Touch}}, finite_sums.proofs.Totals.total_none}
-use Rattle.freeze_laws.{proofs.stages.Facts.other_zero, specs.stages.Roles.{Owning, StageRole, closes, freezes, is_full, owns as stage_owns, reopens}}
-use Rattle.{freeze_laws.specs.stages.Roles.under_way, gate_schedules.proofs.operations.deadlocks.FreezeProgress.not_none}
-use Rattle.{gate_schedules.proofs.schedules.HeadlineProof.whole_operations, gate_transitions.specs.Answers.{phase_step, progress_of, step_answer}}
-use Rattle.{gate_transitions.specs.declared.steps.Progress.Progress, gate_world.specs.Headline.{OperationTells, OperationsAreKept, ViewTells}}
-use Rattle.gate_world.specs.{Operations.failed_adds, Owners.{is_owned_word, last_left, takes_lock}, Roles.freeze_stage_role}
-use Rattle.gate_world.specs.{Rules.{Known, Stages, stage_role_of, stage_roles}, Views.{HoldsAsBefore, with_hook}, Work.next_of, Worlds.opening}
-use Rattle.gate_world.specs.{declared.views.Traced.Traced, traces.Found.{clean_found, cleans, gave_up}}
+use Rattle.freeze_laws.proofs.stages.Facts.{other_zero}
+use Rattle.freeze_laws.specs.stages.Roles.{Owning, StageRole, closes, freezes, is_full, owns as stage_owns, reopens, under_way}
+use Rattle.gate_schedules.proofs.{operations.deadlocks.FreezeProgress.not_none, schedules.HeadlineProof.whole_operations}
+use Rattle.gate_transitions.specs.{Answers.{phase_step, progress_of, step_answer}, declared.steps.Progress.Progress}
+use Rattle.gate_world.specs.{Headline.{OperationTells, OperationsAreKept, ViewTells}, Operations.failed_adds, Owners.{is_owned_word, last_left}}
+use Rattle.gate_world.specs.{Owners.takes_lock, Roles.freeze_stage_role, Rules.{Known, Stages, stage_role_of, stage_roles}, Views.HoldsAsBefore}
+use Rattle.gate_world.specs.{Views.with_hook, Work.next_of, Worlds.opening, declared.views.Traced.Traced, traces.Found.{clean_found, cleans, gave_up}}
 use Rattle.gate_world.specs.traces.{TraceStates.{FollowsOrder, IsEventOf, IsTrace, IsTraced, state_of_trace, trace_state_after}, Traces.Tells}
-use Rattle.{percpu_rwsem.specs.Writers.up_write_next, std.proofs.{Common.{Result, ◌++◌}, lemmas.Bool.{cases_lt, le-ltb, lt-ltb}}}
+use Rattle.percpu_rwsem.specs.Writers.{up_write_next}
 use Rattle.progress_laws.specs.Undone.{AtMostMarks, FailsUndone, IsUndone}
 
 -- a freeze that has stored stage 0 since its hook failed

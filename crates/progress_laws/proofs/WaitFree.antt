@@ -3,10 +3,11 @@ use Rattle.progress_laws.proofs.Prelude.{Begins, Config, Entry, GateError, HookA
 use Rattle.progress_laws.proofs.Prelude.{Steps, View, World, [], after_step, ap, arith, cases_Bool, eq-eqb, eqb_tells, happens, happens_is, held_of}
 use Rattle.progress_laws.proofs.Prelude.{inl, inr, nat_lt, refl, subst, suc, sym, update_at, update_off, value_at, view_after, whole_rule}
 use Rattle.progress_laws.proofs.Prelude.{world_after, ℕ, ◌+◌, ◌<◌, ◌==◌, ◌∙◌, ◌∷◌, ◌≡◌, ◌≤◌}
-use Rattle.gate_schedules.proofs.{frames.ValidWords.events_may_be, operations.AllOperations.op_keeps, schedules.HeadlineProof.whole_operations}
-use Rattle.{gate_schedules.proofs.{schedules.Schedule.happens_keeps, traces.Traced.entry_keeps}, gate_world.specs.Beginnings.refusal}
-use Rattle.gate_world.specs.{Worlds.{begin_of, begin_refusal, step_of}, traces.{TraceStates.{AllTraced, IsTraced}, Traces.{IsShort, most_events}}}
 use Rattle.std.proofs.Common.{is_some, length}
+use Rattle.gate_schedules.proofs.{frames.ValidWords.events_may_be, operations.AllOperations.op_keeps, schedules.HeadlineProof.whole_operations}
+use Rattle.gate_schedules.proofs.{schedules.Schedule.happens_keeps, traces.Traced.entry_keeps}
+use Rattle.gate_world.specs.{Beginnings.refusal, Worlds.{begin_of, begin_refusal, step_of}, traces.TraceStates.{AllTraced, IsTraced}}
+use Rattle.gate_world.specs.traces.Traces.{IsShort, most_events}
 use Rattle.progress_laws.specs.WaitFreedom.{IsWaitFree, RepliesDuring, steps_by}
 
 module _ (c : Config) (lim : IsWithin c) (t : ℕ) (lt : t < c.tasks) (op : Op) (most : ℕ) (bound : most_events c op ≡ Some most) where

@@ -1,7 +1,8 @@
 -- What `keep_waiting` answers: a freeze that finds somebody counted at a level that it closes asks whether to wait on.
-use Rattle.{cpu_words.specs.Hooks.HookAnswer, freeze_levels.specs.declared.hooks.HookKind.TheVariants.KeepWaiting, gate_world.specs.Work.hook_of}
-use Rattle.gate_world.specs.{Worlds.{World, happens, run}, declared.{config.Config.Config, entries.Entry.{Entry, TheVariants.{Begins, Steps}}}}
-use Rattle.{gate_world.specs.declared.work.Phase.Phase, std.specs.Prelude.{Err, List, Ok, Some, [], ℕ, ◌∷◌, ◌≡◌}}
+use Rattle.{cpu_words.specs.Hooks.HookAnswer, std.specs.Prelude.{Err, List, Ok, Some, [], ℕ, ◌∷◌, ◌≡◌}}
+use Rattle.freeze_levels.specs.declared.hooks.HookKind.TheVariants.{KeepWaiting}
+use Rattle.gate_world.specs.{Work.hook_of, Worlds.{World, happens, run}, declared.{config.Config.Config, entries.Entry.Entry}}
+use Rattle.gate_world.specs.declared.{entries.Entry.TheVariants.{Begins, Steps}, work.Phase.Phase}
 
 -- a transition that asks it brings such an answer to this task; of all other transitions nothing is said
 abbrev pub AnswersSo : (ℕ → HookAnswer → Type 0) → World → Entry → Type 0

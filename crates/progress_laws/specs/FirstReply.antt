@@ -1,7 +1,7 @@
 -- How near the first reply is beside lost tasks.
-use Rattle.{cpu_words.specs.Hooks.HookAnswer, gate_schedules.specs.operations.Progress.{HasReply, IsUnderWay}}
+use Rattle.{cpu_words.specs.Hooks.HookAnswer, std.specs.Prelude.{Bool, false, suc, zero, ℕ, ◌*◌, ◌+◌, ◌<◌, ◌≡◌, ◌⊎◌}}
+use Rattle.gate_schedules.specs.operations.Progress.{HasReply, IsUnderWay}
 use Rattle.gate_world.specs.{Worlds.{World, happens}, declared.{config.Config.Config, entries.Entry.TheVariants.Steps}}
-use Rattle.std.specs.Prelude.{Bool, false, suc, zero, ℕ, ◌*◌, ◌+◌, ◌<◌, ◌≡◌, ◌⊎◌}
 use Rattle.progress_laws.specs.{LostTasks.AllWait, StepsLeft.most_steps}
 
 -- A scheduler can pick, step by step, one of the tasks under way that aren't lost, knowing what the hooks have answered so far but not what they

@@ -1,15 +1,16 @@
 -- What a lost task has left behind stays, whatever all others do and begin.
+use Rattle.std.specs.Prelude.{Bool, List, None, Some, [], false, suc, true, ℕ, ◌%◌, ◌<◌, ◌∷◌, ◌≡◌, ◌≤◌, ◌⊎◌}
 use Rattle.composite_ops.specs.declared.{file_closes.phases.ClosePhase.ClosePhase, write_access.phases.WritePhase.WritePhase}
 use Rattle.{cpu_words.specs.gate_counts.{Gates.counted as counted_of, Levels.level_as_gate}, finite_sums.specs.Sums.total}
 use Rattle.{freeze_laws.specs.levels.Roles.closed, freeze_levels.specs.declared.{freezes.FreezeStep.FreezeStep, thaws.ThawStep.ThawStep}}
-use Rattle.{gate_schedules.specs.operations.Progress.{IsUnderWay, is_admitted}, gate_world.specs.Levels.{at_level, inside, sync_role_of}}
-use Rattle.gate_world.specs.{Rules.{at_mount, owns, role_of}, Views.holds_level, Worlds.{World, run, task_of}, declared.config.Config.Config}
-use Rattle.{gate_world.specs.declared.{entries.Entry.Entry, work.Phase.Phase}, gated_tree.specs.declared.phases.TreePhase.TreePhase}
-use Rattle.{gated_tree.specs.declared.snapshots.SnapshotStep.SnapshotStep, mount_counts.specs.{Phases.has_flag, Roles.{counted, has_hold}}}
-use Rattle.mount_counts.specs.declared.phases.{ChangeStep.ChangeStep, MountPhase.MountPhase, Want.Want, WantStep.WantStep}
-use Rattle.{mount_counts.specs.declared.remounts.RemountStep.RemountStep, percpu_rwsem.specs.declared.callbacks.CallbackStep.CallbackStep}
-use Rattle.percpu_rwsem.specs.declared.{grace.Grace.Grace, readers.DownRead.DownRead, writers.{DownWrite.DownWrite, DownWriteStep.DownWriteStep}}
-use Rattle.std.specs.Prelude.{Bool, List, None, Some, [], false, suc, true, ℕ, ◌%◌, ◌<◌, ◌∷◌, ◌≡◌, ◌≤◌, ◌⊎◌}
+use Rattle.gate_schedules.specs.operations.Progress.{IsUnderWay, is_admitted}
+use Rattle.gate_world.specs.{Levels.{at_level, inside, sync_role_of}, Rules.{at_mount, owns, role_of}, Views.holds_level}
+use Rattle.gate_world.specs.{Worlds.{World, run, task_of}, declared.{config.Config.Config, entries.Entry.Entry, work.Phase.Phase}}
+use Rattle.gated_tree.specs.declared.{phases.TreePhase.TreePhase, snapshots.SnapshotStep.SnapshotStep}
+use Rattle.mount_counts.specs.{Phases.has_flag, Roles.{counted, has_hold}, declared.phases.{ChangeStep.ChangeStep, MountPhase.MountPhase, Want.Want}}
+use Rattle.mount_counts.specs.declared.{phases.WantStep.WantStep, remounts.RemountStep.RemountStep}
+use Rattle.percpu_rwsem.specs.declared.{callbacks.CallbackStep.CallbackStep, grace.Grace.Grace, readers.DownRead.DownRead}
+use Rattle.percpu_rwsem.specs.declared.writers.{DownWrite.DownWrite, DownWriteStep.DownWriteStep}
 use Rattle.progress_laws.specs.{Answers.{AllAnswerSo, IsPatientWith}, LostTasks.{HoldIsLost, SectionIsLost}}
 
 -- none of these transitions, beginnings and steps, is of a lost task

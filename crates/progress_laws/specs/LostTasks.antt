@@ -1,13 +1,14 @@
 -- Lost tasks: a task that is lost never steps again, at whatever point of whatever call it is. What the others come to, and by what they are kept.
+use Rattle.std.specs.Prelude.{Bool, List, None, Some, [], false, suc, true, zero, ℕ, ◌<◌, ◌∷◌, ◌≡◌, ◌≤◌, ◌⊎◌}
 use Rattle.composite_ops.specs.declared.{file_closes.phases.ClosePhase.ClosePhase, write_access.phases.WritePhase.WritePhase}
 use Rattle.{cpu_words.specs.{Hooks.HookAnswer, gate_counts.{Gates.counted, Levels.level_as_gate}}, freeze_laws.specs.levels.Roles.closed}
 use Rattle.freeze_levels.specs.declared.freezes.{Freeze.Freeze, FreezeStep.FreezeStep}
-use Rattle.{gate_schedules.specs.operations.Progress.{IsHeldIdle, IsUnderWay}, gate_world.specs.Levels.{at_level, inside, is_frozen_whole}}
-use Rattle.gate_world.specs.{Levels.sync_role_of, Rules.{owns, role_of}, Shown.freeze_closing, Worlds.{World, happens, run}}
-use Rattle.gate_world.specs.declared.{config.Config.Config, entries.Entry.{Entry, TheVariants.{Begins, Steps}}, work.Phase.Phase}
+use Rattle.gate_schedules.specs.operations.Progress.{IsHeldIdle, IsUnderWay}
+use Rattle.gate_world.specs.{Levels.{at_level, inside, is_frozen_whole, sync_role_of}, Rules.{owns, role_of}, Shown.freeze_closing}
+use Rattle.gate_world.specs.{Worlds.{World, happens, run}, declared.{config.Config.Config, entries.Entry.{Entry, TheVariants.{Begins, Steps}}}}
+use Rattle.gate_world.specs.declared.work.Phase.{Phase}
 use Rattle.{gated_tree.specs.declared.phases.TreePhase.TreePhase, mount_counts.specs.{Roles.has_hold, declared.phases.MountPhase.MountPhase}}
 use Rattle.percpu_rwsem.specs.declared.{callbacks.CallbackStep.CallbackStep, writers.{DownWrite.DownWrite, DownWriteStep.DownWriteStep}}
-use Rattle.std.specs.Prelude.{Bool, List, None, Some, [], false, suc, true, zero, ℕ, ◌<◌, ◌∷◌, ◌≡◌, ◌≤◌, ◌⊎◌}
 use Rattle.progress_laws.specs.{Answers.{AllAnswerSo, IsPatient}, Waiting.must_wait}
 
 -- each operation under way of a task that isn't lost has to wait

@@ -1,6 +1,7 @@
 -- How many steps a phase has still to do that don't wait, whatever all others do, in three numbers: steps that nobody can undo; those of a start,
 -- which another one may send back by closing or opening its level; and those of an exchange or a sum that has to begin again where another one
 -- has changed its words. A fourth number tells how often a phase may still do such a thing to the others.
+use Rattle.std.specs.Prelude.{Bool, None, Option, Some, if◌then◌else◌, max, not, ℕ, ◌%◌, ◌&&◌, ◌*◌, ◌+◌, ◌-◌, ◌==◌}
 use Rattle.composite_ops.specs.declared.{file_closes.phases.ClosePhase.ClosePhase, write_access.phases.WritePhase.WritePhase}
 use Rattle.{cpu_words.specs.{Sums.lead, Words.Words, declared.sums.Sum.Sum}, finite_sums.specs.Sums.total}
 use Rattle.freeze_levels.specs.declared.{freezes.{Freeze.Freeze, FreezeStep.FreezeStep}, thaws.ThawStep.ThawStep}
@@ -9,7 +10,6 @@ use Rattle.{gate_world.specs.{Worlds.World, declared.{config.Config.Config, work
 use Rattle.mount_counts.specs.Ranks.{mount_rank, want_rank}
 use Rattle.percpu_rwsem.specs.declared.{callbacks.CallbackStep.CallbackStep, grace.Grace.Grace, readers.DownReadStep.DownReadStep}
 use Rattle.percpu_rwsem.specs.declared.writers.{DownWrite.DownWrite, DownWriteStep.DownWriteStep, UpWrite.UpWrite, UpWriteStep.UpWriteStep}
-use Rattle.std.specs.Prelude.{Bool, None, Option, Some, if◌then◌else◌, max, not, ℕ, ◌%◌, ◌&&◌, ◌*◌, ◌+◌, ◌-◌, ◌==◌}
 
 -- 1 before the first look at a task's section
 abbrev pub unseen : Option ℕ → ℕ

@@ -1,7 +1,8 @@
 -- Wait-freedom: an operation that waits for nobody has its reply within so many steps of its own, whatever all others do or leave undone.
-use Rattle.{gate_schedules.specs.operations.Progress.HasReply, gate_world.specs.{Headline.world_after, Worlds.{World, happens}}}
-use Rattle.gate_world.specs.declared.{config.Config.Config, entries.Entry.{Entry, TheVariants.{Begins, Steps}}, operations.Op.Op}
-use Rattle.{gate_world.specs.traces.Traces.most_events, std.specs.Prelude.{List, Some, [], if◌then◌else◌, suc, ℕ, ◌<◌, ◌==◌, ◌∷◌, ◌≡◌, ◌≤◌, ◌⊎◌}}
+use Rattle.std.specs.Prelude.{List, Some, [], if◌then◌else◌, suc, ℕ, ◌<◌, ◌==◌, ◌∷◌, ◌≡◌, ◌≤◌, ◌⊎◌}
+use Rattle.gate_schedules.specs.operations.Progress.{HasReply}
+use Rattle.gate_world.specs.{Headline.world_after, Worlds.{World, happens}, declared.{config.Config.Config, entries.Entry.Entry}}
+use Rattle.gate_world.specs.{declared.{entries.Entry.TheVariants.{Begins, Steps}, operations.Op.Op}, traces.Traces.most_events}
 
 -- how many steps a task takes among these transitions
 abbrev pub steps_by : ℕ → List Entry → ℕ

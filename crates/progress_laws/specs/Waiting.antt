@@ -1,4 +1,5 @@
 -- When the next step of a phase has to wait: what it waits for isn't there, so that it looks again.
+use Rattle.std.specs.Prelude.{Bool, None, Option, Some, false, not, ℕ, ◌%◌, ◌&&◌, ◌==◌}
 use Rattle.composite_ops.specs.declared.{file_closes.phases.ClosePhase.ClosePhase, write_access.phases.WritePhase.WritePhase}
 use Rattle.{cpu_words.specs.{Sums.lead, Words.Words, declared.sums.Sum.Sum}, finite_sums.specs.Sums.total}
 use Rattle.{freeze_levels.specs.declared.{freezes.FreezeStep.FreezeStep, thaws.ThawStep.ThawStep}, gate_world.specs.declared.work.Phase.Phase}
@@ -7,7 +8,6 @@ use Rattle.mount_counts.specs.{Phases.has_flag, declared.phases.{ChangeStep.Chan
 use Rattle.mount_counts.specs.declared.remounts.RemountStep.{RemountStep}
 use Rattle.percpu_rwsem.specs.declared.{callbacks.CallbackStep.CallbackStep, grace.Grace.Grace, readers.DownRead.DownRead}
 use Rattle.percpu_rwsem.specs.declared.{readers.DownReadStep.DownReadStep, writers.{DownWrite.DownWrite, DownWriteStep.DownWriteStep}}
-use Rattle.std.specs.Prelude.{Bool, None, Option, Some, false, not, ℕ, ◌%◌, ◌&&◌, ◌==◌}
 
 -- `umount` is taken
 abbrev pub lock_taken : Words → Bool

@@ -1,9 +1,10 @@
 -- The first fault of the lines before a race.
+use Rattle.std.proofs.Common.{Err, List, None, Ok, Option, Result, Some, ap, false, inl, inr, subst, sym, true, ℕ, ◌∙◌, ◌∷◌, ◌≡◌, ◌⊎◌}
+use Rattle.std.{proofs.lemmas.Bool.cases_Bool, specs.Result.{IfErr, IsErrAnd, MatchResult, result_and}}
 use Rattle.{access_model.specs.declared.errors.GateError.TheVariants.{Invalid, NoMemory}, gate_world.specs.declared.config.Config.Config}
-use Rattle.{schedule_lines.specs.declared.faults.Fault.{Fault, TheVariants.Refused}, schedule_text.specs.Parsing.parsed}
-use Rattle.{schedule_text.specs.declared.commands.Line.TheVariants.Config as ConfigLine, std.proofs.Common.{Err, List, None, Ok, Option, Result}}
-use Rattle.std.{proofs.{Common.{Some, ap, false, inl, inr, subst, sym, true, ℕ, ◌∙◌, ◌∷◌, ◌≡◌, ◌⊎◌}, lemmas.Bool.cases_Bool}, specs.Result.IfErr}
-use Rattle.{std.specs.Result.{IsErrAnd, MatchResult, result_and}, transcripts.specs.{Limits.is_config, Transcript.{ReplayState, config_effect}}}
+use Rattle.schedule_lines.specs.declared.faults.Fault.{Fault, TheVariants.Refused}
+use Rattle.schedule_text.specs.{Parsing.parsed, declared.commands.Line.TheVariants.Config as ConfigLine}
+use Rattle.transcripts.specs.{Limits.is_config, Transcript.{ReplayState, config_effect}}
 use Rattle.race_files.{proofs.SettingUp.and_more, specs.{Calls.is_race, FirstFaults.{FailsBeforeRace, FailsBeforeRace.{AtEnd, AtLine}}}}
 use Rattle.race_files.specs.{FirstFaults.{IsMemory, fault_at_end, fault_of_line, fault_unless_race}, Left.{Left, behind, none_left}, SettingUp.SetsUp}
 use Rattle.race_files.specs.declared.faults.RaceFault.{RaceFault, TheVariants.Schedule}

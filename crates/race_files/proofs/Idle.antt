@@ -1,8 +1,9 @@
 -- A core whose tasks are idle is in no grace period.
+use Rattle.std.proofs.{Common.{IfSome, List, None, Option, arith, refl, subst, sym, true, ℕ, ◌<◌, ◌∙◌, ◌≡◌}, lemmas.Bool.lt-ltb}
+use Rattle.std.proofs.lemmas.List.{get_or_default}
 use Rattle.gate_core.specs.{Drivers.CoreShows, Memory.{IsSound, Memory, no_seat, seat_of}, Moves.phase_in}
 use Rattle.{gate_transitions.specs.declared.task_states.TaskState.TaskState, gate_world.specs.declared.{config.Config.Config, work.Phase.Phase}}
-use Rattle.{races.specs.Counts.is_recent, std.proofs.Common.{IfSome, List, None, Option, arith, refl, subst, sym, true, ℕ, ◌<◌, ◌∙◌, ◌≡◌}}
-use Rattle.{std.proofs.lemmas.{Bool.lt-ltb, List.get_or_default}, transcripts.specs.Transcript.ReplayState}
+use Rattle.{races.specs.Counts.is_recent, transcripts.specs.Transcript.ReplayState}
 use Rattle.race_files.specs.Races.{AllAreIdle, IsRecent}
 
 -- where a task stands

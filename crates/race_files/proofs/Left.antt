@@ -1,7 +1,8 @@
 -- The lines of a text, by what it begins with.
+use Rattle.std.proofs.Common.{List, None, Some, [], ap, arith, drop, false, length, refl, suc, sym, take, zero, ℕ, ◌+◌, ◌-◌, ◌<◌, ◌∙◌, ◌∷◌, ◌≡◌, ◌≤◌}
+use Rattle.std.specs.Bool.{◌==◌}
 use Rattle.schedule_lines.specs.{Lines.front_of, declared.{faults.Fault.{Fault, TheVariants.{CutOff, LineTooLong, TooManyLines}}, lines.Front.Front}}
-use Rattle.{schedule_lines.specs.declared.lines.Front.TheVariants.{Line as WholeLine, Part, TooLong}, std.proofs.Common.{List, None, Some, [], ap}}
-use Rattle.std.{proofs.Common.{arith, drop, false, length, refl, suc, sym, take, zero, ℕ, ◌+◌, ◌-◌, ◌<◌, ◌∙◌, ◌∷◌, ◌≡◌, ◌≤◌}, specs.Bool.◌==◌}
+use Rattle.schedule_lines.specs.declared.lines.Front.TheVariants.{Line as WholeLine, Part, TooLong}
 use Rattle.race_files.specs.Left.{Left, behind, line_before, lines_in, none_left, part_left}
 
 -- a line may follow

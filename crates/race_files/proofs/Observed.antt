@@ -1,8 +1,8 @@
 -- Lines that are shown, one after the other.
-use Rattle.{gate_world.specs.declared.config.Config.Config, schedule_lines.specs.declared.output.Output.Output}
-use Rattle.schedule_text.specs.declared.commands.{Line.{Line, TheVariants.{Config as ConfigLine, Request, Skipped}}, Request.Request as RequestType}
 use Rattle.std.proofs.Common.{Bool, Err, List, None, Ok, Option, Result, Some, [], ap, append_assoc, false, refl, subst, sym, true, ℕ, ◌++◌, ◌∙◌, ◌∷◌}
 use Rattle.std.{proofs.Common.◌≡◌, specs.Result.{IsErrAnd, result_and}}
+use Rattle.{gate_world.specs.declared.config.Config.Config, schedule_lines.specs.declared.output.Output.Output}
+use Rattle.schedule_text.specs.declared.commands.{Line.{Line, TheVariants.{Config as ConfigLine, Request, Skipped}}, Request.Request as RequestType}
 use Rattle.transcripts.specs.{Limits.is_config, Transcript.{ReplayState, config_effect, line_effect}}
 use Rattle.race_files.specs.{Left.{Left, behind}, Observed.{AreShown, IsDoneShown, IsShown, ShowsLines}, SettingUp.{AreDone, Opens, SetsUp}}
 use Rattle.race_files.specs.declared.lines.Lines.{Lines}

@@ -1,6 +1,7 @@
 -- What all lines call, by the first of them; and lines that are left.
-use Rattle.{schedule_lines.specs.declared.faults.Fault.Fault, std.proofs.Common.{Err, List, None, Ok, Option, Result, Some, [], ap, append_assoc}}
-use Rattle.std.{proofs.Common.{inl, inr, refl, suc, sym, zero, ℕ, ◌++◌, ◌∙◌, ◌∷◌, ◌≡◌, ◌⊎◌}, specs.Result.{OnOk, result_and}}
+use Rattle.std.proofs.Common.{Err, List, None, Ok, Option, Result, Some, [], ap, append_assoc, inl, inr, refl, suc, sym, zero, ℕ, ◌++◌, ◌∙◌, ◌∷◌, ◌≡◌}
+use Rattle.std.{proofs.Common.◌⊎◌, specs.Result.{OnOk, result_and}}
+use Rattle.schedule_lines.specs.declared.faults.Fault.{Fault}
 use Rattle.race_files.specs.{Calls.{TaskCalls, calls_after, calls_of, ended, no_calls}, Faults.IsToldOrMemory, FirstFaults.{AreCalled, FailsInCalls}}
 use Rattle.race_files.specs.{FirstFaults.{IsMemory, calls_with_next}, Left.{AreLeftOf, BeginRace, Left, after_lines, behind, none_left}}
 use Rattle.race_files.specs.declared.faults.RaceFault.{RaceFault, TheVariants.Schedule}

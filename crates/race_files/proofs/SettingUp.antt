@@ -1,12 +1,13 @@
 -- Lines that set up, one after the other.
-use Rattle.{gate_world.specs.declared.config.Config.Config, schedule_lines.specs.{Numbers.is_digits, Words.{after_word, first_word, is_space}}}
-use Rattle.schedule_lines.specs.{Words.word_count, declared.faults.Fault.{Fault, TheVariants.{NoSuchTask, UnknownCommand, WrongNumberOfWords}}}
-use Rattle.schedule_text.specs.Parsing.{alone, arguments_of, command_line, config_line, config_of, expect, is_skipped, parsed, task_line, task_of}
-use Rattle.schedule_text.specs.{Parsing.◌>>=◌, Verbs.{takes, verb_of}, declared.commands.Line.{Line, TheVariants.Config as ConfigLine}}
-use Rattle.schedule_text.specs.declared.commands.{Line.TheVariants.{Request as RequestLine, Skipped}, Request.{Request, TheVariants.Task}}
 use Rattle.std.proofs.Common.{Bool, Err, IfOk, List, None, Ok, OnOk, Option, Result, Some, [], ap, append_assoc, arith, bytes_eq, codes, false}
 use Rattle.std.proofs.Common.{if◌then◌else◌, inl, inr, not, ok_or, refl, subst, suc, sym, take, true, ℕ, ◌++◌, ◌+◌, ◌==◌, ◌∙◌, ◌∷◌, ◌≡◌}
 use Rattle.std.{proofs.lemmas.{Bool.{cases_Bool, eqb-true}, Slice.Eq.bytes_eq-Decides}, specs.{List.position_or_len, Result.result_and}}
+use Rattle.gate_world.specs.declared.config.Config.{Config}
+use Rattle.schedule_lines.specs.{Numbers.is_digits, Words.{after_word, first_word, is_space, word_count}, declared.faults.Fault.Fault}
+use Rattle.schedule_lines.specs.declared.faults.Fault.TheVariants.{NoSuchTask, UnknownCommand, WrongNumberOfWords}
+use Rattle.schedule_text.specs.Parsing.{alone, arguments_of, command_line, config_line, config_of, expect, is_skipped, parsed, task_line, task_of}
+use Rattle.schedule_text.specs.{Parsing.◌>>=◌, Verbs.{takes, verb_of}, declared.commands.Line.{Line, TheVariants.Config as ConfigLine}}
+use Rattle.schedule_text.specs.declared.commands.{Line.TheVariants.{Request as RequestLine, Skipped}, Request.{Request, TheVariants.Task}}
 use Rattle.transcripts.specs.{Limits.is_config, Transcript.{ReplayState, config_effect, line_effect, opening_play, request_outcome}}
 use Rattle.race_files.specs.{Calls.is_race, Left.{Left, behind}, SettingUp.{AreDone, IsDone, Opens, SetsUp}}
 

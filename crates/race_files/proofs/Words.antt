@@ -1,6 +1,7 @@
 -- The first word of a line, and the first free place of a task.
-use Rattle.{schedule_lines.specs.Words.{first_word, is_space}, std.proofs.Common.{Bool, List, None, arith, length, length-take, ℕ, ◌≡◌, ◌≤◌}}
-use Rattle.std.{proofs.lemmas.{Bool.Decides.nat_tests, List.Sums.prefix_len-le-length}, specs.List.{position, position_or_len}}
+use Rattle.std.proofs.{Common.{Bool, List, None, arith, length, length-take, ℕ, ◌≡◌, ◌≤◌}, lemmas.Bool.Decides.nat_tests}
+use Rattle.std.{proofs.lemmas.List.Sums.prefix_len-le-length, specs.List.{position, position_or_len}}
+use Rattle.schedule_lines.specs.Words.{first_word, is_space}
 
 -- a word is no longer than the line
 pub word_within : (text : List ℕ) → length (first_word text) ≤ length text

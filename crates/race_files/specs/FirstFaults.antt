@@ -1,8 +1,8 @@
 -- The first fault of a race's text.
+use Rattle.std.specs.Prelude.{Bool, Err, List, None, Ok, Option, Result, Some, [], false, length, true, ℕ, ◌++◌, ◌+◌, ◌∷◌, ◌≡◌, ◌⊎◌}
 use Rattle.access_model.specs.declared.errors.GateError.TheVariants.{NoMemory}
 use Rattle.schedule_lines.specs.declared.{bytes.replay_faults.ReplayFault.ReplayFault, faults.Fault.{Fault, TheVariants.{ConfigExpected, Refused}}}
-use Rattle.{schedule_text.specs.{Parsing.parsed, declared.commands.Line.Line}, std.specs.Prelude.{Bool, Err, List, None, Ok, Option, Result, Some}}
-use Rattle.{std.specs.Prelude.{[], false, length, true, ℕ, ◌++◌, ◌+◌, ◌∷◌, ◌≡◌, ◌⊎◌}, transcripts.specs.Transcript.{ReplayState, line_effect}}
+use Rattle.{schedule_text.specs.{Parsing.parsed, declared.commands.Line.Line}, transcripts.specs.Transcript.{ReplayState, line_effect}}
 use Rattle.race_files.specs.{Calls.{TaskCalls, calls_after, calls_of, ended, is_race, no_calls}, Faults.IsFaultAfter, Left.{BeginRace, Left, behind}}
 use Rattle.race_files.specs.{Races.AllAreIdle, SettingUp.SetsUp, declared.faults.RaceFault.RaceFault}
 use Rattle.race_files.specs.declared.faults.RaceFault.TheVariants.{RaceExpected, Schedule, UnderWay}

@@ -1,6 +1,6 @@
 -- What the lines before a race set up.
-use Rattle.{schedule_text.specs.{Parsing.parsed, declared.commands.Line.Line}, std.specs.Prelude.{List, None, Ok, Option, Some, [], false, ℕ, ◌++◌}}
-use Rattle.{std.specs.Prelude.{◌∷◌, ◌≡◌}, transcripts.specs.Transcript.{ReplayState, line_effect, tasks_of}}
+use Rattle.std.specs.Prelude.{List, None, Ok, Option, Some, [], false, ℕ, ◌++◌, ◌∷◌, ◌≡◌}
+use Rattle.{schedule_text.specs.{Parsing.parsed, declared.commands.Line.Line}, transcripts.specs.Transcript.{ReplayState, line_effect, tasks_of}}
 use Rattle.race_files.specs.{Calls.is_race, Left.{Left, behind}}
 
 -- A line that is no `race` is understood, and has no fault: it makes this of the play that there was, or of none, as its transcript has it.

@@ -1,9 +1,10 @@
 -- What closed gates tell of a task with their only number.
+use Rattle.std.proofs.Common.{Err, List, None, Ok, OnOk, Option, Result, Some, [], ap, arith, false, inl, refl, subst, sym, true, ℕ, ◌<◌, ◌∙◌, ◌∷◌}
+use Rattle.std.proofs.Common.{◌≡◌}
 use Rattle.access_model.specs.{Holders.{held_by, nobody}, declared.actions.{Action.Action, Holder.{Holder, TheVariants.{Kernel, User}}}}
 use Rattle.access_model.specs.declared.{errors.GateError.{GateError, TheVariants.{Busy, Invalid}}, replies.Reply.Reply}
-use Rattle.{gate_steps.specs.Seating.{DealtNumbers, HaveHistory}, gate_world.specs.declared.{config.Config.Config, operations.Op.Op}}
-use Rattle.{gate_world.specs.declared.operations.Op.TheVariants.{Freeze as FreezeOp, Snapshot as SnapshotOp}, std.proofs.Common.{Err, List, None, Ok}}
-use Rattle.std.proofs.Common.{OnOk, Option, Result, Some, [], ap, arith, false, inl, refl, subst, sym, true, ℕ, ◌<◌, ◌∙◌, ◌∷◌, ◌≡◌}
+use Rattle.gate_steps.specs.Seating.{DealtNumbers, HaveHistory}
+use Rattle.gate_world.specs.declared.{config.Config.Config, operations.Op.{Op, TheVariants.{Freeze as FreezeOp, Snapshot as SnapshotOp}}}
 use Rattle.vfs_gates.proofs.{Grown.same_stays_seen, Holding.adds, Returning.was_done, Rounds.own_stays, call_laws.TreeStays.{now_held, tree_stays}}
 use Rattle.vfs_gates.proofs.{call_laws.TreeStays.tree_stays_between, several_tasks.{FreezesBeside.not_busy, FrozenUntilThawed.stands}}
 use Rattle.vfs_gates.specs.{Ended.EndedWith, Frozen.{MayFreeze, holders_of}, Held.own_actions, Meetings.{Entry, HasDone}}

@@ -1,12 +1,12 @@
 -- What the laws say of the calls of `tests::in_time`.
+use Rattle.std.proofs.Common.{Err, IfErr, List, None, Ok, OnOk, Result, ap, refl, subst, sym, true, ◌++◌, ◌∙◌, ◌≡◌}
 use Rattle.access_model.specs.declared.{errors.GateError.GateError, replies.Reply.Reply}
 use Rattle.gate_steps.{proofs.call_events.{Caused.call_caused_during, Effects.call_effect}, specs.call_events.Spans.HasItsCauseDuring}
-use Rattle.{gate_world.specs.declared.{config.Config.Config, operations.Op.{Op, TheVariants.Snapshot as SnapshotOp}}, std.proofs.Common.{Err, IfErr}}
-use Rattle.{std.proofs.Common.{List, None, Ok, OnOk, Result, ap, refl, subst, sym, true, ◌++◌, ◌∙◌, ◌≡◌}, vfs_gates.proofs.Grown.both_stay_seen}
-use Rattle.vfs_gates.proofs.{Returning.was_done, Taking.has_taken, call_laws.{NothingAdded.was_so, Timing.{calls_in_order, taken_during}}}
-use Rattle.vfs_gates.{proofs.several_tasks.{FrozenUntilThawed.some_number, Told.{comes_after_list, own_list, sent_list}}, specs.Grown.StaySeen}
-use Rattle.vfs_gates.specs.{Held.own_actions, Meetings.{ComesAfterList, Entry, SawList}, Runs.{Called, Performs, told_as, unit_of}}
-use Rattle.vfs_gates.specs.TaskStates.{SeatedTask, own_number, refusal_at}
+use Rattle.gate_world.specs.declared.{config.Config.Config, operations.Op.{Op, TheVariants.Snapshot as SnapshotOp}}
+use Rattle.vfs_gates.proofs.{Grown.both_stay_seen, Returning.was_done, Taking.has_taken, call_laws.{NothingAdded.was_so, Timing.calls_in_order}}
+use Rattle.vfs_gates.proofs.{call_laws.Timing.taken_during, several_tasks.{FrozenUntilThawed.some_number, Told.{comes_after_list, own_list}}}
+use Rattle.vfs_gates.{proofs.several_tasks.Told.sent_list, specs.{Grown.StaySeen, Held.own_actions, Meetings.{ComesAfterList, Entry, SawList}}}
+use Rattle.vfs_gates.specs.{Runs.{Called, Performs, told_as, unit_of}, TaskStates.{SeatedTask, own_number, refusal_at}}
 use Rattle.test_gates.specs.InTime.{CopiedDuring, DoneInOrder, FoundItSo, RefusedSince, TookEffect}
 
 -- what is so of a call that was done

@@ -1,11 +1,12 @@
 -- A task that holds an access, and may give a number away meanwhile.
+use Rattle.std.proofs.Common.{Err, List, Ok, Result, [], ap, inl, inr, length, subst, sym, true, ℕ, ◌++◌, ◌∙◌, ◌≡◌, ◌≤◌, ◌⊎◌}
 use Rattle.access_model.specs.declared.{actions.Action.Action, errors.GateError.{GateError, TheVariants.Busy}, replies.Reply.Reply}
-use Rattle.{gate_steps.specs.Seating.{DealtNumbers, HaveHistory}, gate_world.specs.declared.{config.Config.Config, operations.Op.Op}}
-use Rattle.{gate_world.specs.declared.operations.Op.TheVariants.RemountSb, std.proofs.Common.{Err, List, Ok, Result, [], ap, inl, inr, length, subst}}
-use Rattle.{std.proofs.Common.{sym, true, ℕ, ◌++◌, ◌∙◌, ◌≡◌, ◌≤◌, ◌⊎◌}, vfs_gates.proofs.{Grown.{same_stays_seen, stays_seen_on}, Returning.was_done}}
-use Rattle.vfs_gates.proofs.several_tasks.{Beside.{met_stays, second_has}, FrozenUntilThawed.{some_number, some_ran}, Keeping.remount_busy}
-use Rattle.vfs_gates.{proofs.several_tasks.Moving.{joined_second, split_keeps}, specs.{Grown.StaySeen, Held.own_actions, Meetings.{Encloses, Entry}}}
-use Rattle.vfs_gates.specs.{Meetings.{HasDone, HoldsAt, Meets}, Parts.SplitOf, Runs.{Called, Performs}, TaskStates.{SeatedTask, own_number}}
+use Rattle.gate_steps.specs.Seating.{DealtNumbers, HaveHistory}
+use Rattle.gate_world.specs.declared.{config.Config.Config, operations.Op.{Op, TheVariants.RemountSb}}
+use Rattle.vfs_gates.proofs.{Grown.{same_stays_seen, stays_seen_on}, Returning.was_done, several_tasks.Beside.{met_stays, second_has}}
+use Rattle.vfs_gates.proofs.several_tasks.{FrozenUntilThawed.{some_number, some_ran}, Keeping.remount_busy, Moving.{joined_second, split_keeps}}
+use Rattle.vfs_gates.specs.{Grown.StaySeen, Held.own_actions, Meetings.{Encloses, Entry, HasDone, HoldsAt, Meets}, Parts.SplitOf}
+use Rattle.vfs_gates.specs.{Runs.{Called, Performs}, TaskStates.{SeatedTask, own_number}}
 
 -- A call after a meeting, and a later state.
 encloses_by : (one two begins beside left : SeatedTask) (after : DealtNumbers) (last_seen : List (List Entry)) → Meets one two begins beside →

@@ -1,4 +1,5 @@
 -- States and refusals that no execution has, of which a clause says so: a wrong order of steps, or a weaker rule, would have them.
+use Rattle.std.proofs.Common.{Err, Ok, Some, [], arith, inl, inr, refl, suc, sym, true, true≢false, zero, ℕ, ◌%◌, ◌+◌, ◌∷◌, ◌≡◌, ◌≤◌}
 use Rattle.access_model.specs.declared.{actions.Holder.Holder, errors.GateError.GateError, replies.Reply.Reply}
 use Rattle.{cpu_words.specs.{Sums.lead, Words.Words, gate_counts.{Gates.{admitted, unread}, Levels.level_as_gate}}, finite_sums.specs.Sums.total}
 use Rattle.{freeze_levels.specs.declared.freezes.FreezeStep.FreezeStep, gate_schedules.specs.{Frozen.FrozenIsClosed, Leads.MountsLead}}
@@ -7,7 +8,6 @@ use Rattle.gate_world.specs.{Views.opening_view, Worlds.{World, opening}, declar
 use Rattle.gated_tree.specs.declared.{phases.TreePhase.TreePhase, snapshots.SnapshotStep.SnapshotStep}
 use Rattle.mount_counts.specs.{Roles.counted, declared.phases.{Change.Change, ChangeStep.ChangeStep, MountPhase.MountPhase, WantStep.WantStep}}
 use Rattle.percpu_rwsem.specs.declared.{readers.DownReadStep.DownReadStep, writers.DownWriteStep.DownWriteStep}
-use Rattle.std.proofs.Common.{Err, Ok, Some, [], arith, inl, inr, refl, suc, sym, true, true≢false, zero, ℕ, ◌%◌, ◌+◌, ◌∷◌, ◌≡◌, ◌≤◌}
 use Rattle.test_schedules.specs.Schedules.{small}
 
 -- a task of which nothing is known but what it is at

@@ -1,8 +1,9 @@
 -- Worked executions of refusals and their causes, by computing: in which states a cause may lie.
+use Rattle.std.proofs.Common.{Err, List, Ok, [], arith, false, length, refl, true, ◌++◌, ◌∷◌, ◌≡◌}
 use Rattle.{access_model.specs.declared.errors.GateError.GateError, gate_transitions.specs.{Answers.step_answer, declared.steps.Progress.Progress}}
 use Rattle.gate_world.specs.{Worlds.{opening, run}, declared.{entries.Entry.{Entry, TheVariants.Begins}, operations.Op.Op}}
 use Rattle.gate_world.specs.refusals.Causes.{ChangeRefused, SomeWasCounted, WantRefused, last_question, moments_of_sum, since_begun, trail_of}
-use Rattle.{gate_world.specs.refusals.Causes.was_counted, std.proofs.Common.{Err, List, Ok, [], arith, false, length, refl, true, ◌++◌, ◌∷◌, ◌≡◌}}
+use Rattle.gate_world.specs.refusals.Causes.{was_counted}
 use Rattle.test_schedules.specs.Schedules.{small, steps}
 
 -- a remount while another task holds an access, up to its last step, which refuses it as busy

@@ -1,13 +1,14 @@
 -- Worked executions of a freeze that gives up, by computing: at level 1 and at level 2, what it leaves, and what goes on after it.
+use Rattle.std.proofs.Common.{Bool, Err, List, Ok, Some, [], ap, arith, false, inl, inr, length, refl, sym, true, true≢false, ℕ, ◌&&◌, ◌++◌, ◌==◌}
+use Rattle.std.proofs.{Common.{◌||◌, ◌∷◌, ◌≡◌}, lemmas.Bool.eq-eqb}
 use Rattle.access_model.specs.declared.{actions.{Action.Action, Gate.Gate, Holder.Holder}, errors.GateError.GateError}
 use Rattle.access_model.specs.declared.replies.{Next.TheVariants.Done as Ends, Reply.Reply}
 use Rattle.{cpu_words.specs.{Hooks.HookAnswer, declared.names.WordName.WordName}, freeze_levels.specs.declared.hooks.HookKind.HookKind}
 use Rattle.gate_schedules.specs.operations.Progress.{AFreezeIsKept}
-use Rattle.{gate_transitions.specs.{Answers.{step_answer, wanted_hook}, declared.steps.Progress.Progress}, gate_world.specs.Views.holds_level}
-use Rattle.gate_world.specs.{Worlds.{history, opening, run}, declared.{entries.Entry.{Entry, TheVariants.{Begins, Steps}}, operations.Op.Op}}
-use Rattle.gate_world.specs.{declared.views.Traced.Traced, traces.{Found.{ReadAnswer, clears_word, is_clearing}, Traces.{IsHonest, Tells}}}
-use Rattle.std.proofs.Common.{Bool, Err, List, Ok, Some, [], ap, arith, false, inl, inr, length, refl, sym, true, true≢false, ℕ, ◌&&◌, ◌++◌, ◌==◌}
-use Rattle.std.proofs.{Common.{◌||◌, ◌∷◌, ◌≡◌}, lemmas.Bool.eq-eqb}
+use Rattle.gate_transitions.specs.{Answers.{step_answer, wanted_hook}, declared.steps.Progress.Progress}
+use Rattle.gate_world.specs.{Views.holds_level, Worlds.{history, opening, run}, declared.entries.Entry.{Entry, TheVariants.{Begins, Steps}}}
+use Rattle.gate_world.specs.{declared.{operations.Op.Op, views.Traced.Traced}, traces.Found.{ReadAnswer, clears_word, is_clearing}}
+use Rattle.gate_world.specs.traces.Traces.{IsHonest, Tells}
 use Rattle.test_schedules.specs.Schedules.{small, steps}
 
 -- a freeze beside a reader of level 1 that stays: after its sum it asks whether to wait on, and is kept

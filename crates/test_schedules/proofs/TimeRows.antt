@@ -1,4 +1,6 @@
 -- Worked executions in the order of time, by computing: what an execution alone allows, and what one that goes on from all that was seen refuses.
+use Rattle.std.proofs.Common.{Err, List, None, Ok, Option, Some, [], ap, arith, false, refl, slice_index, suc, sym, true, zero, ℕ, ◌*◌, ◌++◌, ◌+◌}
+use Rattle.std.proofs.{Common.{◌<◌, ◌∙◌, ◌∷◌, ◌≡◌}, lemmas.List.append_assoc}
 use Rattle.{access_model.specs.declared.{actions.Holder.Holder, errors.GateError.GateError}, cpu_words.specs.Touches.event_of}
 use Rattle.gate_steps.specs.{Seating.{DealtNumbers, IsPrefix}, call_events.{Caused.IsCausedBy, SeatedTasks.own_number}}
 use Rattle.gate_steps.specs.call_events.Spans.{IsCausedDuring, IsEventDuring, IsTreeDuring}
@@ -7,8 +9,7 @@ use Rattle.gate_world.specs.{Configs.IsWithin, Moments.IsPresentTree, Views.with
 use Rattle.gate_world.specs.declared.{entries.Entry.{Entry, TheVariants.Begins}, operations.Op.Op, views.Traced.Traced, work.Phase.Phase}
 use Rattle.gate_world.specs.refusals.Causes.{WantRefused, last_question, since_begun, trail_of}
 use Rattle.{gated_tree.specs.{Trees.node_at, declared.trees.TreeWords.TreeWords}, mount_counts.specs.declared.phases.MountPhase.MountPhase}
-use Rattle.{node_words.specs.Nodes.node_shown, std.proofs.Common.{Err, List, None, Ok, Option, Some, [], ap, arith, false, refl, slice_index, suc}}
-use Rattle.std.proofs.{Common.{sym, true, zero, ℕ, ◌*◌, ◌++◌, ◌+◌, ◌<◌, ◌∙◌, ◌∷◌, ◌≡◌}, lemmas.List.append_assoc}
+use Rattle.node_words.specs.Nodes.{node_shown}
 use Rattle.test_schedules.{proofs.TreeRows.{freezes as frozen, snapshots}, specs.Schedules.{small, steps}}
 
 -- whose transition stands at a place; past the end, nobody's, which 64 is

@@ -1,8 +1,9 @@
 -- Worked executions of calls at the tree, by computing, on two processors and one mount.
-use Rattle.access_model.specs.declared.{actions.{Action.Action, Gate.Gate, Holder.Holder, Kind.Kind}, errors.GateError.GateError, replies.Reply.Reply}
-use Rattle.{gate_transitions.specs.{Answers.step_answer, declared.steps.Progress.Progress}, gate_world.specs.Worlds.{history, opening, run}}
-use Rattle.gate_world.specs.{declared.{entries.Entry.{Entry, TheVariants.Begins}, operations.Op.Op}, traces.Snapshots.values_noted}
 use Rattle.std.proofs.Common.{Err, List, Ok, Some, [], refl, true, ◌*◌, ◌++◌, ◌+◌, ◌∷◌, ◌≡◌}
+use Rattle.access_model.specs.declared.{actions.{Action.Action, Gate.Gate, Holder.Holder, Kind.Kind}, errors.GateError.GateError, replies.Reply.Reply}
+use Rattle.gate_transitions.specs.{Answers.step_answer, declared.steps.Progress.Progress}
+use Rattle.gate_world.specs.{Worlds.{history, opening, run}, declared.{entries.Entry.{Entry, TheVariants.Begins}, operations.Op.Op}}
+use Rattle.gate_world.specs.traces.Snapshots.{values_noted}
 use Rattle.test_schedules.specs.Schedules.{small, steps}
 
 -- a create, with write access: it loads the directory and the one other node, charges the child and takes the node

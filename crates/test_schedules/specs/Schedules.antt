@@ -1,6 +1,7 @@
 -- Executions that were written out by hand, on two processors and one mount.
+use Rattle.std.specs.Prelude.{List, Ok, replicate, true, ℕ, ◌++◌, ◌∷◌}
 use Rattle.gate_world.specs.declared.{config.Config.Config, entries.Entry.{Entry, TheVariants.{Begins, Steps}}}
-use Rattle.{gate_world.specs.declared.operations.Op.TheVariants.{DropMount, Want}, std.specs.Prelude.{List, Ok, replicate, true, ℕ, ◌++◌, ◌∷◌}}
+use Rattle.gate_world.specs.declared.operations.Op.TheVariants.{DropMount, Want}
 
 -- three tasks, two processors, one mount
 abbrev pub small : Config

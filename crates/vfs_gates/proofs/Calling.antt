@@ -6,7 +6,8 @@ use Rattle.vfs_gates.proofs.Prelude.{task_state, ℕ, ◌∙◌, ◌∷◌, ◌�
 use Rattle.gate_steps.proofs.call_events.{Beginnings.{MayBegin, first_fits, may_begin}, Running.{not_refused, starts_asking_none}}
 use Rattle.gate_steps.specs.call_events.{Answers.unless_refused, Asking.{CalledAsking, OpUnderWayWith}, GhostAgrees.{OwnNumberAgrees, PhaseOk}}
 use Rattle.gate_steps.specs.call_events.{Seating.DealtNumbers, Turns.{AgreesAfter, StateAgrees}, Waited.OpAfterStepWaiting}
-use Rattle.{gate_steps.specs.declared.seating.Knowledge.Knowledge, gate_world.specs.{Beginnings.refusal, Fits.Fits}}
+use Rattle.gate_steps.specs.declared.seating.Knowledge.{Knowledge}
+use Rattle.gate_world.specs.{Beginnings.refusal, Fits.Fits}
 use Rattle.vfs_gates.{proofs.Admitting.{admitted_by, admitted_unless, first_by, first_so}, specs.TaskStates.beginning_at}
 use Rattle.vfs_gates.specs.declared.task.Task.TheInside.{Inside}
 

@@ -6,9 +6,10 @@ use Rattle.vfs_gates.proofs.Prelude.{found_read_only, found_sealed, has_flag, in
 use Rattle.vfs_gates.proofs.Prelude.{refusal_at, state_of_trace, subst, sym, told_as, true, true≢false, ℕ, ◌++◌, ◌<◌, ◌∙◌, ◌∷◌, ◌≡◌}
 use Rattle.access_model.specs.declared.actions.Action.TheVariants.{Clean, Close as CloseAction, Leave, Open as OpenAction, Pass, Return}
 use Rattle.access_model.specs.declared.{actions.Action.TheVariants.Stage as StageAction, replies.Reply.TheVariants.Node as NodeReply}
-use Rattle.{cpu_words.specs.declared.events.Touch.TheVariants.And, gate_steps.proofs.call_events.{Asked.either_way, Effects.none_moves}}
-use Rattle.{gate_steps.specs.call_events.Seating.DealtNumbers, gate_world.specs.Holdings.{Holdings, held_after, holdings_of}}
-use Rattle.gate_world.specs.{Operations.all_levels_closed, declared.operations.Op.TheVariants.{Create, DropMount, DropWrite, End, Open}}
+use Rattle.cpu_words.specs.declared.events.Touch.TheVariants.{And}
+use Rattle.gate_steps.{proofs.call_events.{Asked.either_way, Effects.none_moves}, specs.call_events.Seating.DealtNumbers}
+use Rattle.gate_world.specs.{Holdings.{Holdings, held_after, holdings_of}, Operations.all_levels_closed}
+use Rattle.gate_world.specs.declared.operations.Op.TheVariants.{Create, DropMount, DropWrite, End, Open}
 use Rattle.gate_world.specs.traces.Found.{clean_found, cleans, found_complete, found_shared}
 use Rattle.vfs_gates.specs.Held.{takes_nothing}
 

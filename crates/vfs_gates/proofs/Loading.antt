@@ -4,12 +4,14 @@ use Rattle.vfs_gates.proofs.Prelude.{LoadsNode, LoadsStage, LoadsUsed, Locks, Ne
 use Rattle.vfs_gates.proofs.Prelude.{TreeWords, Trees, after_of, ap, arith, at_snapshot, completed, event_of, false, first_phase, if◌then◌else◌}
 use Rattle.vfs_gates.proofs.Prelude.{is_some, items_after, length, map_next, not, phase_after, refl, snapshot_at, state_at, subst, sym, true}
 use Rattle.vfs_gates.proofs.Prelude.{unpacked, with_words, ℕ, ◌<◌, ◌∙◌, ◌≡◌, ◌≤◌}
-use Rattle.{access_model.specs.declared.replies.Reply.TheVariants.Tree as TreeReply, gate_steps.proofs.call_events.Leading.{led_nowhere, led_on}}
-use Rattle.gate_steps.specs.{call_events.{Led.{Led, Stands, TaskSeat}, Turns.StateAgrees}, declared.call_events.words.GateWords.GateWords}
+use Rattle.std.proofs.{Common.slice_set as set, lemmas.Bool.Decides.nat_tests}
+use Rattle.access_model.specs.declared.replies.Reply.TheVariants.{Tree as TreeReply}
+use Rattle.gate_steps.{proofs.call_events.Leading.{led_nowhere, led_on}, specs.call_events.{Led.{Led, Stands, TaskSeat}, Turns.StateAgrees}}
+use Rattle.gate_steps.specs.declared.call_events.words.GateWords.{GateWords}
 use Rattle.gate_world.specs.{Accesses.accesses_after, declared.operations.Op.TheVariants.Snapshot as SnapshotOp}
 use Rattle.gated_tree.specs.{Phases.{kids_step, node_step, snapshot_next}, declared.phases.TreePhase.TheVariants.Snapshot as Snapshots}
-use Rattle.{gated_tree.specs.declared.snapshots.Snapshot.Snapshot, node_words.specs.Nodes.node_after}
-use Rattle.std.proofs.{Common.slice_set as set, lemmas.Bool.Decides.nat_tests}
+use Rattle.gated_tree.specs.declared.snapshots.Snapshot.{Snapshot}
+use Rattle.node_words.specs.Nodes.{node_after}
 use Rattle.vfs_gates.proofs.{Calling.{Call, idle, items_of, not_begun, same}, Noting.follows_taking, Taking.adds_none, Waiting.has_number}
 use Rattle.vfs_gates.specs.{Buffers.after_noting, Noted.{Noted, with_kids, with_nodes}}
 

@@ -4,13 +4,14 @@ use Rattle.vfs_gates.proofs.Prelude.{LoadsStage, LoadsUsed, Locks, Next, None, N
 use Rattle.vfs_gates.proofs.Prelude.{Wait, WordName, [], after_of, ap, arith, at_snapshot, cases_Bool, completed, done_by, event_of, false}
 use Rattle.vfs_gates.proofs.Prelude.{if◌then◌else◌, inl, inr, is_load, is_some, items_after, last_snapshot, length, map_next, next_of, not, own_view}
 use Rattle.vfs_gates.proofs.Prelude.{phase_after, refl, subst, suc, sym, true, unpacked, with_words, zero, ℕ, ◌+◌, ◌==◌, ◌∙◌, ◌∷◌, ◌≡◌, ◌≤◌}
+use Rattle.std.proofs.{Common.{add-one, slice_set as set, take}, lemmas.{Bool.Decides.nat_tests, Grind.common_steps}}
+use Rattle.std.proofs.lemmas.List.{length-replicate, length-set, take-set, take_all}
 use Rattle.{access_model.specs.declared.errors.GateError.TheVariants.{Again, Invalid}, cpu_words.specs.declared.names.WordName.TheVariants.Kids}
 use Rattle.gate_steps.proofs.call_events.Asked.{either_way}
 use Rattle.gate_world.specs.{declared.views.Snapshot.Snapshot as Noted, traces.Snapshots.{completes, loads_noted, noted_last}}
 use Rattle.gated_tree.specs.{Phases.{kids_step, node_step}, Trees.loaded, declared.phases.TreePhase.TheVariants.Snapshot as Snapshots}
-use Rattle.{gated_tree.specs.declared.snapshots.{Snapshot.Snapshot as Taking, SnapshotStep.SnapshotStep}, node_words.specs.Nodes.node_after}
-use Rattle.std.proofs.{Common.{add-one, slice_set as set, take}, lemmas.{Bool.Decides.nat_tests, Grind.common_steps}}
-use Rattle.std.proofs.lemmas.List.{length-replicate, length-set, take-set, take_all}
+use Rattle.gated_tree.specs.declared.snapshots.{Snapshot.Snapshot as Taking, SnapshotStep.SnapshotStep}
+use Rattle.node_words.specs.Nodes.{node_after}
 use Rattle.vfs_gates.specs.Buffers.{HasNodes, IsSized, LastTells, NextTells, StepTells, after_noting, noted_in, trace_so_far}
 
 -- what a step adds to the own view: itself, and the snapshot that it completes

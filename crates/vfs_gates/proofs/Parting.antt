@@ -2,11 +2,12 @@
 use Rattle.vfs_gates.proofs.Prelude.{AllRest, Bool, Config, Empty, GhostAgrees, IsWithin, List, None, Numbered, Op, Option, TaskState, View, [], ap}
 use Rattle.vfs_gates.proofs.Prelude.{arith, cond, dite, eqb, false, get_elem?, get_or, inl, inr, length, opening_view, own_view, refl, set, some}
 use Rattle.vfs_gates.proofs.Prelude.{spare_of, subst, suc, sym, true, view_in-at, zero, ℕ, ℕ_discrete, ◌++◌, ◌<◌, ◌∙◌, ◌∷◌, ◌≡◌, ◌≤◌, ◌⊎◌}
+use Rattle.std.proofs.{Common.{get_or-set_other, get_or-set_same, replicate, ⊎_elim, ◌↔◌}, lemmas.Bool.cases_lt}
+use Rattle.std.proofs.lemmas.List.{get_or-replicate, get_or_past}
 use Rattle.gate_steps.proofs.call_events.{Dealing.{one_if-other, one_if-same, times-append}, Giving.{times-without, times-without_other}}
-use Rattle.gate_steps.{proofs.call_events.Opening.{times-deal, times-deal_above, times-deal_below}, specs.call_events.GhostAgrees.{IsStill, Keeps}}
-use Rattle.gate_steps.specs.call_events.{GhostAgrees.{OwnNumberAgrees, PhaseOk}, Seating.{DealtNumbers, deal, given_of, kept_of, numbered, one_if}}
-use Rattle.{gate_steps.specs.call_events.{Seating.{renewed, times, view_in, without}, TaskStates.idle_task}, std.proofs.Common.get_or-set_other}
-use Rattle.std.proofs.{Common.{get_or-set_same, replicate, ⊎_elim, ◌↔◌}, lemmas.{Bool.cases_lt, List.{get_or-replicate, get_or_past}}}
+use Rattle.gate_steps.proofs.call_events.Opening.{times-deal, times-deal_above, times-deal_below}
+use Rattle.gate_steps.specs.call_events.{GhostAgrees.{IsStill, Keeps, OwnNumberAgrees, PhaseOk}, Seating.{DealtNumbers, deal, given_of, kept_of}}
+use Rattle.gate_steps.specs.call_events.{Seating.{numbered, one_if, renewed, times, view_in, without}, TaskStates.idle_task}
 use Rattle.vfs_gates.{proofs.FlagSteps.{IsSet, false_true}, specs.TaskStates.IsNothing}
 use mathlib.Core.Option.{some-injective, some-ne-none}
 use native.Mathlib.Decide.{dec_lt}

@@ -3,10 +3,10 @@ use Rattle.vfs_gates.proofs.Prelude.{Bool, Called, Config, Err, GateError, Grant
 use Rattle.vfs_gates.proofs.Prelude.{Op, Option, Performs, Reply, Result, SeatedTask, Some, Traced, Want, WantWrite, and_parts, ap, arith, eqb_tells}
 use Rattle.vfs_gates.proofs.Prelude.{false, held_of, inl, inr, is_some, lt-ltb, mounts_of, not, own_actions, own_view, refl, refusal_at, subst, sym}
 use Rattle.vfs_gates.proofs.Prelude.{told_as, true, unit_of, update_at, ℕ, ◌+◌, ◌-◌, ◌<◌, ◌∙◌, ◌∷◌, ◌≡◌}
+use Rattle.std.proofs.{Common.nat_lt, Math.Path.fun_ext, lemmas.Bool.{ltb-true, not-true}}
 use Rattle.access_model.specs.{Histories.levels_of, declared.actions.Action.TheVariants.Return}
 use Rattle.{finite_sums.{proofs.Totals.update_off, specs.Sums.update}, gate_steps.proofs.call_events.Beginnings.{MayBegin, may_begin}}
 use Rattle.gate_world.specs.{Holdings.{Holdings, held_after, holdings_of}, declared.operations.Op.TheVariants.{DropMount, DropWrite}}
-use Rattle.std.proofs.{Common.nat_lt, Math.Path.fun_ext, lemmas.Bool.{ltb-true, not-true}}
 use Rattle.vfs_gates.{proofs.Holding.{adds, stays, unchanged}, specs.Held.IsGivenBack}
 
 -- a call that was done began, and was one whole operation that replied

@@ -6,12 +6,13 @@ use Rattle.vfs_gates.proofs.Prelude.{completed_by, deal, done_by, event_of, fals
 use Rattle.vfs_gates.proofs.Prelude.{items_at, kept_of, last_snapshot, length, map_next, next_of, option_map, own_number, own_view, phase_after}
 use Rattle.vfs_gates.proofs.Prelude.{ran_items, ran_snapshot, refl, state_of_trace, subst, suc, sym, task_state, trace_state_after, true≢false, zero}
 use Rattle.vfs_gates.proofs.Prelude.{ℕ, ◌++◌, ◌∙◌, ◌∷◌, ◌≡◌, ◌≤◌}
-use Rattle.{gate_steps.specs.{Seating.knows, call_events.{Step.Step, Turns.step_was}}, gate_world.specs.declared.views.Snapshot.Snapshot as Noted}
-use Rattle.gate_world.specs.declared.work.Phase.TheVariants.{Callbacks, Closes, DownReads, Freezes, Mounts, Remounts, Thaws, UpReads, Writes}
-use Rattle.gate_world.specs.traces.Snapshots.{completes}
+use Rattle.gate_steps.specs.{Seating.knows, call_events.{Step.Step, Turns.step_was}}
+use Rattle.gate_world.specs.declared.{views.Snapshot.Snapshot as Noted, work.Phase.TheVariants.{Callbacks, Closes, DownReads, Freezes, Mounts}}
+use Rattle.gate_world.specs.{declared.work.Phase.TheVariants.{Remounts, Thaws, UpReads, Writes}, traces.Snapshots.completes}
 use Rattle.gated_tree.specs.declared.phases.TreePhase.TheVariants.{ClearMarks as TreeClears, Create as Creates, Grow as Grows, Mark as TreeMarks}
 use Rattle.gated_tree.specs.declared.phases.TreePhase.TheVariants.{MoveTo as Moves, OpenFile as OpensOne, Remove as Removes, Snapshot as Snapshots}
-use Rattle.{gated_tree.specs.declared.{phases.TreePhase.TreePhase, snapshots.Snapshot.Snapshot as Taking}, percpu_rwsem.specs.Readers.up_read_after}
+use Rattle.gated_tree.specs.declared.{phases.TreePhase.TreePhase, snapshots.Snapshot.Snapshot as Taking}
+use Rattle.percpu_rwsem.specs.Readers.{up_read_after}
 use Rattle.vfs_gates.proofs.Calling.{Call, Left, ended_at, goes_at, idle, own_is}
 use Rattle.vfs_gates.specs.Buffers.{HasSnapshotRoom, LastTells, NextTells, is_of_snapshot, last_in, trace_so_far}
 

@@ -5,11 +5,12 @@ use Rattle.vfs_gates.proofs.Prelude.{TableId, TaskState, Thaw, Traced, View, Wai
 use Rattle.vfs_gates.proofs.Prelude.{event_of, false, first_items, found_by, given_of, is_some, items_after, items_at, kept_of, length, next_of}
 use Rattle.vfs_gates.proofs.Prelude.{opening_view, own_number, own_view, phase_after, ran_items, refl, state_at, state_of_trace, subst, suc, sym}
 use Rattle.vfs_gates.proofs.Prelude.{task_state, true, true≢false, zero, ℕ, ◌++◌, ◌+◌, ◌∙◌, ◌∷◌, ◌≡◌, ◌≤◌}
+use Rattle.std.proofs.Common.{add-zero}
 use Rattle.gate_steps.{proofs.call_events.Running.{course_is, same_wait}, specs.{Seating.knows, call_events.GhostAgrees.PhaseOk}}
 use Rattle.gate_steps.specs.call_events.{Refused.{IsHonestWait, WaitsHonestly}, Runs.{IsBounded, begins_at}, Step.Step, Turns.step_was}
 use Rattle.gate_steps.specs.call_events.Waited.{OpAfterStepWaiting, OpUnderWayWaiting, waits_by, waits_in}
 use Rattle.gate_world.specs.{Views.{begun_view, view_after_with_others, with_hook}, declared.operations.Op.TheVariants.Snapshot}
-use Rattle.{gate_world.specs.traces.{TraceStates.TraceState, Traces.{MayWait, most_events}}, std.proofs.Common.add-zero}
+use Rattle.gate_world.specs.traces.{TraceStates.TraceState, Traces.{MayWait, most_events}}
 use Rattle.vfs_gates.{proofs.Calling.{Call, Left, same}, specs.Waits.{StandsBy, counted, is_wait}}
 
 -- an idle number with no operation has none to tell

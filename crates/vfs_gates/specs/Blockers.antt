@@ -1,8 +1,8 @@
 -- What blocks a step that waits, in the state in which it was done.
-use Rattle.{cpu_words.specs.Hooks.HookAnswer, gate_steps.specs.{Seating.{DealtNumbers, IsPrefix}, call_events.SeatedTasks.own_number}}
-use Rattle.{gate_steps.specs.call_events.Spans.{IsEventDuring, worlds_since}, gate_world.specs.{Headline.world_after, declared.config.Config.Config}}
-use Rattle.gate_world.specs.declared.{entries.Entry.{Entry, TheVariants.Steps}, operations.Op.Op, views.Traced.Traced, work.Phase.Phase}
-use Rattle.{gate_world.specs.refusals.{Causes.{since_begun, trail_of}, Waits.HasCulpritAmong}, std.specs.Prelude.{List, Some, [], ℕ, ◌++◌, ◌∷◌, ◌≡◌}}
+use Rattle.{cpu_words.specs.Hooks.HookAnswer, std.specs.Prelude.{List, Some, [], ℕ, ◌++◌, ◌∷◌, ◌≡◌}}
+use Rattle.gate_steps.specs.{Seating.{DealtNumbers, IsPrefix}, call_events.{SeatedTasks.own_number, Spans.{IsEventDuring, worlds_since}}}
+use Rattle.gate_world.specs.{Headline.world_after, declared.{config.Config.Config, entries.Entry.{Entry, TheVariants.Steps}, operations.Op.Op}}
+use Rattle.gate_world.specs.{declared.{views.Traced.Traced, work.Phase.Phase}, refusals.{Causes.{since_begun, trail_of}, Waits.HasCulpritAmong}}
 use lib.ListN.{get_elem?}
 use mathlib.Core.Option.{some}
 

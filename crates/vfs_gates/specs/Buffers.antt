@@ -1,10 +1,11 @@
 -- Room for the snapshots of a task, and what it tells of them.
+use Rattle.std.specs.Prelude.{Bool, List, None, Option, Some, [], false, if◌then◌else◌, length, take, true, ℕ, ◌≡◌}
 use Rattle.{cpu_words.specs.declared.events.Event.Event, gate_steps.specs.Seating.DealtNumbers}
 use Rattle.gate_world.specs.declared.{operations.Op.Op, views.{Snapshot.Snapshot, Traced.Traced, View.View}, work.Phase.{Phase, TheVariants.Trees}}
-use Rattle.{gate_world.specs.traces.{Found.is_load, Snapshots.loads_noted}, gated_tree.specs.Trees.{loaded, loads_last, words_of}}
-use Rattle.gated_tree.specs.declared.{phases.TreePhase.{TheVariants.Snapshot as Snapshots, TreePhase}, snapshots.Snapshot.Snapshot as Taking}
-use Rattle.gated_tree.specs.declared.{snapshots.SnapshotStep.{SnapshotStep, TheVariants.{LoadsKids, LoadsNode}}, trees.TreeWords.TreeWords}
-use Rattle.std.specs.Prelude.{Bool, List, None, Option, Some, [], false, if◌then◌else◌, length, take, true, ℕ, ◌≡◌}
+use Rattle.gate_world.specs.traces.{Found.is_load, Snapshots.loads_noted}
+use Rattle.gated_tree.specs.{Trees.{loaded, loads_last, words_of}, declared.phases.TreePhase.{TheVariants.Snapshot as Snapshots, TreePhase}}
+use Rattle.gated_tree.specs.declared.snapshots.{Snapshot.Snapshot as Taking, SnapshotStep.{SnapshotStep, TheVariants.{LoadsKids, LoadsNode}}}
+use Rattle.gated_tree.specs.declared.trees.TreeWords.{TreeWords}
 use Rattle.vfs_gates.specs.{TaskStates.own_view, declared.buffers.SnapshotBuffers.SnapshotBuffers}
 
 -- What a task's buffers have: whether there is a last snapshot, its words, and those of the snapshot that is being taken.

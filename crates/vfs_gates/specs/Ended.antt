@@ -1,9 +1,10 @@
 -- What is known of the words once no thread shares them.
+use Rattle.std.specs.Prelude.{List, None, slice_index, ℕ, ◌*◌, ◌<◌, ◌≡◌, ◌≤◌}
 use Rattle.cpu_words.specs.{Names.{place, stride}, Words.opening_words, declared.names.WordName.TheVariants.{Kids, Node, Used}}
 use Rattle.gate_steps.specs.{Histories.HasHistory, Rules.{Ruled, TableShows}, Seating.{DealtNumbers, HaveSeen, HaveViews, times}}
 use Rattle.gate_steps.specs.call_events.GhostAgrees.{IsStill}
 use Rattle.gate_world.specs.{Configs.IsWithin, Headline.world_after, Worlds.World, declared.{config.Config.Config, entries.Entry.Entry}}
-use Rattle.{gated_tree.specs.Trees.IsSound, node_words.specs.Nodes.node_shown, std.specs.Prelude.{List, None, slice_index, ℕ, ◌*◌, ◌<◌, ◌≡◌, ◌≤◌}}
+use Rattle.{gated_tree.specs.Trees.IsSound, node_words.specs.Nodes.node_shown}
 use Rattle.vfs_gates.specs.TaskStates.{HoldsNothing, IsIdle, SeatedTask}
 
 -- the task rests, and each number is its own or its to give

@@ -1,9 +1,10 @@
 -- What a call found that was done and added nothing, and the instant at which that was so.
-use Rattle.access_model.specs.{Laws.IsReadOnly, declared.replies.Reply.{Reply, TheVariants.Ran}}
+use Rattle.{access_model.specs.{Laws.IsReadOnly, declared.replies.Reply.{Reply, TheVariants.Ran}}, std.specs.Prelude.{List, [], false, true, ◌≡◌}}
 use Rattle.gate_steps.specs.{Seating.DealtNumbers, call_events.Spans.IsEventDuring}
 use Rattle.gate_world.specs.{Headline.world_after, Shown.shown, Worlds.World, declared.{config.Config.Config, entries.Entry.Entry, operations.Op.Op}}
 use Rattle.gate_world.specs.declared.{operations.Op.TheVariants.{Callback, ChangeMount, RemountSb, Snapshot}, views.Traced.Traced}
-use Rattle.{gate_world.specs.traces.Found.none_queued, percpu_rwsem.specs.SyncWords.unpack, std.specs.Prelude.{List, [], false, true, ◌≡◌}}
+use Rattle.gate_world.specs.traces.Found.{none_queued}
+use Rattle.percpu_rwsem.specs.SyncWords.{unpack}
 
 -- What is so in a state, if an operation has nothing to add there: the mount is read-only, by its own flag or the superblock's, or it is writable, by
 -- both; the superblock is as it was asked for; the level has no callback queued that isn't taken; everything is frozen. Of a callback that ran the

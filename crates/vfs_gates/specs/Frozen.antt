@@ -1,7 +1,8 @@
 -- Who holds a freeze by a task's own list, and which lists leave none.
+use Rattle.std.specs.Prelude.{List, [], false, true, ℕ, ◌∷◌, ◌≡◌, ◌⊎◌}
 use Rattle.access_model.specs.{Holders.{held_by, nobody, with_holder}, declared.actions.Action.{Action, TheVariants.{Hold, Leave, Stage}}}
 use Rattle.access_model.specs.declared.actions.{Holder.Holder, Holders.Holders}
-use Rattle.{gate_world.specs.declared.operations.Op.{Op, TheVariants.{Snapshot, Thaw}}, std.specs.Prelude.{List, [], false, true, ℕ, ◌∷◌, ◌≡◌, ◌⊎◌}}
+use Rattle.gate_world.specs.declared.operations.Op.{Op, TheVariants.{Snapshot, Thaw}}
 
 -- who holds a freeze if nobody took or left one but by these actions, the newest first
 abbrev pub holders_of : List Action → Holders

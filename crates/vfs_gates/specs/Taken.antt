@@ -1,8 +1,8 @@
 -- A snapshot's call that answers with its tree.
+use Rattle.std.specs.{Borrow.{Bor, Fml, MutBor, follows_so}, Prelude.{Err, Ok, Result, Some, true, ⊤, ◌≡◌}}
 use Rattle.{access_model.specs.declared.errors.GateError.GateError, gate_steps.specs.call_events.Runs.Performs}
 use Rattle.gate_world.specs.declared.{operations.Op.TheVariants.Snapshot as SnapshotOp, views.Snapshot.Snapshot}
 use Rattle.gated_tree.specs.{Trees.words_of, declared.trees.Tree.Tree}
-use Rattle.std.specs.{Borrow.{Bor, Fml, MutBor, follows_so}, Prelude.{Err, Ok, Result, Some, true, ⊤, ◌≡◌}}
 use Rattle.vfs_gates.specs.{TaskStates.{SeatedTask, own_view}, contracts.task.Task.the_row}
 use mathlib.Core.Option.{none}
 

@@ -1,6 +1,7 @@
 -- What a step of one task at a gate keeps, whatever the step is: of a reader, or of a task that has the flag set.
+use Rattle.std.proofs.Common.{ap, arith, inl, inr, subst, sym, ℕ, ◌%◌, ◌*◌, ◌+◌, ◌<◌, ◌≡◌, ◌≤◌, ◌⊎◌}
 use Rattle.finite_sums.proofs.Totals.{each_updated, residues, total_add, total_at, total_same, total_swap, total_updated}
-use Rattle.{finite_sums.specs.Sums.{total, update}, std.proofs.Common.{ap, arith, inl, inr, subst, sym, ℕ, ◌%◌, ◌*◌, ◌+◌, ◌<◌, ◌≡◌, ◌≤◌, ◌⊎◌}}
+use Rattle.finite_sums.specs.Sums.{total, update}
 use Rattle.cpu_words.specs.Sums.{lead}
 use Rattle.cpu_words.specs.gate_counts.Gates.{Barring, BarringHolds, CountsHold, GateHolds, GateView, Reading, admitted, bars, counted, past, unread}
 

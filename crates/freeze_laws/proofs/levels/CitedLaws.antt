@@ -1,6 +1,7 @@
 -- the laws that the contracts name
-use Rattle.{finite_sums.{proofs.Totals.{total_at, total_zero}, specs.Sums.total}, percpu_rwsem.specs.SyncWords.is_queued}
-use Rattle.{percpu_rwsem.specs.declared.sync_word.GpState.GpState, std.proofs.Common.{Some, ap, arith, false, refl, suc, true, ℕ, ◌+◌, ◌≡◌, ◌⊎◌}}
+use Rattle.std.proofs.Common.{Some, ap, arith, false, refl, suc, true, ℕ, ◌+◌, ◌≡◌, ◌⊎◌}
+use Rattle.finite_sums.{proofs.Totals.{total_at, total_zero}, specs.Sums.total}
+use Rattle.percpu_rwsem.specs.{SyncWords.is_queued, declared.sync_word.GpState.GpState}
 use Rattle.freeze_laws.proofs.levels.{EventLaws.{entered_finds, fast_finds}, GraceLaws.graces_are_whole, IdleLaws.only_callbacks_idle}
 use Rattle.freeze_laws.proofs.levels.{Runs.{event_keeps, run_is_right}, SyncLaws.{claimed_alone, two_places}}
 use Rattle.freeze_laws.specs.levels.{Changes.{state_found, state_found_in}, Events.SyncLevelHolds, Laws.{EntersAlone, EventsKeep, FastFindsOpen}}

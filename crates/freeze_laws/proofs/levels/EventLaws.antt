@@ -1,10 +1,11 @@
 -- each kind of step at one level keeps its predicate
-use Rattle.{cpu_words.specs.Touches.wrap_add, finite_sums.proofs.Totals.{each_updated, total_at, total_none, total_updated}}
-use Rattle.{finite_sums.specs.Sums.{total, update}, percpu_rwsem.{proofs.SyncWords.bit_small, specs.Graces.{looked, started}}}
-use Rattle.percpu_rwsem.specs.SyncWords.{bit, emptied_state, entered_state, is_queued, left_state, on_callback, on_claim, on_enter, on_exit}
-use Rattle.percpu_rwsem.specs.declared.{grace.{Grace.Grace, GraceNext.GraceNext}, sync_word.{GpState.GpState, SyncWord.SyncWord}}
 use Rattle.std.proofs.Common.{Bool, ap, arith, false, if◌then◌else◌, inl, inr, nat_lt, refl, subst, sym, true, ℕ, ◌%◌, ◌+◌, ◌<◌, ◌∙◌, ◌≡◌, ◌≤◌}
 use Rattle.std.proofs.lemmas.Bool.Decides.{eqb_tells, nat_tests}
+use Rattle.cpu_words.specs.Touches.{wrap_add}
+use Rattle.finite_sums.{proofs.Totals.{each_updated, total_at, total_none, total_updated}, specs.Sums.{total, update}}
+use Rattle.percpu_rwsem.{proofs.SyncWords.bit_small, specs.Graces.{looked, started}}
+use Rattle.percpu_rwsem.specs.SyncWords.{bit, emptied_state, entered_state, is_queued, left_state, on_callback, on_claim, on_enter, on_exit}
+use Rattle.percpu_rwsem.specs.declared.{grace.{Grace.Grace, GraceNext.GraceNext}, sync_word.{GpState.GpState, SyncWord.SyncWord}}
 use Rattle.freeze_laws.proofs.levels.{SyncLaws.{moves, open_while_fast, parts_of, role_free, says}, TransitionLaws.{Calls, Claims, Enters, Exits}}
 use Rattle.freeze_laws.{proofs.levels.TransitionLaws.{calls, claims_queued, enters, exits, passes}, specs.levels.Changes.{Leaves, claims}}
 use Rattle.freeze_laws.specs.levels.{Changes.{role_entered, waits}, Roles.{Claimed, Closed, Entered, Fast, Out, Past, Ready, RoleHolds, SectionsHold}}

@@ -1,13 +1,14 @@
 -- each step of an operation at a level is one of the level
-use Rattle.{cpu_words.specs.{Sums.sum_taking, Touches.left, declared.sums.Taken.Taken}, finite_sums.{proofs.Totals.update_same, specs.Sums.total}}
-use Rattle.{finite_sums.specs.Sums.update, percpu_rwsem.specs.{Callbacks.{callback_looked, called_back, claimed as claim_made}, Graces.looked}}
+use Rattle.std.proofs.{Common.{Option, Some, ap, arith, refl, sym, true, ℕ, ◌+◌, ◌<◌, ◌==◌, ◌∙◌, ◌≡◌}, lemmas.{Bool.eq-eqb, Grind.common_steps}}
+use Rattle.cpu_words.specs.{Sums.sum_taking, Touches.left, declared.sums.Taken.Taken}
+use Rattle.finite_sums.{proofs.Totals.update_same, specs.Sums.{total, update}}
+use Rattle.percpu_rwsem.specs.{Callbacks.{callback_looked, called_back, claimed as claim_made}, Graces.looked}
 use Rattle.percpu_rwsem.specs.{SyncWords.{on_callback, on_claim, on_enter, on_exit, unpack}, Transitions.{transition_after, transition_next}}
 use Rattle.percpu_rwsem.specs.Writers.{callback_step, down_write_summed, enter_step, entered_from, exit_made, passed_awaited, sections_awaited}
 use Rattle.percpu_rwsem.specs.declared.{callbacks.{Callback.Callback, CallbackStep.CallbackStep}, grace.GraceNext.GraceNext}
 use Rattle.percpu_rwsem.specs.declared.{sync_word.{GpState.GpState, SyncWord.SyncWord}, transitions.Transition.Transition}
 use Rattle.percpu_rwsem.specs.declared.{transitions.TransitionNext.TransitionNext, writers.{DownWrite.DownWrite, DownWriteStep.DownWriteStep}}
 use Rattle.percpu_rwsem.specs.declared.writers.{UpWrite.UpWrite, UpWriteStep.UpWriteStep}
-use Rattle.std.proofs.{Common.{Option, Some, ap, arith, refl, sym, true, ℕ, ◌+◌, ◌<◌, ◌==◌, ◌∙◌, ◌≡◌}, lemmas.{Bool.eq-eqb, Grind.common_steps}}
 use Rattle.freeze_laws.proofs.levels.{EventLaws.swap_keeps, Exchanges.exchanges_make_transitions}
 use Rattle.freeze_laws.specs.levels.Changes.{claims, role_entered, role_found, state_found, transition, waits}
 use Rattle.freeze_laws.specs.levels.Events.{Calls, Claims, Enters, Exits, Happens, Looks, LooksClaimed, Opens, Passes, Stays, Swaps, SyncEvent}

@@ -1,11 +1,12 @@
 -- each step of a down-read is one of its level
-use Rattle.{access_model.specs.declared.replies.Next.TheVariants.Go, cpu_words.specs.Touches.wrap_add, finite_sums.proofs.Totals.update_same}
-use Rattle.{finite_sums.specs.Sums.update, percpu_rwsem.specs.{Readers.{at_down_read, left_blocked, step_found, step_in}, SyncWords.unpack}}
-use Rattle.percpu_rwsem.specs.declared.readers.{DownRead.DownRead, DownReadStep.{DownReadStep, TheVariants.{CountsDown, CountsUpFast, CountsUpSlow}}}
-use Rattle.percpu_rwsem.specs.declared.readers.DownReadStep.TheVariants.{EntersSection, LeavesAdmitted, LeavesBlocked, LoadsBlock, LoadsSync}
-use Rattle.percpu_rwsem.specs.declared.sync_word.{GpState.{GpState, TheVariants.{Enter, Exit, Idle, Passed, Replay}}, SyncWord.SyncWord}
 use Rattle.std.proofs.Common.{Bool, Option, Some, ap, arith, false, if◌then◌else◌, refl, subst, sym, true, ℕ, ◌-◌, ◌<◌, ◌==◌, ◌∙◌, ◌≡◌}
 use Rattle.std.proofs.lemmas.Grind.{common_steps}
+use Rattle.{access_model.specs.declared.replies.Next.TheVariants.Go, cpu_words.specs.Touches.wrap_add}
+use Rattle.finite_sums.{proofs.Totals.update_same, specs.Sums.update}
+use Rattle.percpu_rwsem.specs.{Readers.{at_down_read, left_blocked, step_found, step_in}, SyncWords.unpack, declared.readers.DownRead.DownRead}
+use Rattle.percpu_rwsem.specs.declared.readers.DownReadStep.{DownReadStep, TheVariants.{CountsDown, CountsUpFast, CountsUpSlow, EntersSection}}
+use Rattle.percpu_rwsem.specs.declared.readers.DownReadStep.TheVariants.{LeavesAdmitted, LeavesBlocked, LoadsBlock, LoadsSync}
+use Rattle.percpu_rwsem.specs.declared.sync_word.{GpState.{GpState, TheVariants.{Enter, Exit, Idle, Passed, Replay}}, SyncWord.SyncWord}
 use Rattle.freeze_laws.specs.levels.{Changes.{state_found, state_found_in}, Events.{AddsFast, FindsIdle, Happens, Stays, SyncEvent, SyncLevel}}
 use Rattle.freeze_laws.specs.levels.{Events.{SyncStep, TurnsSection}, Operations.{DownReadIsThere, DownReadsAreThere, by_next, down_read_inside}}
 use Rattle.freeze_laws.specs.levels.{Operations.down_read_role, Roles.{Fast, Out, SyncRole, fast}}

@@ -1,6 +1,6 @@
 -- The effect of each step's action shows the stage after it, and a step without one leaves the stage that was shown.
-use Rattle.{access_model.specs.{States.State, declared.actions.Action.Action}, finite_sums.specs.Sums.update}
 use Rattle.std.proofs.Common.{None, Some, ap, arith, false, refl, subst, suc, sym, true, zero, ℕ, ◌*◌, ◌+◌, ◌<◌, ◌==◌, ◌||◌, ◌∙◌, ◌≡◌}
+use Rattle.{access_model.specs.{States.State, declared.actions.Action.Action}, finite_sums.specs.Sums.update}
 use Rattle.freeze_laws.proofs.stages.{Changes.passed_moves, EachEvent.after_kind, Facts.full_is, Positions.passed_own}
 use Rattle.freeze_laws.proofs.stages.StageLaws.{advances, begins, clears_block, clears_remount, completes, fails, freeze_bound, freezes_at_once}
 use Rattle.freeze_laws.proofs.stages.StageLaws.{gives_up, own_remount, relied_on, sets_block, sets_read_only, sets_remount, sets_writable, thaws}

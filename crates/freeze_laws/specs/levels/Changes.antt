@@ -1,6 +1,7 @@
 -- What a step at a level leaves: the number that a transition puts, and the role that its task has.
+use Rattle.std.specs.Prelude.{None, Option, Some, ℕ}
 use Rattle.percpu_rwsem.specs.{Graces.started, SyncWords.{pack, unpack}, declared.grace.GraceNext.{GraceNext, TheVariants.{Ended, More, Wait}}}
-use Rattle.{percpu_rwsem.specs.declared.sync_word.{GpState.{GpState, TheVariants.Idle}, SyncWord.SyncWord}, std.specs.Prelude.{None, Option, Some, ℕ}}
+use Rattle.percpu_rwsem.specs.declared.sync_word.{GpState.{GpState, TheVariants.Idle}, SyncWord.SyncWord}
 use Rattle.freeze_laws.specs.levels.Roles.{Claimed, Entered, Out, Past, Ready, SyncRole, Waiting}
 
 -- the transition is defined, and P holds of what it leaves

@@ -1,7 +1,7 @@
 -- One level from step to step, and runs of it.
-use Rattle.{cpu_words.specs.Touches.wrap_add, finite_sums.specs.Sums.{total, update}, percpu_rwsem.specs.Graces.{looked, started}}
-use Rattle.percpu_rwsem.specs.{SyncWords.{on_callback, on_claim, on_enter, on_exit}, declared.{grace.Grace.Grace, sync_word.GpState.TheVariants.Idle}}
-use Rattle.std.specs.Prelude.{Some, suc, ℕ, ◌+◌, ◌-◌, ◌<◌, ◌≡◌}
+use Rattle.{cpu_words.specs.Touches.wrap_add, finite_sums.specs.Sums.{total, update}, std.specs.Prelude.{Some, suc, ℕ, ◌+◌, ◌-◌, ◌<◌, ◌≡◌}}
+use Rattle.percpu_rwsem.specs.{Graces.{looked, started}, SyncWords.{on_callback, on_claim, on_enter, on_exit}, declared.grace.Grace.Grace}
+use Rattle.percpu_rwsem.specs.declared.sync_word.GpState.TheVariants.{Idle}
 use Rattle.freeze_laws.specs.levels.{Changes.{claims, role_found, state_found, transition, waits}, Roles.{Claimed, Closed, Entered, Fast, Out, Past}}
 use Rattle.freeze_laws.specs.levels.Roles.{Ready, SectionsHold, SyncNumberHolds, SyncRole, Waiting, entered, fast}
 

@@ -1,8 +1,8 @@
 -- The transitions that phases make, by a load and a compare-exchange, as transitions of the number that is in memory.
-use Rattle.{cpu_words.specs.Touches.left, percpu_rwsem.specs.{SyncWords.IsLawful, Transitions.{transition_after, transition_next}}}
-use Rattle.percpu_rwsem.specs.declared.{sync_word.SyncWord.SyncWord, transitions.Transition.{TheVariants.{Exchanges, Loads}, Transition}}
+use Rattle.{cpu_words.specs.Touches.left, std.specs.Prelude.{None, Option, Some, ℕ, ◌≡◌}}
+use Rattle.percpu_rwsem.specs.{SyncWords.IsLawful, Transitions.{transition_after, transition_next}, declared.sync_word.SyncWord.SyncWord}
+use Rattle.percpu_rwsem.specs.declared.transitions.Transition.{TheVariants.{Exchanges, Loads}, Transition}
 use Rattle.percpu_rwsem.specs.declared.transitions.TransitionNext.{TheVariants.{Made, More, Undefined}, TransitionNext}
-use Rattle.std.specs.Prelude.{None, Option, Some, ℕ, ◌≡◌}
 use Rattle.freeze_laws.specs.levels.Changes.{state_found, transition}
 
 -- what is known where an exchange is to come: the word that was loaded is lawful, and the transition makes the other one of it

@@ -1,15 +1,15 @@
 -- The operations at a level as steps of it: what a task is doing there before each step, and what the step leaves.
-use Rattle.access_model.specs.declared.replies.Next.{Next, TheVariants.{Done, Go, Wait}}
+use Rattle.{access_model.specs.declared.replies.Next.{Next, TheVariants.{Done, Go, Wait}}, std.specs.Prelude.{ℕ, ◌+◌, ◌<◌, ◌≡◌}}
 use Rattle.cpu_words.specs.{Touches.{found_by, left}, declared.{events.Touch.Touch, names.WordName.{TheVariants.{Block, Section, Sync}, WordName}}}
-use Rattle.{finite_sums.specs.Sums.{total, update}, percpu_rwsem.specs.Callbacks.{callback_after, callback_next}}
-use Rattle.percpu_rwsem.specs.{Readers.{down_read_after, down_read_next}, SyncWords.{on_callback, on_claim, on_enter, on_exit}}
-use Rattle.percpu_rwsem.specs.{Writers.{down_write_after, down_write_next, up_write_after, up_write_next}, declared.callbacks.Callback.Callback}
-use Rattle.percpu_rwsem.specs.declared.callbacks.CallbackStep.{CallbackStep}
+use Rattle.finite_sums.specs.Sums.{total, update}
+use Rattle.percpu_rwsem.specs.{Callbacks.{callback_after, callback_next}, Readers.{down_read_after, down_read_next}, SyncWords.on_callback}
+use Rattle.percpu_rwsem.specs.{SyncWords.{on_claim, on_enter, on_exit}, Writers.{down_write_after, down_write_next, up_write_after, up_write_next}}
+use Rattle.percpu_rwsem.specs.declared.callbacks.{Callback.Callback, CallbackStep.CallbackStep}
 use Rattle.percpu_rwsem.specs.declared.callbacks.CallbackStep.TheVariants.{AwaitsSections as AwaitsGrace, CallsBack as MakesCall, Claims}
 use Rattle.percpu_rwsem.specs.declared.readers.{DownRead.DownRead, DownReadStep.{DownReadStep, TheVariants.{CountsUpFast, EntersSection}}}
-use Rattle.percpu_rwsem.specs.declared.writers.{DownWrite.DownWrite, DownWriteStep.{DownWriteStep, TheVariants.{AwaitsPassed, AwaitsSections}}}
-use Rattle.percpu_rwsem.specs.declared.writers.{DownWriteStep.TheVariants.{CallsBack, Enters, SetsBlock, Sums}, UpWrite.UpWrite}
-use Rattle.{percpu_rwsem.specs.declared.writers.UpWriteStep.{TheVariants.{ClearsBlock, Exits}, UpWriteStep}, std.specs.Prelude.{ℕ, ◌+◌, ◌<◌, ◌≡◌}}
+use Rattle.percpu_rwsem.specs.declared.writers.{DownWrite.DownWrite, DownWriteStep.DownWriteStep}
+use Rattle.percpu_rwsem.specs.declared.writers.DownWriteStep.TheVariants.{AwaitsPassed, AwaitsSections, CallsBack, Enters, SetsBlock, Sums}
+use Rattle.percpu_rwsem.specs.declared.writers.{UpWrite.UpWrite, UpWriteStep.{TheVariants.{ClearsBlock, Exits}, UpWriteStep}}
 use Rattle.freeze_laws.specs.levels.{Events.{SyncLevel, SyncLevelHolds, SyncStep}, Exchanges.KnowsWords}
 use Rattle.freeze_laws.specs.levels.Roles.{Claimed, Closed, Entered, Fast, Out, Past, Ready, SyncRole, Waiting, entered}
 

@@ -1,7 +1,7 @@
 -- One level without its counts: its sync word, its block and the sections, and what each task is doing there.
-use Rattle.{finite_sums.specs.Sums.total, percpu_rwsem.specs.{SyncWords.{bit, is_lawful, unpack}, declared.grace.Grace.Grace}}
-use Rattle.percpu_rwsem.specs.declared.sync_word.{GpState.{GpState, TheVariants.{Enter, Idle}}, SyncWord.SyncWord}
-use Rattle.std.specs.Prelude.{None, Option, Some, true, ℕ, ◌%◌, ◌+◌, ◌<◌, ◌≡◌, ◌≤◌}
+use Rattle.{finite_sums.specs.Sums.total, std.specs.Prelude.{None, Option, Some, true, ℕ, ◌%◌, ◌+◌, ◌<◌, ◌≡◌, ◌≤◌}}
+use Rattle.percpu_rwsem.specs.{SyncWords.{bit, is_lawful, unpack}, declared.{grace.Grace.Grace, sync_word.GpState.GpState}}
+use Rattle.percpu_rwsem.specs.declared.sync_word.{GpState.TheVariants.{Enter, Idle}, SyncWord.SyncWord}
 
 -- What a task is doing at one level, as far as its rcu_sync goes. A writer is a freeze or a thaw; one that has not entered is out.
 pub data SyncRole : Type 0 where

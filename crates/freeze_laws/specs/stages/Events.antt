@@ -1,7 +1,8 @@
 -- The stage from step to step.
+use Rattle.std.specs.Prelude.{Bool, None, Option, Some, false, suc, true, zero, ℕ, ◌-◌, ◌<◌, ◌≡◌, ◌≤◌}
 use Rattle.access_model.specs.{States.{Limits, State}, declared.actions.Action.Action}
 use Rattle.access_model.specs.declared.actions.{Action.TheVariants.{Clean, Hold, Leave, Pass, Reopen, SbRo, SbRw, Stage}, Holder.Holder}
-use Rattle.{finite_sums.specs.Sums.{total, update}, std.specs.Prelude.{Bool, None, Option, Some, false, suc, true, zero, ℕ, ◌-◌, ◌<◌, ◌≡◌, ◌≤◌}}
+use Rattle.finite_sums.specs.Sums.{total, update}
 use Rattle.freeze_laws.specs.stages.Roles.{Aside, Before, CleanBelow, Closing, Freezing, HasPassed, KnowsStage, MarksHold, Owning, Place, Remounting}
 use Rattle.freeze_laws.specs.stages.Roles.{Reopening, StageRole, StagesHold, clean_by, closed_by, freezes, owns, passed_by, remounts}
 use Rattle.freeze_laws.specs.stages.Shown.{ShowsMarks, ShowsStages, passed_shown}

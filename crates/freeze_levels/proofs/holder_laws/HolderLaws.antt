@@ -1,7 +1,8 @@
 -- Each step keeps what holds of the holders.
-use Rattle.{access_model.specs.{Holders.{is_unheld, nobody, with_holder}, declared.actions.Holders.Holders}, finite_sums.proofs.Totals.each_updated}
-use Rattle.finite_sums.{proofs.Totals.{total_at, total_le, total_none, total_updated, total_zero, update_off}, specs.Sums.{total, update}}
 use Rattle.std.proofs.{Common.{ap, arith, false, inl, inr, refl, subst, sym, true, ℕ, ◌+◌, ◌<◌, ◌∙◌, ◌≡◌, ◌≤◌}, lemmas.Bool.Decides.eqb_tells}
+use Rattle.access_model.specs.{Holders.{is_unheld, nobody, with_holder}, declared.actions.Holders.Holders}
+use Rattle.finite_sums.proofs.Totals.{each_updated, total_at, total_le, total_none, total_updated, total_zero, update_off}
+use Rattle.finite_sums.specs.Sums.{total, update}
 use Rattle.freeze_levels.{proofs.holder_laws.Words.{held_word, one_held, packs, some_held, unpack_pack}, specs.Holders.{holders_in, word_of}}
 use Rattle.freeze_levels.specs.holder_laws.Events.{Finds, Freezes, Happens, HolderEvent, HolderMoment, HoldsAt, HoldsFirst, Joins, Leaves, LeavesLast}
 use Rattle.freeze_levels.specs.holder_laws.{Events.{LetsGo, Moves, Stays, Thaws}, Laws.{EventsKeep, HeldExactly, RolesTell, opening}, Roles.Apart}

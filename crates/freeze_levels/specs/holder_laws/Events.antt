@@ -1,6 +1,7 @@
 -- The holders from step to step.
+use Rattle.std.specs.Prelude.{false, true, ℕ, ◌≡◌}
 use Rattle.access_model.specs.{Holders.{is_unheld, nobody, with_holder}, declared.actions.{Holder.Holder, Holders.Holders}}
-use Rattle.{finite_sums.specs.Sums.{total, update}, std.specs.Prelude.{false, true, ℕ, ◌≡◌}}
+use Rattle.finite_sums.specs.Sums.{total, update}
 use Rattle.freeze_levels.specs.{Holders.{holders_in, word_of}, holder_laws.Roles.{Apart, Empties, Fills, Found, HolderRole, HoldersHold, minds}}
 
 -- One moment: the stage, the word of the holders, and the roles.

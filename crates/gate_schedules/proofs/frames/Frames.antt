@@ -10,8 +10,9 @@ use Rattle.gate_schedules.proofs.Prelude.{total_updated, tree_bounds, tree_role_
 use Rattle.gate_schedules.proofs.Prelude.{◌%◌, ◌+◌, ◌<◌, ◌==◌, ◌||◌, ◌∙◌, ◌≡◌}
 use Rattle.cpu_words.specs.gate_counts.Levels.{LevelHolds, LevelView, Out as CountsNot}
 use Rattle.freeze_laws.specs.{levels.Roles.{Out as IsApart, SyncNumberHolds}, stages.Roles.StagesHold}
-use Rattle.{freeze_levels.specs.holder_laws.Roles.{HolderRole, HoldersHold}, gate_world.specs.{Owners.KnowsWords, Roles.{count_role_if, role_if}}}
-use Rattle.gate_world.specs.{Rules.{SameView, holder_roles}, Shown.is_passed, Views.{added_after, taken_after}}
+use Rattle.freeze_levels.specs.holder_laws.Roles.{HolderRole, HoldersHold}
+use Rattle.gate_world.specs.{Owners.KnowsWords, Roles.{count_role_if, role_if}, Rules.{SameView, holder_roles}, Shown.is_passed}
+use Rattle.gate_world.specs.Views.{added_after, taken_after}
 use Rattle.{gated_tree.specs.Roles.Role as TreeRole, mount_counts.specs.Roles.{MountHolds, MountView, Out, Role}}
 use Rattle.gate_schedules.proofs.frames.Known.{known_same}
 

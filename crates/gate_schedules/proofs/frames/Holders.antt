@@ -3,7 +3,8 @@ use Rattle.gate_schedules.proofs.Prelude.{Config, Holding, Holds, IsGood, Option
 use Rattle.gate_schedules.proofs.Prelude.{holder_role_of, inl, inr, owns, subst, sym, total, total_none, update, update_map, update_same, ℕ, ◌<◌, ◌∙◌}
 use Rattle.gate_schedules.proofs.Prelude.{◌≡◌, ◌≤◌}
 use Rattle.freeze_levels.{proofs.holder_laws.HolderLaws.events_keep, specs.holder_laws.Events.{Happens, HolderEvent, HolderMoment, Moves, Stays}}
-use Rattle.{freeze_levels.specs.holder_laws.Roles.{HoldersHold, minds}, gate_world.specs.Rules.holder_roles}
+use Rattle.freeze_levels.specs.holder_laws.Roles.{HoldersHold, minds}
+use Rattle.gate_world.specs.Rules.{holder_roles}
 use Rattle.gate_schedules.proofs.frames.Owners.{owns_le}
 
 pub holder_owner : (p : Option Phase) → minds (holder_role_of p) ≤ owns p

@@ -5,14 +5,17 @@ use Rattle.gate_schedules.proofs.Prelude.{IsWithin, OpenFile, OpenStep, Phase, P
 use Rattle.gate_schedules.proofs.Prelude.{TreePhase, WordName, World, ap, arith, down_read_next, each_updated, false, file_of, has_open, held_of}
 use Rattle.gate_schedules.proofs.Prelude.{is_some, next_of, one_if, opens_in, read, subst, total, total_at, total_bound, total_updated, tree_bounds}
 use Rattle.gate_schedules.proofs.Prelude.{tree_role_of, true, unpacked, update, ℕ, ◌*◌, ◌<◌, ◌≡◌, ◌≤◌}
-use Rattle.{access_model.specs.States.most_tasks, composite_ops.specs.declared.file_closes.phases.ClosePhase.TheVariants.Enters as EntersLevel}
-use Rattle.composite_ops.specs.declared.file_closes.phases.ClosePhase.TheVariants.{FreesNode as ClosesNode, LoadsFile as CloseLoadsFile, LowersCount}
-use Rattle.{composite_ops.specs.file_closes.Phases.next as close_next, cpu_words.specs.declared.names.WordName.TheVariants.{Node, Sync}}
-use Rattle.freeze_levels.specs.declared.freezes.FreezeStep.TheVariants.{Closes}
+use Rattle.access_model.specs.States.{most_tasks}
+use Rattle.composite_ops.specs.declared.file_closes.phases.ClosePhase.TheVariants.{Enters as EntersLevel, FreesNode as ClosesNode}
+use Rattle.composite_ops.specs.declared.file_closes.phases.ClosePhase.TheVariants.{LoadsFile as CloseLoadsFile, LowersCount}
+use Rattle.composite_ops.specs.file_closes.Phases.{next as close_next}
+use Rattle.{cpu_words.specs.declared.names.WordName.TheVariants.{Node, Sync}, freeze_levels.specs.declared.freezes.FreezeStep.TheVariants.Closes}
 use Rattle.gate_world.specs.{Fits.CloseFits, declared.work.Phase.TheVariants.{Closes, Trees}}
-use Rattle.{gate_world.specs.traces.TraceStates.{CloseReadIsValid, EventsMayBe, OpenReadIsValid, WordIsValid}, gated_tree.specs.Calls.TreePhaseFits}
-use Rattle.gated_tree.specs.{Phases.{next as tree_next, open_next}, declared.opens.OpenStep.TheVariants.{LoadsFile as LoadsFileToOpen, OpensFile}}
-use Rattle.{gated_tree.specs.declared.phases.TreePhase.TheVariants.OpenFile as OpensOne, node_words.proofs.Packing.packed_unpacks}
+use Rattle.gate_world.specs.traces.TraceStates.{CloseReadIsValid, EventsMayBe, OpenReadIsValid, WordIsValid}
+use Rattle.gated_tree.specs.{Calls.TreePhaseFits, Phases.{next as tree_next, open_next}}
+use Rattle.gated_tree.specs.declared.opens.OpenStep.TheVariants.{LoadsFile as LoadsFileToOpen, OpensFile}
+use Rattle.gated_tree.specs.declared.phases.TreePhase.TheVariants.{OpenFile as OpensOne}
+use Rattle.node_words.proofs.Packing.{packed_unpacks}
 use Rattle.gate_schedules.proofs.frames.Openers.{most_tasks_is, one_le}
 
 -- the word of a node is that of one of the tree's, and a sync word that of one of the levels

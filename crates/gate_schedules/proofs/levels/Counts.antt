@@ -4,7 +4,8 @@ use Rattle.gate_schedules.proofs.Prelude.{View, WordName, Words, World, ap, arit
 use Rattle.gate_schedules.proofs.Prelude.{inl, inr, is_frozen_whole, level_added_by, level_role_of, level_taken_by, put, refl, subst, sym, true}
 use Rattle.gate_schedules.proofs.Prelude.{update, update_at, update_map, update_off, view_with, wrap_add, ℕ, ◌+◌, ◌<◌, ◌==◌, ◌∙◌, ◌≡◌, ◌≤◌}
 use Rattle.cpu_words.{proofs.gate_counts.LevelLaws.{adds_fast, adds_slow, backs_away, gives_back}, specs.Touches.wrap_sub}
-use Rattle.{cpu_words.specs.gate_counts.Levels.{BackingOff, LevelHolds, LevelView, Out as CountsNot, Seeking}, gate_world.specs.Roles.count_role_if}
+use Rattle.cpu_words.specs.gate_counts.Levels.{BackingOff, LevelHolds, LevelView, Out as CountsNot, Seeking}
+use Rattle.gate_world.specs.Roles.{count_role_if}
 use Rattle.gate_schedules.proofs.{frames.Frames.{left_alone, level_as, level_view_as}, levels.Parts.{SameOffLevels, whole_same}}
 
 pub count_on : (i : ℕ) (r : LevelRole) → count_role_if (i == i) r ≡ r

@@ -8,14 +8,15 @@ use Rattle.gate_schedules.proofs.Prelude.{if◌then◌else◌, inl, inr, is_froz
 use Rattle.gate_schedules.proofs.Prelude.{position_sync, put, read, refl, stage_role_of, stage_roles, subst, suc, sym, sync_role_of, total}
 use Rattle.gate_schedules.proofs.Prelude.{transition_after, true, true≢false, unpack, update, update_at, update_map, update_same, wrap_add, ℕ, ◌+◌}
 use Rattle.gate_schedules.proofs.Prelude.{◌<◌, ◌==◌, ◌∙◌, ◌≡◌, ◌≤◌}
+use Rattle.std.proofs.lemmas.Option.{none-some}
 use Rattle.cpu_words.{proofs.gate_counts.LevelLaws.{none_passed, passes, sums_anew, sums_on, swaps}, specs.Sums.sum_taking}
 use Rattle.cpu_words.specs.{declared.sums.Taken.Taken, gate_counts.Levels.{LevelHolds, LevelView, Out as CountsNot, Passed as CountsPassed, Summing}}
 use Rattle.freeze_laws.proofs.{levels.{EventLaws.swap_keeps, Operations.down_writes_are_there}, stages.Facts.total_alone}
 use Rattle.freeze_laws.{proofs.stages.Positions.{not_full, other_position}, specs.levels.Operations.{HoldsOfNext, by_next, value_at}}
-use Rattle.{freeze_laws.specs.{levels.Roles.{Closed, Out as IsApart, entered}, stages.Roles.has_position}, gate_world.specs.Fits.DownWriteFits}
-use Rattle.{gate_world.specs.Roles.{down_count_role, position_count}, percpu_rwsem.specs.{Graces.looked, SyncWords.{is_passed, is_queued}}}
-use Rattle.percpu_rwsem.specs.Writers.{callback_step, down_write_summed, enter_step, passed_awaited, sections_awaited, sum_begun}
-use Rattle.{percpu_rwsem.specs.declared.{grace.GraceNext.GraceNext, sync_word.GpState.GpState}, std.proofs.lemmas.Option.none-some}
+use Rattle.freeze_laws.specs.{levels.Roles.{Closed, Out as IsApart, entered}, stages.Roles.has_position}
+use Rattle.gate_world.specs.{Fits.DownWriteFits, Roles.{down_count_role, position_count}}
+use Rattle.percpu_rwsem.specs.{Graces.looked, SyncWords.{is_passed, is_queued}, Writers.{callback_step, down_write_summed, enter_step}}
+use Rattle.percpu_rwsem.specs.{Writers.{passed_awaited, sections_awaited, sum_begun}, declared.{grace.GraceNext.GraceNext, sync_word.GpState.GpState}}
 use Rattle.gate_schedules.proofs.{frames.Frames.SameLevelCounts, levels.LevelPositions.{HasPosition, LevelsHold, closing_position, left_world}}
 use Rattle.gate_schedules.proofs.levels.{LevelPositions.position_after_closing, PositionRoles.{SayBeside, count_at, counts_become, counts_left}}
 use Rattle.gate_schedules.proofs.levels.{PositionRoles.{levels_move, sync_at}, Worlds.{IsEventAt, event_word, found_level, level_right}}

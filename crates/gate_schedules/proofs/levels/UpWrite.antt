@@ -5,8 +5,8 @@ use Rattle.gate_schedules.proofs.Prelude.{level_in, on_exit, position_sync, put,
 use Rattle.gate_schedules.proofs.Prelude.{up_write_next, update_at, ℕ, ◌<◌, ◌∙◌, ◌≡◌, ◌≤◌}
 use Rattle.cpu_words.{proofs.gate_counts.LevelLaws.reopens, specs.gate_counts.Levels.Out as CountsNot}
 use Rattle.freeze_laws.{proofs.levels.Operations.up_writes_are_there, specs.levels.Operations.{HoldsOfNext, by_next, up_write_role}}
-use Rattle.{freeze_laws.specs.levels.Roles.Out as IsApart, gate_world.specs.{Fits.UpWriteFits, Roles.position_count}}
-use Rattle.percpu_rwsem.specs.Writers.{at_up_write}
+use Rattle.freeze_laws.specs.levels.Roles.{Out as IsApart}
+use Rattle.{gate_world.specs.{Fits.UpWriteFits, Roles.position_count}, percpu_rwsem.specs.Writers.at_up_write}
 use Rattle.gate_schedules.proofs.{frames.Frames.SameLevelCounts, levels.LevelPositions.{HasPosition, LevelsHold, left_world, opening_position}}
 use Rattle.gate_schedules.proofs.levels.{LevelPositions.position_after_opening, PositionRoles.{SayBeside, count_at, counts_become, counts_left}}
 use Rattle.gate_schedules.proofs.levels.{PositionRoles.{levels_move, sync_at}, Worlds.{IsEventAt, event_word, found_level}}

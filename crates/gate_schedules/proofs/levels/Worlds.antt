@@ -3,8 +3,9 @@ use Rattle.gate_schedules.proofs.Prelude.{Bool, Config, Holds, IsGood, Option, P
 use Rattle.gate_schedules.proofs.Prelude.{Touch, View, WordName, Words, World, ap, arith, closed, closing, common_steps, eq-eqb, false, if◌then◌else◌}
 use Rattle.gate_schedules.proofs.Prelude.{inside, left, left_by, level_in, ne_eqb, put, read, refl, shown, subst, sym, sync_role_if, sync_role_of}
 use Rattle.gate_schedules.proofs.Prelude.{total, true, update, update_same, wrap_add, ℕ, ◌&&◌, ◌-◌, ◌<◌, ◌==◌, ◌∙◌, ◌≡◌, ◌≤◌}
-use Rattle.{finite_sums.proofs.Totals.total_le, freeze_laws.proofs.levels.CitedLaws.{events_keep, fast_finds_open as level_is_open}}
-use Rattle.freeze_laws.specs.levels.{Events.TurnsSection, Operations.{put_at, value_at}, Roles.{Fast, Out as IsApart, fast}}
+use Rattle.finite_sums.proofs.Totals.{total_le}
+use Rattle.freeze_laws.{proofs.levels.CitedLaws.{events_keep, fast_finds_open as level_is_open}, specs.levels.Events.TurnsSection}
+use Rattle.freeze_laws.specs.levels.{Operations.{put_at, value_at}, Roles.{Fast, Out as IsApart, fast}}
 use Rattle.gate_world.specs.Shown.{is_passed}
 use Rattle.gate_schedules.proofs.frames.Frames.{left_alone}
 

@@ -6,8 +6,9 @@ use Rattle.gate_schedules.proofs.Prelude.{cases_lt, down_write_next, each_update
 use Rattle.gate_schedules.proofs.Prelude.{if◌then◌else◌, inl, inr, le-ltb, left, lt-ltb, map_next, next_of, phase_after, put, read, refl, step_of}
 use Rattle.gate_schedules.proofs.Prelude.{subst, sym, total_updated, true, up_write_next, value_at, view_after, with_hook, words_after, ℕ, ◌<◌, ◌==◌}
 use Rattle.gate_schedules.proofs.Prelude.{◌∙◌, ◌∷◌, ◌≡◌}
-use Rattle.{access_model.specs.Holders.with_holder, freeze_levels.proofs.holder_laws.{HolderLaws.held_exactly, Words.held_word}}
-use Rattle.freeze_levels.specs.{Freezes.{freeze_after, freeze_next}, Holders.word_of, Thaws.thaw_next, declared.freezes.FreezeStep.TheVariants.Closes}
+use Rattle.access_model.specs.Holders.{with_holder}
+use Rattle.freeze_levels.{proofs.holder_laws.{HolderLaws.held_exactly, Words.held_word}, specs.{Freezes.{freeze_after, freeze_next}, Holders.word_of}}
+use Rattle.freeze_levels.specs.{Thaws.thaw_next, declared.freezes.FreezeStep.TheVariants.Closes}
 use Rattle.freeze_levels.specs.holder_laws.Roles.{HoldersHold, between, is_four, is_held}
 use Rattle.gate_world.specs.{Headline.{HoldersAreTold, is_between, stores_nobody}, Worlds.{begin_refusal, opening}}
 use Rattle.gate_world.specs.{declared.{entries.Entry.TheVariants.Begins, work.Phase.TheVariants.Closes}, traces.Found.stores_stage}

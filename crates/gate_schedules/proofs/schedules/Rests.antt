@@ -4,10 +4,12 @@ use Rattle.gate_schedules.proofs.Prelude.{World, ap, arith, closed, eqb_tells, f
 use Rattle.gate_schedules.proofs.Prelude.{is_removed, one_if, owns, refl, remounts, removal, role_of, shown, stage_role_of, stage_roles, subst, suc}
 use Rattle.gate_schedules.proofs.Prelude.{sym, sync_role_of, total, total_none, tree_role_of, true, unpack, zero, ℕ, ◌%◌, ◌+◌, ◌<◌, ◌∙◌, ◌≡◌, ◌≤◌}
 use Rattle.gate_schedules.proofs.Prelude.{◌⊎◌}
+use Rattle.std.proofs.Common.{◌/◌}
 use Rattle.freeze_laws.{proofs.stages.{CitedLaws.freeze_is_under_way, Facts.{other_zero, way_is}}, specs.levels.Roles.claimed}
-use Rattle.{freeze_laws.specs.stages.Roles.{Place, freezes, under_way}, freeze_levels.proofs.holder_laws.HolderLaws.held_exactly}
-use Rattle.{freeze_levels.specs.holder_laws.Roles.between, gate_world.specs.Headline.{FreezeIsUnderWay, HeldWhereFrozen, IsAtRest, IsUntaken}}
-use Rattle.{mount_counts.{proofs.laws.Bits.hold_unset, specs.Roles.hold_bit}, percpu_rwsem.specs.SyncWords.bit, std.proofs.Common.◌/◌}
+use Rattle.freeze_laws.specs.stages.Roles.{Place, freezes, under_way}
+use Rattle.freeze_levels.{proofs.holder_laws.HolderLaws.held_exactly, specs.holder_laws.Roles.between}
+use Rattle.gate_world.specs.Headline.{FreezeIsUnderWay, HeldWhereFrozen, IsAtRest, IsUntaken}
+use Rattle.{mount_counts.{proofs.laws.Bits.hold_unset, specs.Roles.hold_bit}, percpu_rwsem.specs.SyncWords.bit}
 use Rattle.gate_schedules.proofs.frames.{ByPhase.{apart_stage, freezing_is, stage_of}, Holders.holders_at, Stages.{stages_in, stages_right}}
 use Rattle.gate_schedules.proofs.trees.worlds.Frozen.{idle_sound}
 

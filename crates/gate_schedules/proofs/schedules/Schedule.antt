@@ -6,14 +6,16 @@ use Rattle.gate_schedules.proofs.Prelude.{each_updated, eqb_tells, false, file_o
 use Rattle.gate_schedules.proofs.Prelude.{level_role_of, ltb-true, model_limits, nat_lt, one_if, openers, opens_in, owns, phase_action, refl, role_of}
 use Rattle.gate_schedules.proofs.Prelude.{run, shown, step_of, sym, total, total_bound, total_none, tree_bounds, tree_role_of, true≢false, update, ℕ}
 use Rattle.gate_schedules.proofs.Prelude.{◌%◌, ◌*◌, ◌<◌, ◌∙◌, ◌∷◌, ◌≡◌, ◌≤◌}
-use Rattle.{access_model.specs.{Histories.{Done, IsLegal, end_of}, States.{most_tasks, opening_state}}, cpu_words.proofs.gate_counts.Events.words_sum}
-use Rattle.cpu_words.{proofs.gate_counts.{Flags.gate_begins, Numbers.below_le}, specs.gate_counts.Gates.{below, counted as counted_of}}
-use Rattle.{cpu_words.specs.gate_counts.Levels.{level_as_gate, processor_of as level_processor}, finite_sums.proofs.Totals.total_same}
+use Rattle.{access_model.specs.{Histories.{Done, IsLegal, end_of}, States.{most_tasks, opening_state}}, std.proofs.Math.Path.fun_ext}
+use Rattle.cpu_words.proofs.gate_counts.{Events.words_sum, Flags.gate_begins, Numbers.below_le}
+use Rattle.cpu_words.specs.gate_counts.{Gates.{below, counted as counted_of}, Levels.{level_as_gate, processor_of as level_processor}}
+use Rattle.finite_sums.proofs.Totals.{total_same}
 use Rattle.freeze_laws.proofs.{levels.CitedLaws.opening_is_right, stages.CitedLaws.opening_is_right as stages_open}
-use Rattle.{freeze_levels.proofs.holder_laws.HolderLaws.opens as holders_open, gate_world.specs.{Beginnings.view_refusal, Headline.IdleSumsHold}}
-use Rattle.gate_world.specs.{Headline.SumsHold, Owners.KnowsWords, Rules.LevelHoldsIn, SameRoles.{SameRolesOffTree, off_tree}, Views.begun_view}
+use Rattle.freeze_levels.proofs.holder_laws.HolderLaws.{opens as holders_open}
+use Rattle.gate_world.specs.{Beginnings.view_refusal, Headline.{IdleSumsHold, SumsHold}, Owners.KnowsWords, Rules.LevelHoldsIn}
+use Rattle.gate_world.specs.{SameRoles.{SameRolesOffTree, off_tree}, Views.begun_view}
 use Rattle.gate_world.specs.{Worlds.{action_of, after_begin, history, opening, task_of, with_action}, declared.entries.Entry.TheVariants.Begins}
-use Rattle.{mount_counts.specs.Roles.{counted, mount_shut, processor_of, sought}, std.proofs.Math.Path.fun_ext}
+use Rattle.mount_counts.specs.Roles.{counted, mount_shut, processor_of, sought}
 use Rattle.gate_schedules.proofs.frames.{Frames.{left_alone, opens_left, same_words}, SameRolesOffTree.{SameCounts, good_off_tree, roles_off_tree}}
 use Rattle.gate_schedules.proofs.{frames.SameRolesOffTree.view_shown_off_tree, operations.AllOperations.{op_keeps, phase_keeps}}
 use Rattle.gate_schedules.proofs.{schedules.Beginnings.{MayBegin, first_fits, may_begin}, trees.{Each.opening_holds, worlds.Trees.tree_within}}

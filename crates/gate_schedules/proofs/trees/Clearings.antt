@@ -2,9 +2,10 @@
 use Rattle.gate_schedules.proofs.Prelude.{Action, AreWithin, Bounds, Clearing, NodeInfo, NodeWord, None, Option, Out, TreeHolds, TreeState, ap, arith}
 use Rattle.gate_schedules.proofs.Prelude.{charge, child_charge, dirty_in, each_updated, eqb_tells, false, inl, inr, ne_eqb, node_shown, removal}
 use Rattle.gate_schedules.proofs.Prelude.{seen_as, subst, suc, sym, total_none, turned, update, update_same, word_of, ℕ, ◌<◌, ◌∙◌, ◌≡◌, ◌≤◌}
-use Rattle.{access_model.specs.States.is_dirty, gated_tree.specs.{Roles.{HasParent, IsFileNode, Reading, tree_word}, Trees.{HasDirectory, IsClean}}}
-use Rattle.{gated_tree.specs.Trees.IsSound, node_words.proofs.ClearedMarks.{clean_stays, cleared_is, directory_clean, file_shown, marked_file}}
-use Rattle.node_words.{proofs.{Packing.word_returns, Words.dirty_shown}, specs.Nodes.{kind_in, kind_of, marked_node, node_of, removed_in}}
+use Rattle.access_model.specs.States.{is_dirty}
+use Rattle.gated_tree.specs.{Roles.{HasParent, IsFileNode, Reading, tree_word}, Trees.{HasDirectory, IsClean, IsSound}}
+use Rattle.node_words.proofs.{ClearedMarks.{clean_stays, cleared_is, directory_clean, file_shown, marked_file}, Packing.word_returns}
+use Rattle.node_words.{proofs.Words.dirty_shown, specs.Nodes.{kind_in, kind_of, marked_node, node_of, removed_in}}
 use Rattle.gate_schedules.proofs.trees.{Changes.{file_shows, unmarks}, Laws.{moves, role_says}}
 use Rattle.gate_schedules.specs.trees.Events.{IsQuiet, MayClean, MovesBy, TreeDoes, cleared_word, opens_shown, tree_shown, with_node}
 

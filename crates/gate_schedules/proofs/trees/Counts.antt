@@ -3,10 +3,11 @@ use Rattle.gate_schedules.proofs.Prelude.{AreWithin, Bounds, Freeing, HasNoCharg
 use Rattle.gate_schedules.proofs.Prelude.{RoleHolds, Some, TreeHolds, TreeState, ap, arith, charge, child_charge, each_updated, is_removed}
 use Rattle.gate_schedules.proofs.Prelude.{node_shown, one_if, refl, removal, suc, sym, total, total_at, total_bound, true, turned, update, wrap_add}
 use Rattle.gate_schedules.proofs.Prelude.{zero, ℕ, ◌+◌, ◌<◌, ◌∙◌, ◌≡◌, ◌≤◌}
-use Rattle.{cpu_words.specs.Touches.wrap_sub, gated_tree.specs.Roles.{Bare, Charged, Dropped, Found, Freed, Growing, HasParent, IsDirectoryAt}}
-use Rattle.gated_tree.specs.Roles.{IsFileNode, Loaded, MayGrow, MayRemove, Moving, Placing, Refunding, Removing, Returning, Targets, Uncounting}
-use Rattle.{gated_tree.specs.Trees.{has_parent, is_child, is_same}, node_words.proofs.Words.{any_file_loaded, directory_loaded, file_loaded}}
-use Rattle.node_words.{proofs.Words.word_shows, specs.Nodes.{any_file_in, directory_in, file_in, info_of}}
+use Rattle.cpu_words.specs.Touches.{wrap_sub}
+use Rattle.gated_tree.specs.Roles.{Bare, Charged, Dropped, Found, Freed, Growing, HasParent, IsDirectoryAt, IsFileNode, Loaded, MayGrow, MayRemove}
+use Rattle.gated_tree.specs.{Roles.{Moving, Placing, Refunding, Removing, Returning, Targets, Uncounting}, Trees.{has_parent, is_child, is_same}}
+use Rattle.node_words.proofs.Words.{any_file_loaded, directory_loaded, file_loaded, word_shows}
+use Rattle.node_words.specs.Nodes.{any_file_in, directory_in, file_in, info_of}
 use Rattle.gate_schedules.proofs.{frames.Openers.one_le, trees.Laws.{all_change, counts_change, moves, role_says, same_here, same_off}}
 use Rattle.gate_schedules.specs.trees.Events.{with_kids, with_removed, with_used}
 

@@ -1,22 +1,25 @@
 -- Progress: from each state in which an operation is under way a reply is near, or each task under way stands before a level that is held
 -- closed, or that it can't pass, by what no task under way can change.
+use Rattle.std.specs.Prelude.{Bool, List, None, Ok, Option, Some, false, if◌then◌else◌, suc, true, zero, ℕ, ◌&&◌, ◌<◌, ◌==◌, ◌≡◌, ◌≤◌, ◌⊎◌}
 use Rattle.composite_ops.specs.declared.file_closes.phases.ClosePhase.{ClosePhase, TheVariants.{Enters as EntersLevel, LoadsFile}}
-use Rattle.{composite_ops.specs.declared.write_access.phases.WritePhase.{TheVariants.Takes, WritePhase}, cpu_words.specs.Hooks.HookAnswer}
-use Rattle.{cpu_words.specs.Words.Words, freeze_levels.specs.declared.freezes.{Freeze.Freeze, FreezeStep.{FreezeStep, TheVariants.{Cleans, Closes}}}}
-use Rattle.freeze_levels.specs.declared.freezes.FreezeStep.TheVariants.{CompletesReadOnly, GivesUp, Holds, LoadsHolders, LoadsStage, LoadsSuperblock}
-use Rattle.freeze_levels.specs.declared.freezes.FreezeStep.TheVariants.{Locks as FreezeLocks, LocksAgain, LocksToUndo, Releases, Reopens}
-use Rattle.freeze_levels.specs.declared.freezes.FreezeStep.TheVariants.{SetsComplete, SetsFs, SetsPageFault, SetsWrite, Undoes, Unlocks, Waits}
-use Rattle.{freeze_levels.specs.declared.thaws.ThawStep.{ThawStep, TheVariants.Locks as ThawLocks}, gate_world.specs.Headline.world_after}
-use Rattle.gate_world.specs.{Levels.is_frozen_whole, Rules.{IsGood, Moves, owns}, Shown.shown, Views.holds_level, Work.hook_of, Worlds.World}
-use Rattle.gate_world.specs.{Worlds.{after_step, happens, phase_action}, declared.{config.Config.Config, entries.Entry.{Entry, TheVariants.Steps}}}
-use Rattle.gate_world.specs.declared.work.Phase.{Phase, TheVariants.{Closes as FileCloses, DownReads, Freezes, Mounts, Remounts, Thaws, Trees}}
-use Rattle.{gate_world.specs.declared.work.Phase.TheVariants.Writes, gated_tree.specs.declared.phases.TreePhase.TheVariants.Snapshot as Snapshots}
-use Rattle.gated_tree.specs.declared.{phases.TreePhase.TreePhase, snapshots.SnapshotStep.{SnapshotStep, TheVariants.Locks as SnapshotLocks}}
+use Rattle.composite_ops.specs.declared.write_access.phases.WritePhase.{TheVariants.Takes, WritePhase}
+use Rattle.cpu_words.specs.{Hooks.HookAnswer, Words.Words}
+use Rattle.freeze_levels.specs.declared.freezes.{Freeze.Freeze, FreezeStep.{FreezeStep, TheVariants.{Cleans, Closes, CompletesReadOnly, GivesUp}}}
+use Rattle.freeze_levels.specs.declared.freezes.FreezeStep.TheVariants.{Holds, LoadsHolders, LoadsStage, LoadsSuperblock, Locks as FreezeLocks}
+use Rattle.freeze_levels.specs.declared.freezes.FreezeStep.TheVariants.{LocksAgain, LocksToUndo, Releases, Reopens, SetsComplete, SetsFs}
+use Rattle.freeze_levels.specs.declared.{freezes.FreezeStep.TheVariants.{SetsPageFault, SetsWrite, Undoes, Unlocks, Waits}, thaws.ThawStep.ThawStep}
+use Rattle.freeze_levels.specs.declared.thaws.ThawStep.TheVariants.{Locks as ThawLocks}
+use Rattle.gate_world.specs.{Headline.world_after, Levels.is_frozen_whole, Rules.{IsGood, Moves, owns}, Shown.shown, Views.holds_level, Work.hook_of}
+use Rattle.gate_world.specs.{Worlds.{World, after_step, happens, phase_action}, declared.{config.Config.Config, entries.Entry.Entry}}
+use Rattle.gate_world.specs.declared.{entries.Entry.TheVariants.Steps, work.Phase.Phase}
+use Rattle.gate_world.specs.declared.work.Phase.TheVariants.{Closes as FileCloses, DownReads, Freezes, Mounts, Remounts, Thaws, Trees, Writes}
+use Rattle.gated_tree.specs.declared.{phases.TreePhase.{TheVariants.Snapshot as Snapshots, TreePhase}, snapshots.SnapshotStep.SnapshotStep}
+use Rattle.gated_tree.specs.declared.snapshots.SnapshotStep.TheVariants.{Locks as SnapshotLocks}
 use Rattle.mount_counts.specs.declared.phases.{ChangeStep.{ChangeStep, TheVariants.Locks as ChangeLocks}, MountPhase.MountPhase}
 use Rattle.mount_counts.specs.declared.{phases.MountPhase.TheVariants.Change as Changes, remounts.RemountStep.RemountStep}
-use Rattle.{mount_counts.specs.declared.remounts.RemountStep.TheVariants.Locks as RemountLocks, node_words.specs.Nodes.{opens_in, removed_in}}
+use Rattle.mount_counts.specs.declared.remounts.RemountStep.TheVariants.{Locks as RemountLocks}
+use Rattle.node_words.specs.Nodes.{opens_in, removed_in}
 use Rattle.percpu_rwsem.specs.declared.readers.{DownRead.DownRead, DownReadStep.{DownReadStep, TheVariants.{CountsUpFast, LeavesAdmitted}}}
-use Rattle.std.specs.Prelude.{Bool, List, None, Ok, Option, Some, false, if◌then◌else◌, suc, true, zero, ℕ, ◌&&◌, ◌<◌, ◌==◌, ◌≡◌, ◌≤◌, ◌⊎◌}
 
 -- a task has an operation under way
 abbrev pub IsUnderWay : World → ℕ → Type 0

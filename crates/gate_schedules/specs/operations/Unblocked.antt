@@ -1,19 +1,21 @@
 -- When the way of a phase is free: where nobody else does anything, none of its steps waits for good.
+use Rattle.std.specs.Prelude.{Bool, Some, false, true, ℕ, ◌%◌, ◌<◌, ◌≡◌, ◌≤◌}
 use Rattle.access_model.specs.declared.replies.Next.{Next, TheVariants.{Done, Go, Wait}}
 use Rattle.composite_ops.specs.declared.file_closes.phases.ClosePhase.{ClosePhase, TheVariants.{Enters as EntersLevel, LoadsFile}}
 use Rattle.composite_ops.specs.declared.write_access.phases.WritePhase.{TheVariants.{Takes, Wants as WriteWants}, WritePhase}
 use Rattle.{cpu_words.specs.{Hooks.HookAnswer, Words.Words}, finite_sums.specs.Sums.total}
 use Rattle.freeze_levels.specs.declared.freezes.FreezeStep.{FreezeStep, TheVariants.{Closes, Locks as FreezeLocks, LocksAgain, LocksToUndo, Undoes}}
 use Rattle.freeze_levels.specs.declared.{freezes.FreezeStep.TheVariants.Waits as FreezeWaits, thaws.ThawStep.ThawStep}
-use Rattle.{freeze_levels.specs.declared.thaws.ThawStep.TheVariants.Locks as ThawLocks, gate_world.specs.{Configs.IsWithin, Rules.IsGood}}
-use Rattle.gate_world.specs.{Work.after_of, Worlds.{World, found_at, words_after}, declared.{config.Config.Config, work.Phase.Phase}}
-use Rattle.gate_world.specs.declared.work.Phase.TheVariants.{Callbacks, Closes as FileCloses, DownReads, Freezes, Mounts, Remounts, Thaws, Trees}
-use Rattle.{gate_world.specs.declared.work.Phase.TheVariants.Writes, gated_tree.specs.declared.phases.TreePhase.TheVariants.Snapshot as Snapshots}
-use Rattle.gated_tree.specs.declared.{phases.TreePhase.TreePhase, snapshots.SnapshotStep.{SnapshotStep, TheVariants.Locks as SnapshotLocks}}
+use Rattle.freeze_levels.specs.declared.thaws.ThawStep.TheVariants.{Locks as ThawLocks}
+use Rattle.gate_world.specs.{Configs.IsWithin, Rules.IsGood, Work.after_of, Worlds.{World, found_at, words_after}, declared.config.Config.Config}
+use Rattle.gate_world.specs.declared.work.Phase.{Phase, TheVariants.{Callbacks, Closes as FileCloses, DownReads, Freezes, Mounts, Remounts, Thaws}}
+use Rattle.gate_world.specs.declared.work.Phase.TheVariants.{Trees, Writes}
+use Rattle.gated_tree.specs.declared.{phases.TreePhase.{TheVariants.Snapshot as Snapshots, TreePhase}, snapshots.SnapshotStep.SnapshotStep}
+use Rattle.gated_tree.specs.declared.snapshots.SnapshotStep.TheVariants.{Locks as SnapshotLocks}
 use Rattle.mount_counts.specs.{Phases.has_flag, declared.phases.{ChangeStep.{ChangeStep, TheVariants.Locks as ChangeLocks}, MountPhase.MountPhase}}
 use Rattle.mount_counts.specs.declared.{phases.MountPhase.TheVariants.{Change as Changes, Want as Wants}, remounts.RemountStep.RemountStep}
-use Rattle.{mount_counts.specs.declared.remounts.RemountStep.TheVariants.Locks as RemountLocks, percpu_rwsem.specs.declared.readers.DownRead.DownRead}
-use Rattle.std.specs.Prelude.{Bool, Some, false, true, ℕ, ◌%◌, ◌<◌, ◌≡◌, ◌≤◌}
+use Rattle.mount_counts.specs.declared.remounts.RemountStep.TheVariants.{Locks as RemountLocks}
+use Rattle.percpu_rwsem.specs.declared.readers.DownRead.{DownRead}
 use Rattle.gate_schedules.specs.operations.{Progress.{is_admitted, is_last_close, next_level}, Ranks.rank}
 
 -- HOLD, which is 2, is clear at a mount

@@ -1,14 +1,14 @@
 -- The steps at the tree: what a task finds and does there, the tree that it leaves, and its action.
-use Rattle.access_model.specs.Actions.{HoldsSomeMount, IsWriter, tree_after}
-use Rattle.access_model.specs.States.{IsDirectory, IsFile, IsLinkedFile, Limits, State, is_removed, openers, size_of}
-use Rattle.access_model.specs.declared.actions.{Action.{Action, TheVariants.{Clean, Close, Create, Dirty, Grow, MoveTo, Open, Remove}}, Kind.Kind}
-use Rattle.{access_model.specs.declared.actions.{Kind.TheVariants.File, NodeInfo.NodeInfo}, cpu_words.specs.Touches.{wrap_add, wrap_sub}}
-use Rattle.{finite_sums.specs.Sums.{total, update}, gated_tree.specs.Roles.{Bare, Bounds, Charged, Clearing, Dropped, Found, Freed, Freeing, Growing}}
-use Rattle.gated_tree.specs.Roles.{HasNoCharge, Loaded, MayDirty, MayRemove, Moving, NobodyElseFrees, NobodyReads, Out, Placing, Reading, Refunding}
-use Rattle.gated_tree.specs.Roles.{Removing, Returning, Role, Targets, TreeState, Uncounting, tree_word}
+use Rattle.std.specs.Prelude.{None, Ok, Option, Some, bit_and, false, suc, true, ℕ, ◌+◌, ◌-◌, ◌<◌, ◌≡◌, ◌≤◌, ◌⊎◌}
+use Rattle.access_model.specs.{Actions.{HoldsSomeMount, IsWriter, tree_after}, States.{IsDirectory, IsFile, IsLinkedFile, Limits, State, is_removed}}
+use Rattle.access_model.specs.{States.{openers, size_of}, declared.actions.Action.{Action, TheVariants.{Clean, Close, Create, Dirty, Grow, MoveTo}}}
+use Rattle.access_model.specs.declared.actions.{Action.TheVariants.{Open, Remove}, Kind.{Kind, TheVariants.File}, NodeInfo.NodeInfo}
+use Rattle.{cpu_words.specs.Touches.{wrap_add, wrap_sub}, finite_sums.specs.Sums.{total, update}}
+use Rattle.gated_tree.specs.Roles.{Bare, Bounds, Charged, Clearing, Dropped, Found, Freed, Freeing, Growing, HasNoCharge, Loaded, MayDirty, MayRemove}
+use Rattle.gated_tree.specs.Roles.{Moving, NobodyElseFrees, NobodyReads, Out, Placing, Reading, Refunding, Removing, Returning, Role, Targets}
+use Rattle.gated_tree.specs.Roles.{TreeState, Uncounting, tree_word}
 use Rattle.node_words.specs.Nodes.{IsLawful, any_file_in, closed_node, directory_in, dirty_in, file_in, grown_node, marked_node, moved_node, new_node}
 use Rattle.node_words.specs.{Nodes.{node_shown, opened_node, opens_in, unlinked_node, word_of}, declared.nodes.NodeWord.NodeWord}
-use Rattle.std.specs.Prelude.{None, Ok, Option, Some, bit_and, false, suc, true, ℕ, ◌+◌, ◌-◌, ◌<◌, ◌≡◌, ◌≤◌, ◌⊎◌}
 
 -- the same tree, with another role of task t
 abbrev pub turned : TreeState → ℕ → Role → TreeState

@@ -1,12 +1,13 @@
 -- One step of a call, among all words.
-use Rattle.{access_model.specs.declared.actions.Action.Action, cpu_words.specs.{Hooks.HookAnswer, Touches.{found_by, left}, Words.{Words, put, read}}}
-use Rattle.{cpu_words.specs.declared.{events.Touch.Touch, names.WordName.WordName}, finite_sums.specs.Sums.update, gated_tree.specs.Calls.phase_role}
-use Rattle.gated_tree.specs.{Calls.role_after, Phases.{after, next}, Roles.{Bounds, MayDirty, MayRemove, NobodyReads, Role, TreeHolds, TreeState}}
-use Rattle.gated_tree.specs.declared.phases.TreePhase.TheVariants.{ClearMarks as Clears, Create as Creates, Grow as Grows, Mark as Marks}
-use Rattle.gated_tree.specs.declared.phases.TreePhase.TheVariants.{MoveTo as Moves, OpenFile as OpensOne, Remove as Removes, Snapshot as Snapshots}
-use Rattle.gated_tree.specs.declared.{phases.TreePhase.TreePhase, snapshots.SnapshotStep.SnapshotStep}
+use Rattle.{access_model.specs.declared.actions.Action.Action, std.specs.Prelude.{Bool, Option, false, suc, true, ℕ, ◌+◌, ◌<◌, ◌≡◌}}
+use Rattle.cpu_words.specs.{Hooks.HookAnswer, Touches.{found_by, left}, Words.{Words, put, read}, declared.events.Touch.Touch}
+use Rattle.cpu_words.specs.declared.names.WordName.{WordName}
+use Rattle.finite_sums.specs.Sums.{update}
+use Rattle.gated_tree.specs.{Calls.{phase_role, role_after}, Phases.{after, next}, Roles.{Bounds, MayDirty, MayRemove, NobodyReads, Role, TreeHolds}}
+use Rattle.gated_tree.specs.{Roles.TreeState, declared.phases.TreePhase.TheVariants.{ClearMarks as Clears, Create as Creates, Grow as Grows}}
+use Rattle.gated_tree.specs.declared.phases.TreePhase.TheVariants.{Mark as Marks, MoveTo as Moves, OpenFile as OpensOne, Remove as Removes}
+use Rattle.gated_tree.specs.declared.{phases.TreePhase.{TheVariants.Snapshot as Snapshots, TreePhase}, snapshots.SnapshotStep.SnapshotStep}
 use Rattle.gated_tree.specs.declared.snapshots.SnapshotStep.TheVariants.{LoadsKids, LoadsNode, LoadsUsed}
-use Rattle.std.specs.Prelude.{Bool, Option, false, suc, true, ℕ, ◌+◌, ◌<◌, ◌≡◌}
 use Rattle.gate_schedules.specs.trees.Events.{MayClean, MovesBy}
 
 -- the tree among all words, with the roles of all tasks

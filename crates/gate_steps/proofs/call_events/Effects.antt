@@ -2,9 +2,9 @@
 use Rattle.gate_steps.proofs.Prelude.{Action, AreMoves, Begins, Called, Config, DealtNumbers, Entry, GateError, HaveViews, IsNextMove, IsPrefix, List}
 use Rattle.gate_steps.proofs.Prelude.{Next, Op, Phase, Reply, Result, SeatedTask, Steps, Traced, View, [], ap, append_assoc, arith, get_elem?}
 use Rattle.gate_steps.proofs.Prelude.{own_number, own_view, refl, some, state_of_trace, subst, sym, world_after, ℕ, ◌++◌, ◌∙◌, ◌∷◌, ◌≡◌}
+use Rattle.std.proofs.lemmas.List.{append_cancel_right}
 use Rattle.access_model.{proofs.Lists.part_append, specs.{Histories.{Done, own_part}, declared.replies.Next.TheVariants.Done as Ended}}
 use Rattle.{gate_schedules.proofs.schedules.HeadlineProof.whole_run, gate_world.specs.Headline.{actions_since, actions_so_far}}
-use Rattle.std.proofs.lemmas.List.{append_cancel_right}
 use Rattle.gate_steps.{proofs.call_events.{Grown.only, Moments.{actions_append, own_more, own_one}, Spanning.last_event}, specs.Seating.HaveHistory}
 use Rattle.gate_steps.specs.call_events.{Grown.HasSeen, Runs.ran_items, Spans.{AreInOrder, GoesOnFromSeen, IsEventDuring, TakesEffect}}
 

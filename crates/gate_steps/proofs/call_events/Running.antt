@@ -5,12 +5,13 @@ use Rattle.gate_steps.proofs.Prelude.{View, Wait, [], actions_after, actions_of,
 use Rattle.gate_steps.proofs.Prelude.{event_of, first_phase, found_by, held_of, items_after, length, next_of, numbered, own_number, own_view}
 use Rattle.gate_steps.proofs.Prelude.{phase_after, progress_of, refl, state_of_trace, subst, sym, view_after_with_others, ℕ, ◌++◌, ◌+◌, ◌<◌, ◌∙◌, ◌∷◌}
 use Rattle.gate_steps.proofs.Prelude.{◌≡◌, ◌≤◌}
+use Rattle.std.proofs.Common.{add-zero, is_some, ◌-◌}
 use Rattle.gate_schedules.proofs.{frames.OperationLaws.{IsSmall, most_events_of_all}, operations.AllOperations.op_keeps}
 use Rattle.gate_schedules.proofs.schedules.Beginnings.{may_begin}
 use Rattle.gate_transitions.specs.{Answers.unless_refused, declared.steps.{Progress.{Progress, TheVariants.{Done as Ended, Waiting}}, Step.Step}}
 use Rattle.gate_world.specs.{Views.with_hook, declared.operations.Op.TheVariants.Callback, traces.Snapshots.{completes, last_snapshot}}
 use Rattle.gate_world.specs.traces.TraceStates.{IsEventOf, IsNext, IsTrace, ReadIsValid, TraceState, trace_state_after, trace_state_with}
-use Rattle.{gate_world.specs.traces.Traces.{IsShort, MayWait, ReplyMatchesTrace, Tells, most_events}, std.proofs.Common.{add-zero, is_some, ◌-◌}}
+use Rattle.gate_world.specs.traces.Traces.{IsShort, MayWait, ReplyMatchesTrace, Tells, most_events}
 use Rattle.gate_steps.{proofs.call_events.{Grown.same_stays_seen, Refused.{is_unchanged, waits_honestly}}, specs.Seating.{HaveHistory, world_left}}
 use Rattle.gate_steps.specs.call_events.{Asking.{OpAfterStepWith, OpUnderWayWith, next_call}, Refused.{IsHonestWait, IsUnchanged, IsUnchangedBy}}
 use Rattle.gate_steps.specs.call_events.Runs.{IsBounded, IsMoveOf, IsRanReply, OpAfterStep, OpUnderWay, ProgressMatches, Replies, begins_at}

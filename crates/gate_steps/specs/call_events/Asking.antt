@@ -1,12 +1,13 @@
 -- The hooks that an operation asks: which, at which moment, and with what answer.
+use Rattle.std.specs.Prelude.{Bool, List, None, Option, Result, Some, [], false, option_map, ℕ, ◌+◌, ◌∷◌, ◌≡◌}
 use Rattle.access_model.specs.declared.{errors.GateError.GateError, replies.{Next.{Next, TheVariants.{Done, Go, Wait}}, Reply.Reply}}
-use Rattle.{cpu_words.specs.Hooks.HookAnswer, freeze_levels.specs.declared.freezes.FreezeStep.{FreezeStep, TheVariants.Waits}}
-use Rattle.freeze_levels.specs.declared.hooks.HookCall.{HookCall, TheVariants.{FreezeFs as FreezeCall, KeepWaiting as KeepWaitingCall}}
+use Rattle.cpu_words.specs.Hooks.{HookAnswer}
+use Rattle.freeze_levels.specs.declared.{freezes.FreezeStep.{FreezeStep, TheVariants.Waits}, hooks.HookCall.HookCall}
+use Rattle.freeze_levels.specs.declared.hooks.HookCall.TheVariants.{FreezeFs as FreezeCall, KeepWaiting as KeepWaitingCall}
 use Rattle.freeze_levels.specs.declared.hooks.HookCall.TheVariants.{Reconfigure as ReconfigureCall, Sync as SyncCall, UnfreezeFs as UnfreezeCall}
 use Rattle.freeze_levels.specs.declared.hooks.HookKind.{HookKind, TheVariants.{FreezeFs, KeepWaiting, Reconfigure, Sync, UnfreezeFs}}
 use Rattle.gate_world.specs.{Work.hook_of, declared.{config.Config.Config, operations.Op.Op, views.Traced.Traced, work.Phase.Phase}}
 use Rattle.gate_world.specs.{declared.work.Phase.TheVariants.{Freezes, Remounts}, traces.TraceStates.state_of_trace}
-use Rattle.std.specs.Prelude.{Bool, List, None, Option, Result, Some, [], false, option_map, ℕ, ◌+◌, ◌∷◌, ◌≡◌}
 use Rattle.gate_steps.specs.{Seating.DealtNumbers, call_events.Runs.{Called, OpUnderWay, Replies, items_at, unit_of}}
 use Rattle.gate_steps.specs.call_events.{SeatedTasks.{SeatedTask, own_number, refusal_at}, Waited.{counted, waits_in}}
 

@@ -1,8 +1,9 @@
 -- Of a call that was refused: the moment of a schedule at which its refusal has its cause.
+use Rattle.std.specs.Prelude.{Err, List, Some, [], ℕ, ◌<◌, ◌∷◌, ◌≡◌}
 use Rattle.{access_model.specs.declared.{errors.GateError.GateError, replies.Next.TheVariants.Done}, cpu_words.specs.Touches.event_of}
 use Rattle.gate_world.specs.{Configs.IsWithin, Headline.world_after, Views.with_hook, Work.{after_of, next_of}, Worlds.found_at}
 use Rattle.gate_world.specs.declared.{config.Config.Config, entries.Entry.Entry, operations.Op.Op, views.Traced.Traced, work.Phase.Phase}
-use Rattle.{gate_world.specs.refusals.Causes.{HasCause, since_begun, trail_of}, std.specs.Prelude.{Err, List, Some, [], ℕ, ◌<◌, ◌∷◌, ◌≡◌}}
+use Rattle.gate_world.specs.refusals.Causes.{HasCause, since_begun, trail_of}
 
 -- A schedule ends right before the step with which an operation of this number is refused. In its state the operation is under way, with just
 -- these earlier steps; the step finds there what it says that it found, and ends the operation with this refusal; and that has its cause

@@ -1,13 +1,14 @@
 -- Whole operations of a task, from the beginning to the reply.
+use Rattle.std.specs.Prelude.{Bool, Err, List, None, Ok, Option, Result, Some, [], false, ℕ, ◌++◌, ◌∷◌, ◌≡◌}
 use Rattle.access_model.specs.declared.{errors.GateError.GateError, replies.{Next.{Next, TheVariants.{Done, Go, Wait}}, Reply.Reply}}
 use Rattle.access_model.specs.declared.replies.Reply.TheVariants.{Node as NodeReply, Ran}
 use Rattle.cpu_words.specs.{Touches.event_of, declared.events.Event.Event}
 use Rattle.gate_transitions.specs.declared.steps.Progress.{Progress, TheVariants.{Done as Ended, Going, Idle, Waiting}}
 use Rattle.gate_world.specs.{Views.{phase_after, with_hook}, Work.next_of, declared.{config.Config.Config, entries.Entry.Entry, operations.Op.Op}}
 use Rattle.gate_world.specs.declared.{views.{Snapshot.Snapshot, Traced.Traced, View.View}, work.Phase.Phase}
-use Rattle.gate_world.specs.traces.{Snapshots.{completes, last_snapshot}, TraceStates.{IsTrace, state_of_trace}, Traces.{IsHonestAnswer, IsShort}}
-use Rattle.{gate_world.specs.traces.Traces.{MayWait, actions_of, most_events}, gated_tree.specs.declared.trees.TreeWords.TreeWords}
-use Rattle.std.specs.Prelude.{Bool, Err, List, None, Ok, Option, Result, Some, [], false, ℕ, ◌++◌, ◌∷◌, ◌≡◌}
+use Rattle.gate_world.specs.traces.{Snapshots.{completes, last_snapshot}, TraceStates.{IsTrace, state_of_trace}}
+use Rattle.gate_world.specs.traces.Traces.{IsHonestAnswer, IsShort, MayWait, actions_of, most_events}
+use Rattle.gated_tree.specs.declared.trees.TreeWords.{TreeWords}
 use Rattle.gate_steps.specs.{Seating.{DealtNumbers, HasWitness, HaveHistory, done_by, numbered}, call_events.Grown.StaySeen}
 use Rattle.gate_steps.specs.call_events.{Refused.{IsUnchangedBy, WaitsHonestly}, SeatedTasks.{SeatedTask, own_number, own_view, refusal_at}}
 

@@ -1,8 +1,9 @@
 -- What callers know of a task.
-use Rattle.{access_model.specs.declared.errors.GateError.GateError, atomic_table.specs.Seated.TableId, gate_world.specs.Beginnings.beginning}
-use Rattle.gate_world.specs.{Beginnings.refusal, Views.{has_open, held_at, held_of, holds_level, opening_view}, declared.accesses.Accesses.Accesses}
-use Rattle.gate_world.specs.declared.{config.Config.Config, entries.Entry.Entry, operations.Op.Op, views.View.View, work.Phase.Phase}
 use Rattle.std.specs.Prelude.{List, None, Option, Result, [], false, is_some, slice_index, slice_index_or, ℕ, ◌<◌, ◌∷◌, ◌≡◌, ◌≤◌}
+use Rattle.{access_model.specs.declared.errors.GateError.GateError, atomic_table.specs.Seated.TableId}
+use Rattle.gate_world.specs.{Beginnings.{beginning, refusal}, Views.{has_open, held_at, held_of, holds_level, opening_view}}
+use Rattle.gate_world.specs.declared.{accesses.Accesses.Accesses, config.Config.Config, entries.Entry.Entry, operations.Op.Op, views.View.View}
+use Rattle.gate_world.specs.declared.work.Phase.{Phase}
 use Rattle.gate_steps.specs.{Seating.DealtNumbers, declared.seating.Knowledge.Knowledge}
 
 -- the table, the configuration, the operation that has begun and has had no step, the phase of the operation under way, and the

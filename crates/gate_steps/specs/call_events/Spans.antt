@@ -1,12 +1,13 @@
 -- Calls in the order of time: where the steps of a call stand in a schedule that goes on from all that its task had seen.
+use Rattle.std.specs.Prelude.{Err, List, None, Some, [], if◌then◌else◌, ℕ, ◌++◌, ◌<◌, ◌==◌, ◌∷◌, ◌≡◌}
 use Rattle.access_model.specs.{Histories.{Done, own_part}, declared.{actions.Action.Action, errors.GateError.GateError}}
-use Rattle.{access_model.specs.declared.replies.Next.TheVariants.Done as Ended, cpu_words.specs.Touches.event_of}
+use Rattle.access_model.specs.declared.replies.Next.TheVariants.{Done as Ended}
+use Rattle.cpu_words.specs.Touches.{event_of}
 use Rattle.gate_world.specs.{Configs.IsWithin, Headline.{actions_since, actions_so_far, world_after}, Moments.IsPresentTree}
 use Rattle.gate_world.specs.{Views.{phase_after, with_hook}, Work.{after_of, next_of}, Worlds.{World, found_at, task_of}}
 use Rattle.gate_world.specs.declared.{config.Config.Config, entries.Entry.{Entry, TheVariants.{Begins, Steps}}, operations.Op.Op, views.Traced.Traced}
 use Rattle.gate_world.specs.{declared.work.Phase.Phase, refusals.Causes.{HasCause, since_begun, trail, trail_of}, traces.TraceStates.state_of_trace}
 use Rattle.gated_tree.specs.declared.trees.TreeWords.{TreeWords}
-use Rattle.std.specs.Prelude.{Err, List, None, Some, [], if◌then◌else◌, ℕ, ◌++◌, ◌<◌, ◌==◌, ◌∷◌, ◌≡◌}
 use Rattle.gate_steps.specs.{Seating.{DealtNumbers, HasRested, IsPrefix}, call_events.SeatedTasks.own_number, declared.seating.Numbered.Numbered}
 use lib.ListN.{get_elem?}
 use mathlib.Core.Option.{some}

@@ -1,8 +1,8 @@
 -- What one step of a task is.
-use Rattle.cpu_words.specs.{Hooks.HookAnswer, Touches.{event_of, found_by}}
-use Rattle.{gate_transitions.specs.{Answers.{phase_step, progress_of}, declared.steps.Step.Step}, gate_world.specs.Views.phase_after}
-use Rattle.gate_world.specs.{Work.{after_of, next_of}, declared.{config.Config.Config, entries.Entry.Entry, operations.Op.Op, work.Phase.Phase}}
-use Rattle.std.specs.Prelude.{List, None, Option, Some, [], ℕ, ◌∷◌, ◌≡◌}
+use Rattle.{cpu_words.specs.{Hooks.HookAnswer, Touches.{event_of, found_by}}, std.specs.Prelude.{List, None, Option, Some, [], ℕ, ◌∷◌, ◌≡◌}}
+use Rattle.gate_transitions.specs.{Answers.{phase_step, progress_of}, declared.steps.Step.Step}
+use Rattle.gate_world.specs.{Views.phase_after, Work.{after_of, next_of}, declared.{config.Config.Config, entries.Entry.Entry, operations.Op.Op}}
+use Rattle.gate_world.specs.declared.work.Phase.{Phase}
 use Rattle.gate_steps.specs.{Seating.{DealtNumbers, HasWitness, items_after}, call_events.SeatedTasks.SeatedTask}
 
 -- the step of a phase that found this

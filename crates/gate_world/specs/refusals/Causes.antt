@@ -1,4 +1,6 @@
 -- Moments of an execution: what stood in the state when a refusal's cause was read.
+use Rattle.std.specs.Prelude.{Bool, Err, List, None, Option, Some, [], false, if◌then◌else◌, is_some, nat_lt, not, true, ℕ, ◌&&◌, ◌<◌, ◌==◌, ◌||◌}
+use Rattle.std.specs.Prelude.{◌∷◌, ◌≡◌, ◌⊎◌}
 use Rattle.access_model.specs.{Holders.held_by, States.{IsDirectory, IsFile, is_removed}, declared.actions.{Holder.Holder, NodeInfo.NodeInfo}}
 use Rattle.access_model.specs.declared.errors.GateError.{GateError, TheVariants.{Again, Busy, Invalid, IsDir, NoEntry, NotDir, ReadOnly}}
 use Rattle.access_model.specs.declared.replies.Next.TheVariants.{Done}
@@ -24,8 +26,7 @@ use Rattle.mount_counts.specs.declared.phases.WantStep.{TheVariants.{LoadsHold, 
 use Rattle.mount_counts.specs.declared.remounts.RemountStep.{RemountStep}
 use Rattle.mount_counts.specs.declared.remounts.RemountStep.TheVariants.{LoadsRemoved, LoadsRemovedAgain, LoadsStage, Sums as RemountSums}
 use Rattle.percpu_rwsem.specs.declared.{readers.DownReadStep.{DownReadStep, TheVariants.LoadsBlock}, writers.DownWriteStep.DownWriteStep}
-use Rattle.{percpu_rwsem.specs.declared.writers.DownWriteStep.TheVariants.Sums as SumsLevel, std.specs.Prelude.{Bool, Err, List, None, Option, Some}}
-use Rattle.std.specs.Prelude.{[], false, if◌then◌else◌, is_some, nat_lt, not, true, ℕ, ◌&&◌, ◌<◌, ◌==◌, ◌||◌, ◌∷◌, ◌≡◌, ◌⊎◌}
+use Rattle.percpu_rwsem.specs.declared.writers.DownWriteStep.TheVariants.{Sums as SumsLevel}
 use Rattle.gate_world.specs.{Levels.{at_level, is_frozen_whole, sync_role_of}, Rules.{at_mount, owns, role_of}, Shown.shown, Work.after_of}
 use Rattle.gate_world.specs.{Worlds.{World, found_at, happens, opening, run}, declared.{config.Config.Config, entries.Entry.Entry, work.Phase.Phase}}
 use Rattle.gate_world.specs.declared.work.Phase.TheVariants.{Closes, DownReads, Freezes, Mounts, Remounts, Thaws, Trees, Writes}

@@ -1,11 +1,12 @@
 -- What the steps of a trace have found.
+use Rattle.std.specs.Prelude.{Bool, List, None, Option, Some, [], false, if◌then◌else◌, is_some, not, suc, sum_by, true, zero, ℕ, ◌%◌, ◌&&◌, ◌==◌}
+use Rattle.std.specs.Prelude.{◌||◌, ◌∷◌, ◌≡◌, ◌≢◌, ◌⊎◌}
 use Rattle.access_model.specs.{Holders.{held_by, is_unheld, with_holder}, declared.actions.{Action.{Action, TheVariants.Clean}, Holder.Holder}}
 use Rattle.cpu_words.specs.{Hooks.HookAnswer, Touches.wrap_add, declared.events.{Event.Event, Touch.TheVariants.{Add, And, Cas, Load, Store, Sub}}}
 use Rattle.cpu_words.specs.declared.{events.Touch.{TheVariants.Swap, Touch}, names.WordName.TheVariants.{Block, Holders, LevelCount, MountCount}}
 use Rattle.cpu_words.specs.declared.names.WordName.{TheVariants.{MountFlags, Node, Remount, Removed, SbFlags, Section, Stage, Sync, Umount}, WordName}
-use Rattle.{freeze_levels.specs.Holders.holders_in, mount_counts.specs.Phases.has_flag, percpu_rwsem.specs.SyncWords.{is_passed, on_claim, unpack}}
-use Rattle.{percpu_rwsem.specs.declared.sync_word.SyncWord.SyncWord, std.specs.Prelude.{Bool, List, None, Option, Some, [], false, if◌then◌else◌}}
-use Rattle.std.specs.Prelude.{is_some, not, suc, sum_by, true, zero, ℕ, ◌%◌, ◌&&◌, ◌==◌, ◌||◌, ◌∷◌, ◌≡◌, ◌≢◌, ◌⊎◌}
+use Rattle.{freeze_levels.specs.Holders.holders_in, mount_counts.specs.Phases.has_flag}
+use Rattle.percpu_rwsem.specs.{SyncWords.{is_passed, on_claim, unpack}, declared.sync_word.SyncWord.SyncWord}
 use Rattle.gate_world.specs.declared.views.Traced.{Traced}
 
 -- the touch is a load; a compare-exchange

@@ -1,8 +1,9 @@
 -- Snapshots: which step completes one, and what is noted of it.
+use Rattle.std.specs.Prelude.{List, None, Option, Some, [], if◌then◌else◌, length, slice_index, ℕ, ◌∷◌}
 use Rattle.{access_model.specs.declared.actions.Action.Action, cpu_words.specs.declared.names.WordName.TheVariants.Kids}
 use Rattle.gated_tree.specs.{Roles.tree_word, Trees.{loaded, unloaded}, declared.phases.TreePhase.{TheVariants.Snapshot as Snapshots, TreePhase}}
 use Rattle.gated_tree.specs.declared.{snapshots.SnapshotStep.{SnapshotStep, TheVariants.LoadsKids}, trees.TreeWords.TreeWords}
-use Rattle.{node_words.specs.Nodes.node_after, std.specs.Prelude.{List, None, Option, Some, [], if◌then◌else◌, length, slice_index, ℕ, ◌∷◌}}
+use Rattle.node_words.specs.Nodes.{node_after}
 use Rattle.gate_world.specs.{declared.{views.{Snapshot.Snapshot, Traced.Traced}, work.Phase.{Phase, TheVariants.Trees}}, traces.Found.is_load}
 
 -- what the loads of a trace have noted, in room for so many nodes: of each word of the tree what its newest load found

@@ -1,12 +1,12 @@
 -- How far an operation has come by its steps, in the order of its phases. They speak of no other task.
+use Rattle.std.{proofs.Common.true, specs.Prelude.{List, None, Option, Some, [], false, is_some, ℕ, ◌++◌, ◌<◌, ◌∷◌, ◌≡◌, ◌≤◌}}
 use Rattle.access_model.specs.declared.{actions.Action.Action, replies.Next.{Next, TheVariants.{Done, Go, Wait}}}
 use Rattle.composite_ops.specs.declared.file_closes.phases.ClosePhase.{ClosePhase, TheVariants.{Enters as EntersLevel, FreesNode}}
 use Rattle.composite_ops.specs.declared.file_closes.phases.ClosePhase.TheVariants.{LoadsFile as CloseLoadsFile, LowersCount}
 use Rattle.cpu_words.specs.{Hooks.HookAnswer, Touches.event_of, declared.names.WordName.{TheVariants.{Node, Sync}, WordName}}
 use Rattle.gated_tree.specs.declared.opens.OpenStep.{OpenStep, TheVariants.{LoadsFile as LoadsFileToOpen, OpensFile}}
-use Rattle.{gated_tree.specs.declared.phases.TreePhase.TheVariants.OpenFile as OpensOne, node_words.specs.Nodes.{opens_in, unpacked, word_of}}
-use Rattle.percpu_rwsem.specs.{Readers.down_read_next, SyncWords.unpack}
-use Rattle.std.{proofs.Common.true, specs.Prelude.{List, None, Option, Some, [], false, is_some, ℕ, ◌++◌, ◌<◌, ◌∷◌, ◌≡◌, ◌≤◌}}
+use Rattle.gated_tree.specs.declared.phases.TreePhase.TheVariants.{OpenFile as OpensOne}
+use Rattle.{node_words.specs.Nodes.{opens_in, unpacked, word_of}, percpu_rwsem.specs.{Readers.down_read_next, SyncWords.unpack}}
 use Rattle.gate_world.specs.{Beginnings.{first_phase, refusal}, Holdings.holdings_of, Views.{actions_after, phase_after}, Work.{after_of, next_of}}
 use Rattle.gate_world.specs.{Worlds.{World, value_at}, declared.{config.Config.Config, operations.Op.Op, views.{Traced.Traced, View.View}}}
 use Rattle.gate_world.specs.declared.work.Phase.{Phase, TheVariants.{Closes, Trees}}

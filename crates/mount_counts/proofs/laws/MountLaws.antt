@@ -1,10 +1,11 @@
 -- Each step of the mounts keeps what holds at its mount.
+use Rattle.std.proofs.Common.{ap, arith, bit_or, inl, inr, refl, subst, suc, sym, zero, ℕ, ◌+◌, ◌<◌, ◌∙◌, ◌≡◌, ◌≤◌, ◌⊎◌}
+use Rattle.std.proofs.lemmas.Bool.Decides.{eqb_tells}
 use Rattle.cpu_words.proofs.gate_counts.{Events.flag_event, Flags.{MaySay, nobody, none_admitted, none_held, shuts, sum_begins, sum_ends, sum_goes}}
 use Rattle.cpu_words.proofs.gate_counts.Readers.{adds as gate_adds, backs_off as gate_backs_off, goes_on, is_admitted, is_granted as gate_grants}
 use Rattle.cpu_words.{proofs.gate_counts.Readers.{is_refused as gate_refuses, returns as gate_returns}, specs.Touches.{wrap_add, wrap_sub}}
 use Rattle.cpu_words.specs.gate_counts.Gates.{Apart, Barring, GateHolds, bars, below, past}
-use Rattle.{finite_sums.{proofs.Totals.{each_updated, total_at, total_none, update_map}, specs.Sums.{total, update}}, std.proofs.Common.{ap, arith}}
-use Rattle.std.proofs.{Common.{bit_or, inl, inr, refl, subst, suc, sym, zero, ℕ, ◌+◌, ◌<◌, ◌∙◌, ◌≡◌, ◌≤◌, ◌⊎◌}, lemmas.Bool.Decides.eqb_tells}
+use Rattle.finite_sums.{proofs.Totals.{each_updated, total_at, total_none, update_map}, specs.Sums.{total, update}}
 use Rattle.mount_counts.proofs.laws.Bits.{IsWithHold, IsWithReadOnly, IsWithoutHold, IsWithoutReadOnly, and_not_hold, and_not_read_only, or_hold}
 use Rattle.mount_counts.proofs.laws.Bits.{or_read_only, without_hold, without_read_only}
 use Rattle.mount_counts.specs.Roles.{Asking, BackingOff, Cleared, Empty, Leaving, MountHolds, MountView, Out, PastFlags, PastRemount, Role, Skipped}

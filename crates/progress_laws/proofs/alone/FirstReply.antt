@@ -5,10 +5,10 @@ use Rattle.progress_laws.proofs.Prelude.{after_step, ap, arith, at_freeze, cases
 use Rattle.progress_laws.proofs.Prelude.{freeze_left, freeze_tries, freeze_waits, happens, held_of, if◌then◌else◌, inl, inr, map_next, must_wait, not}
 use Rattle.progress_laws.proofs.Prelude.{phase_after, refl, stands_after, subst, suc, sym, total_at, true, true≢false, words_after, zero, ℕ, ◌*◌, ◌+◌}
 use Rattle.progress_laws.proofs.Prelude.{◌<◌, ◌==◌, ◌∙◌, ◌≡◌, ◌≤◌, ◌⊎◌}
-use Rattle.{access_model.specs.declared.replies.Reply.Reply, freeze_laws.proofs.stages.Facts.other_zero}
-use Rattle.{freeze_laws.specs.stages.Roles.{KnowsStage, freezes, under_way}, gate_schedules.proofs.operations.deadlocks.BlockedOrProgress.first_is}
-use Rattle.{gate_schedules.specs.operations.{Progress.is_first_lock, Ranks.most_alone}, gate_world.specs.Roles.{freeze_stage_role, reopening_role}}
-use Rattle.{gate_world.specs.Rules.{Stages, stage_role_of, stage_roles}, std.proofs.{Common.Result, Math.Nat.le-max_right, lemmas.Bool.ne_eqb}}
+use Rattle.{access_model.specs.declared.replies.Reply.Reply, std.proofs.{Common.Result, Math.Nat.le-max_right, lemmas.Bool.ne_eqb}}
+use Rattle.freeze_laws.{proofs.stages.Facts.other_zero, specs.stages.Roles.{KnowsStage, freezes, under_way}}
+use Rattle.gate_schedules.{proofs.operations.deadlocks.BlockedOrProgress.first_is, specs.operations.{Progress.is_first_lock, Ranks.most_alone}}
+use Rattle.gate_world.specs.{Roles.{freeze_stage_role, reopening_role}, Rules.{Stages, stage_role_of, stage_roles}}
 use Rattle.progress_laws.proofs.alone.{Alone.HasRoom, FreezeAlone.{ahead_falls, ahead_small, freeze_ahead, freeze_room, tries_in_room}}
 use Rattle.progress_laws.proofs.alone.{RunAlone.{Makes, NoneGoes, Stopped, and_then, no_nearer, runs, some_or_none, step_to}, Sweeps.AllBelow}
 use Rattle.progress_laws.proofs.alone.{Sweeps.{Falls, WaitsBelow, below_kept, falls_alone, first_kinds}, WaitKinds.{FreezeGoes, NeverWaits, NextIs}}

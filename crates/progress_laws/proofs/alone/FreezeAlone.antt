@@ -8,9 +8,9 @@ use Rattle.{access_model.specs.{Holders.held_by, declared.actions.Action.Action}
 use Rattle.freeze_laws.proofs.stages.Facts.{at_level}
 use Rattle.freeze_levels.specs.{Freezes.{after_clearing, after_reopening, after_undoing, freeze_fails, freeze_undone}, Holders.holders_in}
 use Rattle.gate_schedules.proofs.operations.{deadlocks.BlockedCloses.{StaysAtLevel, down_stays}, freeze.Closes.by_wait}
-use Rattle.{node_words.specs.{Phases.clear_after, declared.marks.ClearMarks.ClearMarks}, percpu_rwsem.specs.SyncWords.on_exit}
-use Rattle.percpu_rwsem.specs.Writers.{at_down_write, callback_step, down_write_summed, enter_step, exit_made, passed_awaited, up_write_after}
-use Rattle.percpu_rwsem.specs.declared.sync_word.{GpState.GpState, SyncWord.SyncWord}
+use Rattle.node_words.specs.{Phases.clear_after, declared.marks.ClearMarks.ClearMarks}
+use Rattle.percpu_rwsem.specs.{SyncWords.on_exit, Writers.{at_down_write, callback_step, down_write_summed, enter_step, exit_made, passed_awaited}}
+use Rattle.percpu_rwsem.specs.{Writers.up_write_after, declared.sync_word.{GpState.GpState, SyncWord.SyncWord}}
 use Rattle.progress_laws.{proofs.{alone.WaitKinds.NextIs, nearer.AllNearer.exchange_few}, specs.StepsLeft.closed_left}
 
 -- the loads of a sum, which may begin again once

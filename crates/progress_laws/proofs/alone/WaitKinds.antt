@@ -7,13 +7,14 @@ use Rattle.progress_laws.proofs.Prelude.{down_write_next, eqb_tells, false, foun
 use Rattle.progress_laws.proofs.Prelude.{inl, inr, level_closed, load_same, map_next, must_wait, not, read, refl, start_waits, subst, sym, thaw_after}
 use Rattle.progress_laws.proofs.Prelude.{thaw_waits, true, true≢false, words_after, ℕ, ◌&&◌, ◌-◌, ◌==◌, ◌∙◌, ◌≡◌, ◌≤◌}
 use Rattle.composite_ops.specs.{file_closes.Phases.next as close_next, write_access.Phases.next as write_next}
-use Rattle.{cpu_words.specs.{Words.put, declared.events.Touch.Touch}, finite_sums.specs.Sums.update, freeze_levels.specs.Freezes.after_clearing}
-use Rattle.freeze_levels.specs.{Freezes.{after_reopening, after_undoing, freeze_fails, freeze_undone}, Thaws.thaw_next, declared.thaws.Thaw.Thaw}
+use Rattle.{cpu_words.specs.{Words.put, declared.events.Touch.Touch}, finite_sums.specs.Sums.update}
+use Rattle.freeze_levels.specs.{Freezes.{after_clearing, after_reopening, after_undoing, freeze_fails, freeze_undone}, Thaws.thaw_next}
+use Rattle.freeze_levels.specs.declared.thaws.Thaw.{Thaw}
 use Rattle.gate_schedules.{proofs.operations.freeze.Closes.by_wait, specs.operations.Progress.is_first_lock}
 use Rattle.gated_tree.specs.{Phases.{after as tree_after, next as tree_next, snapshot_after, snapshot_next}, declared.snapshots.Snapshot.Snapshot}
 use Rattle.mount_counts.specs.{Phases.{change_after, change_next, want_next}, Remounts.{remount_after, remount_next}, declared.phases.Change.Change}
-use Rattle.{mount_counts.specs.declared.remounts.Remount.Remount, node_words.specs.declared.marks.ClearMarks.ClearMarks}
-use Rattle.percpu_rwsem.specs.Transitions.{transition_next}
+use Rattle.mount_counts.specs.declared.remounts.Remount.{Remount}
+use Rattle.{node_words.specs.declared.marks.ClearMarks.ClearMarks, percpu_rwsem.specs.Transitions.transition_next}
 use Rattle.progress_laws.{proofs.nearer.Calls.lock_free, specs.Waiting.{change_waits, remount_waits, snapshot_waits, tree_waits, want_waits}}
 
 abbrev pub callback_kind : CallbackStep → ℕ

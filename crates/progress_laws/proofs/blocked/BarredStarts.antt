@@ -1,9 +1,10 @@
 -- A start at a closed level: its steps, and how its addition moves a sum's lead.
 use Rattle.progress_laws.proofs.Prelude.{DownRead, DownReadStep, Next, None, Words, after_event, arith, down_read_after, down_read_next, false}
 use Rattle.progress_laws.proofs.Prelude.{found_by, load_same, read, true, update_at, update_off, ℕ, ◌+◌, ◌<◌, ◌≡◌, ◌≤◌}
+use Rattle.std.proofs.lemmas.Bool.{ne_eqb}
 use Rattle.cpu_words.{proofs.gate_counts.Numbers.{lead_down, lead_up}, specs.{Sums.lead, gate_counts.{Gates.below, Levels.processor_of}}}
 use Rattle.{gate_schedules.specs.operations.Progress.is_admitted, gate_world.specs.Roles.read_count_role}
-use Rattle.{percpu_rwsem.specs.{Readers.{at_down_read, step_found}, SyncWords.unpack}, std.proofs.lemmas.Bool.ne_eqb}
+use Rattle.percpu_rwsem.specs.{Readers.{at_down_read, step_found}, SyncWords.unpack}
 
 -- the steps of a start at a closed level
 abbrev pub barred_next : DownReadStep → DownReadStep

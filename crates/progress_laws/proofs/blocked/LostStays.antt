@@ -5,7 +5,8 @@ use Rattle.progress_laws.proofs.Prelude.{refl, run, subst, sym, sync_role_of, to
 use Rattle.progress_laws.proofs.Prelude.{◌∙◌, ◌∷◌, ◌≡◌, ◌≤◌}
 use Rattle.{cpu_words.specs.gate_counts.Gates.counted as counted_of, gate_schedules.proofs.schedules.Schedule.{gate_sums, happens_keeps}}
 use Rattle.gate_world.specs.{Levels.inside, Rules.{AtMount, LevelHoldsIn, MountHoldsIn, Owner, Sections, at_mount, role_of}}
-use Rattle.{gate_world.specs.Worlds.{begin_of, step_of, task_of}, mount_counts.{proofs.laws.Bits.below4, specs.Roles.{counted, has_hold, hold_bit}}}
+use Rattle.gate_world.specs.Worlds.{begin_of, step_of, task_of}
+use Rattle.mount_counts.{proofs.laws.Bits.below4, specs.Roles.{counted, has_hold, hold_bit}}
 use Rattle.progress_laws.specs.LostForEver.{AreOfOthers, RemainsForEver, WordsTellFor}
 
 hold_is_set : (f : ℕ) → f < 4 → 1 ≤ hold_bit f → has_flag f 2 ≡ true

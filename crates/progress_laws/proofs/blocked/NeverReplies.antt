@@ -9,18 +9,20 @@ use Rattle.progress_laws.proofs.Prelude.{down_write_next, eq-eqb, eqb_tells, fal
 use Rattle.progress_laws.proofs.Prelude.{happens_is, has_flag, held_of, hook_of, if◌then◌else◌, inl, inr, is_frozen_whole, level_as_gate, looked}
 use Rattle.progress_laws.proofs.Prelude.{nat_lt, owns, phase_after, read, refl, run, sections_awaited, stands_after, subst, suc, sym, sync_role_of}
 use Rattle.progress_laws.proofs.Prelude.{thaw_after, total, total_at, true, true≢false, words_after, ℕ, ◌&&◌, ◌+◌, ◌<◌, ◌==◌, ◌∙◌, ◌∷◌, ◌≡◌, ◌≤◌, ◌⊎◌}
+use Rattle.std.proofs.{Common.{is_some, ◌%◌}, lemmas.Bool.{cases_lt, ltb-false, ne_eqb}}
 use Rattle.composite_ops.specs.{file_closes.Phases.then_frees, write_access.Phases.{then_gives_back, then_wants}}
 use Rattle.cpu_words.specs.{Sums.lead, Touches.wrap_add, gate_counts.{Gates.{Barring, BarringHolds, admitted, unread}, Levels.barring_of}}
-use Rattle.{freeze_levels.specs.{Freezes.freeze_hook, Thaws.thaw_next, declared.thaws.Thaw.Thaw}, gate_schedules.proofs.levels.Counts.held_bit}
-use Rattle.gate_schedules.proofs.{levels.Facts.blocked_slow, operations.{deadlocks.BlockedStarts.{StaysKept, start_stays}, freeze.Closes.by_wait}}
-use Rattle.gate_schedules.{proofs.{schedules.Schedule.happens_keeps, writers.Progress.lead_last}, specs.operations.Progress.is_admitted}
-use Rattle.gate_world.specs.{Beginnings.refusal, Levels.{inside, level_role_of}, Roles.{count_beside, down_count_role, freeze_position}}
-use Rattle.gate_world.specs.{Roles.position_count, Rules.{LevelHoldsIn, Sections, role_of}, Views.holds_level}
-use Rattle.{gate_world.specs.Worlds.{begin_of, begin_refusal, task_of}, gated_tree.specs.Phases.{snapshot_after, snapshot_locked_out, snapshot_next}}
-use Rattle.{gated_tree.specs.declared.snapshots.Snapshot.Snapshot, mount_counts.specs.Phases.{change_after, change_next, hold_found, lock_failed}}
-use Rattle.mount_counts.specs.{Phases.{want_after, want_next}, Remounts.{remount_after, remount_next}, Roles.has_hold, declared.phases.Change.Change}
-use Rattle.{mount_counts.specs.declared.remounts.Remount.Remount, percpu_rwsem.specs.{Callbacks.callback_looked, Graces.{is_first, passed_on}}}
-use Rattle.{percpu_rwsem.specs.Readers.step_found, std.proofs.{Common.{is_some, ◌%◌}, lemmas.Bool.{cases_lt, ltb-false, ne_eqb}}}
+use Rattle.freeze_levels.specs.{Freezes.freeze_hook, Thaws.thaw_next, declared.thaws.Thaw.Thaw}
+use Rattle.gate_schedules.proofs.{levels.{Counts.held_bit, Facts.blocked_slow}, operations.deadlocks.BlockedStarts.{StaysKept, start_stays}}
+use Rattle.gate_schedules.proofs.{operations.freeze.Closes.by_wait, schedules.Schedule.happens_keeps, writers.Progress.lead_last}
+use Rattle.gate_schedules.specs.operations.Progress.{is_admitted}
+use Rattle.gate_world.specs.{Beginnings.refusal, Levels.{inside, level_role_of}}
+use Rattle.gate_world.specs.{Roles.{count_beside, down_count_role, freeze_position, position_count}, Rules.{LevelHoldsIn, Sections, role_of}}
+use Rattle.gate_world.specs.{Views.holds_level, Worlds.{begin_of, begin_refusal, task_of}}
+use Rattle.gated_tree.specs.{Phases.{snapshot_after, snapshot_locked_out, snapshot_next}, declared.snapshots.Snapshot.Snapshot}
+use Rattle.mount_counts.specs.Phases.{change_after, change_next, hold_found, lock_failed, want_after, want_next}
+use Rattle.mount_counts.specs.{Remounts.{remount_after, remount_next}, Roles.has_hold, declared.{phases.Change.Change, remounts.Remount.Remount}}
+use Rattle.percpu_rwsem.specs.{Callbacks.callback_looked, Graces.{is_first, passed_on}, Readers.step_found}
 use Rattle.progress_laws.proofs.blocked.{BarredStarts.start_section, LostStays.{same_entry, words_tell}, NobodyReplies.{GoesOnKept, goes_as}}
 use Rattle.progress_laws.{proofs.{blocked.NobodyReplies.not_patient, rounds.Measured.{absent_is, idle_is}}, specs.Answers.{AllAnswerSo, AnswersSo}}
 use Rattle.progress_laws.specs.{Answers.IsPatientWith, LostForEver.{AreOfOthers, LevelIsLost, LockIsLost, MeetsAtCallback, MeetsAtClosing}}

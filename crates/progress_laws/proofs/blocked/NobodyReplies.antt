@@ -11,9 +11,11 @@ use Rattle.progress_laws.proofs.Prelude.{level_as_gate, looked, map_next, must_w
 use Rattle.progress_laws.proofs.Prelude.{stands_after, start_steps, steps_left, subst, suc, sym, sync_role_of, thaw_after, total, total_at, total_le}
 use Rattle.progress_laws.proofs.Prelude.{tries_left, true, true≢false, update_at, update_off, value_at, view_after, zero, ℕ, ◌&&◌, ◌*◌, ◌+◌, ◌<◌}
 use Rattle.progress_laws.proofs.Prelude.{◌==◌, ◌∙◌, ◌∷◌, ◌≡◌, ◌≤◌}
-use Rattle.{access_model.specs.Histories.levels_of, composite_ops.specs.{file_closes.Phases.then_frees, write_access.Phases.after as write_after}}
-use Rattle.{composite_ops.specs.write_access.Phases.then_wants, cpu_words.proofs.gate_counts.{Events.words_sum, Numbers.{below_le, below_step}}}
-use Rattle.cpu_words.specs.{Sums.lead, Touches.wrap_add, gate_counts.Gates.{Barring, BarringHolds, GateView, admitted, below, counted, unread}}
+use Rattle.std.proofs.{Common.{add-one, ◌%◌}, Math.Path.fun_ext, lemmas.Bool.{and_parts, cases_lt, ltb-false, ltb-true, ne_eqb}}
+use Rattle.access_model.specs.Histories.{levels_of}
+use Rattle.composite_ops.specs.{file_closes.Phases.then_frees, write_access.Phases.{after as write_after, then_wants}}
+use Rattle.cpu_words.{proofs.gate_counts.{Events.words_sum, Numbers.{below_le, below_step}}, specs.{Sums.lead, Touches.wrap_add}}
+use Rattle.cpu_words.specs.gate_counts.Gates.{Barring, BarringHolds, GateView, admitted, below, counted, unread}
 use Rattle.cpu_words.specs.gate_counts.Levels.{LevelRole, barring_of, processor_of}
 use Rattle.{finite_sums.proofs.Totals.{total_add, total_bound, total_none, total_same}, freeze_levels.specs.Freezes.freeze_hook}
 use Rattle.gate_schedules.proofs.{levels.{Counts.held_bit, Facts.blocked_slow}, operations.freeze.Closes.by_wait}
@@ -22,7 +24,6 @@ use Rattle.gate_world.specs.{Fits.ReadFits, Levels.level_role_of, Roles.{count_b
 use Rattle.gate_world.specs.{Roles.{position_count, read_count_role, read_level_role}, Rules.LevelHoldsIn, Views.{actions_after, holds_level}}
 use Rattle.{gated_tree.specs.Phases.after as tree_after, mount_counts.specs.{Phases.after as mount_after, Remounts.remount_after}}
 use Rattle.percpu_rwsem.specs.{Callbacks.callback_looked, Readers.{at_down_read, step_found}, SyncWords.unpack}
-use Rattle.std.proofs.{Common.{add-one, ◌%◌}, Math.Path.fun_ext, lemmas.Bool.{and_parts, cases_lt, ltb-false, ltb-true, ne_eqb}}
 use Rattle.progress_laws.proofs.blocked.BarredStarts.{ComesTo, barred_next, sought_by, start_elsewhere, start_lead, start_next, start_out}
 use Rattle.progress_laws.proofs.blocked.{BarredStarts.{start_section, start_words}, Blame.{each_is_blocked, nonzero, not_zero}}
 use Rattle.progress_laws.proofs.nearer.{AllNearer.phase_comes, Calls.lock_found, Levels.{LookStays, begun_lead, look_stays}}

@@ -4,10 +4,10 @@ use Rattle.progress_laws.proofs.Prelude.{Holdings, HookAnswer, IsWithin, Next, P
 use Rattle.progress_laws.proofs.Prelude.{Words, WritePhase, after_of, arith, cases_Bool, closing_left, common_steps, exchange_rank, freeze_left}
 use Rattle.progress_laws.proofs.Prelude.{freeze_tries, inl, inr, is_outside, map_next, must_wait, opening_left, start_steps, steps_left, subst, sym}
 use Rattle.progress_laws.proofs.Prelude.{tries_left, true, ℕ, ◌*◌, ◌+◌, ◌==◌, ◌≡◌, ◌≤◌}
-use Rattle.access_model.specs.declared.actions.Holder.{Holder}
+use Rattle.{access_model.specs.declared.actions.Holder.Holder, std.proofs.Math.Nat.{le-max_left, le-max_right}}
 use Rattle.composite_ops.specs.{file_closes.Phases.after as close_after, write_access.Phases.after as write_after}
 use Rattle.gate_schedules.{proofs.operations.deadlocks.Bounds.rank_small, specs.operations.Ranks.most_alone}
-use Rattle.{gate_world.specs.Fits.{GraceFits, ThawFits}, mount_counts.specs.Ranks.want_rank, std.proofs.Math.Nat.{le-max_left, le-max_right}}
+use Rattle.{gate_world.specs.Fits.{GraceFits, ThawFits}, mount_counts.specs.Ranks.want_rank}
 use Rattle.progress_laws.proofs.nearer.Calls.{callback_phase, close_phase, end_phase, mount_phase, remount_phase, start_phase, tree_phase}
 use Rattle.progress_laws.proofs.nearer.{Calls.write_phase, Changes.start_few, Freezes.{freeze_phase, thaw_phase}, Nearer.NearsPhase}
 use Rattle.progress_laws.specs.StepsLeft.{callback_left, close_left, closed_left, grace_left, most_steps, start_room_of, thaw_left, try_room_of}

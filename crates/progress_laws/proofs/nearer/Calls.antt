@@ -6,19 +6,22 @@ use Rattle.progress_laws.proofs.Prelude.{arith, callback_after, callback_next, c
 use Rattle.progress_laws.proofs.Prelude.{exchange_rank, false, found_at, found_by, held_of, inl, is_frozen_whole, is_outside, load_same, looked}
 use Rattle.progress_laws.proofs.Prelude.{map_next, must_wait, read, refl, start_steps, steps_left, subst, sym, sync_role_of, transition_after}
 use Rattle.progress_laws.proofs.Prelude.{tries_left, true, true≢false, update_at, words_after, ℕ, ◌*◌, ◌+◌, ◌<◌, ◌==◌, ◌∙◌, ◌≡◌, ◌≤◌}
-use Rattle.composite_ops.specs.{file_closes.Phases.{after as close_after, next as close_next, then_frees}, write_access.Phases.after as write_after}
-use Rattle.{composite_ops.specs.write_access.Phases.{next as write_next, then_gives_back, then_wants}, cpu_words.specs.Touches.left}
-use Rattle.{freeze_laws.specs.levels.{Operations.callback_role, Roles.claimed as has_claimed}, gate_schedules.proofs.frames.ValidWords.events_may_be}
-use Rattle.gate_schedules.proofs.{levels.Facts.{ExchangeFalls, callback_called, defined_falls, exchange_falls}, mounts.Progress.change_ends}
-use Rattle.gate_schedules.{proofs.operations.{calls.Progress.tree_ends, remount.Progress.remount_ends}, specs.operations.Ranks.{rank, remount_rank}}
+use Rattle.std.proofs.lemmas.Bool.{and_parts}
+use Rattle.composite_ops.specs.file_closes.Phases.{after as close_after, next as close_next, then_frees}
+use Rattle.composite_ops.specs.write_access.Phases.{after as write_after, next as write_next, then_gives_back, then_wants}
+use Rattle.{cpu_words.specs.Touches.left, freeze_laws.specs.levels.{Operations.callback_role, Roles.claimed as has_claimed}}
+use Rattle.gate_schedules.proofs.{frames.ValidWords.events_may_be, levels.Facts.{ExchangeFalls, callback_called, defined_falls, exchange_falls}}
+use Rattle.gate_schedules.proofs.{mounts.Progress.change_ends, operations.{calls.Progress.tree_ends, remount.Progress.remount_ends}}
+use Rattle.gate_schedules.specs.operations.Ranks.{rank, remount_rank}
 use Rattle.gate_schedules.specs.operations.Unblocked.{ChangeIsUnblocked, IsUnblocked, RemountIsUnblocked, TreeIsUnblocked}
 use Rattle.gate_world.specs.{Fits.{Fits, GraceFits}, Roles.sync_role_if, Rules.Fitting, traces.TraceStates.{CloseReadIsValid, WordIsValid}}
 use Rattle.gated_tree.specs.{Phases.{after as tree_after, next as tree_next, snapshot_after, snapshot_next}, Ranks.{snapshot_rank, tree_rank}}
-use Rattle.{gated_tree.specs.declared.snapshots.Snapshot.Snapshot, mount_counts.specs.Phases.{change_after, change_next, want_after, want_next}}
-use Rattle.mount_counts.specs.{Ranks.{change_rank, want_rank}, Remounts.{remount_after, remount_next}, declared.phases.Change.Change}
-use Rattle.{mount_counts.specs.declared.remounts.Remount.Remount, node_words.specs.declared.nodes.NodeWord.NodeWord}
+use Rattle.gated_tree.specs.declared.snapshots.Snapshot.{Snapshot}
+use Rattle.mount_counts.specs.{Phases.{change_after, change_next, want_after, want_next}, Ranks.{change_rank, want_rank}}
+use Rattle.mount_counts.specs.{Remounts.{remount_after, remount_next}, declared.{phases.Change.Change, remounts.Remount.Remount}}
+use Rattle.node_words.specs.declared.nodes.NodeWord.{NodeWord}
 use Rattle.percpu_rwsem.specs.{Callbacks.{callback_looked, called_back, claimed}, SyncWords.{on_callback, on_claim}, Transitions.transition_next}
-use Rattle.{percpu_rwsem.specs.declared.readers.UpRead.UpRead, std.proofs.lemmas.Bool.and_parts}
+use Rattle.percpu_rwsem.specs.declared.readers.UpRead.{UpRead}
 use Rattle.progress_laws.proofs.nearer.Levels.{IfMore, LookNears, LookStays, look_nears, look_stays, more_same, start_nears}
 use Rattle.progress_laws.proofs.nearer.Nearer.{FewerLeft, NearsBy, NearsPhase, StaysBy, phase_falls, phase_fewer, phase_nears, phase_stays}
 use Rattle.progress_laws.specs.StepsLeft.{callback_left, callback_tries, close_left, grace_left, start_left, write_left}

@@ -11,21 +11,24 @@ use Rattle.progress_laws.proofs.Prelude.{freeze_after, freeze_left, freeze_next,
 use Rattle.progress_laws.proofs.Prelude.{load_same, looked, map_next, must_wait, nat_lt, opening_left, opening_tries, read, refl, sections_awaited}
 use Rattle.progress_laws.proofs.Prelude.{start_steps, steps_left, subst, suc, sym, sync_role_of, thaw_after, thaw_waits, transition_after, tries_left}
 use Rattle.progress_laws.proofs.Prelude.{true, true≢false, words_after, ℕ, ◌*◌, ◌+◌, ◌-◌, ◌<◌, ◌==◌, ◌∙◌, ◌≡◌, ◌≤◌, ◌⊎◌}
-use Rattle.access_model.specs.{Holders.{held_by, is_unheld, with_holder}, declared.actions.Action.Action}
+use Rattle.{access_model.specs.{Holders.{held_by, is_unheld, with_holder}, declared.actions.Action.Action}, std.proofs.Math.Nat.suc-mul}
 use Rattle.composite_ops.specs.file_closes.Phases.{after as close_after, next as close_next, then_frees}
 use Rattle.composite_ops.specs.write_access.Phases.{after as write_after, next as write_next, then_gives_back, then_wants}
 use Rattle.cpu_words.specs.{Sums.sum_taking, Words.put, declared.{events.Touch.Touch, sums.Taken.Taken}}
 use Rattle.freeze_laws.{proofs.stages.Facts.at_level, specs.levels.{Operations.down_write_role, Roles.{SyncRole, entered}}}
-use Rattle.freeze_levels.specs.{Freezes.{after_reopening, after_undoing, freeze_fails, freeze_undone}, Holders.holders_in, Thaws.after_opening}
-use Rattle.{freeze_levels.specs.{Thaws.{thaw_next, thaw_opens}, declared.thaws.Thaw.Thaw}, gate_schedules.proofs.frames.ValidWords.events_may_be}
-use Rattle.gate_schedules.proofs.{levels.Facts.block_clear, operations.{deadlocks.BlockedCloses.{StaysAtLevel, down_stays}, freeze.Closes.by_wait}}
+use Rattle.freeze_levels.specs.{Freezes.{after_reopening, after_undoing, freeze_fails, freeze_undone}, Holders.holders_in}
+use Rattle.freeze_levels.specs.{Thaws.{after_opening, thaw_next, thaw_opens}, declared.thaws.Thaw.Thaw}
+use Rattle.gate_schedules.proofs.{frames.ValidWords.events_may_be, levels.Facts.block_clear}
+use Rattle.gate_schedules.proofs.operations.{deadlocks.BlockedCloses.{StaysAtLevel, down_stays}, freeze.Closes.by_wait}
 use Rattle.gate_world.specs.{Fits.{Fits, ThawFits}, Roles.{freeze_position, position_sync, sync_beside}, Rules.Fitting}
-use Rattle.{gate_world.specs.traces.TraceStates.{CloseReadIsValid, WordIsValid}, gated_tree.specs.Phases.next as tree_next}
+use Rattle.gate_world.specs.traces.TraceStates.{CloseReadIsValid, WordIsValid}
+use Rattle.gated_tree.specs.Phases.{next as tree_next}
 use Rattle.mount_counts.specs.{Phases.{next as mount_next, want_next}, Remounts.remount_next, declared.remounts.Remount.Remount}
-use Rattle.{node_words.specs.{Nodes.word_of, declared.nodes.NodeWord.NodeWord}, percpu_rwsem.specs.Callbacks.{callback_looked, called_back, claimed}}
-use Rattle.percpu_rwsem.specs.{SyncWords.{on_callback, on_claim, on_enter, on_exit, unpack}, Transitions.transition_next, Writers.at_down_write}
-use Rattle.percpu_rwsem.specs.Writers.{callback_step, down_write_summed, enter_step, entered_from, exit_made, passed_awaited, up_write_after}
-use Rattle.{percpu_rwsem.specs.{Writers.up_write_next, declared.sync_word.{GpState.GpState, SyncWord.SyncWord}}, std.proofs.Math.Nat.suc-mul}
+use Rattle.node_words.specs.{Nodes.word_of, declared.nodes.NodeWord.NodeWord}
+use Rattle.percpu_rwsem.specs.{Callbacks.{callback_looked, called_back, claimed}, SyncWords.{on_callback, on_claim, on_enter, on_exit, unpack}}
+use Rattle.percpu_rwsem.specs.{Transitions.transition_next, Writers.{at_down_write, callback_step, down_write_summed, enter_step, entered_from}}
+use Rattle.percpu_rwsem.specs.{Writers.{exit_made, passed_awaited, up_write_after, up_write_next}, declared.sync_word.GpState.GpState}
+use Rattle.percpu_rwsem.specs.declared.sync_word.SyncWord.{SyncWord}
 use Rattle.progress_laws.proofs.nearer.{Calls.read_blocks, Levels.start_nears, Nearer.{FewerLeft, freeze_waits_on, waits_on}}
 use Rattle.progress_laws.proofs.rounds.Potentials.{mul_le}
 use Rattle.progress_laws.specs.StepsLeft.{callback_changes, callback_left, callback_tries, changes_left, closed_changes, closing_changes}

@@ -6,14 +6,15 @@ use Rattle.progress_laws.proofs.Prelude.{down_read_after, down_read_next, down_w
 use Rattle.progress_laws.proofs.Prelude.{found_by, inl, inr, is_frozen_whole, load_same, looked, nat_lt, not, opening_left, opening_tries, read, refl}
 use Rattle.progress_laws.proofs.Prelude.{sections_awaited, start_waits, subst, sym, sync_role_of, total, transition_after, true, true≢false}
 use Rattle.progress_laws.proofs.Prelude.{update_at, ℕ, ◌&&◌, ◌*◌, ◌+◌, ◌<◌, ◌==◌, ◌≡◌, ◌≤◌, ◌⊎◌}
+use Rattle.std.proofs.{Common.◌%◌, lemmas.Bool.{and_parts, ltb-false, ltb-true}}
 use Rattle.cpu_words.specs.{Sums.{lead, sum_taking}, Touches.{left, wrap_add}}
 use Rattle.freeze_laws.specs.levels.{Operations.{down_write_role, up_write_role}, Roles.{SyncRole, entered, entering}}
 use Rattle.gate_schedules.proofs.levels.Facts.{ExchangeFalls, block_clear, defined_falls, enter_defined, exchange_falls, exit_defined, writer_called}
 use Rattle.gate_schedules.proofs.{levels.Facts.writer_passed, writers.Progress.{lead_last, lead_on}}
-use Rattle.{gate_world.specs.traces.TraceStates.WordIsValid, percpu_rwsem.specs.SyncWords.{is_passed, on_callback, on_enter, on_exit, unpack}}
-use Rattle.percpu_rwsem.specs.{Transitions.transition_next, Writers.{at_down_write, callback_step, down_write_summed, enter_step, entered_from}}
-use Rattle.percpu_rwsem.specs.{Writers.{exit_made, up_write_after, up_write_next}, declared.sync_word.{GpState.GpState, SyncWord.SyncWord}}
-use Rattle.std.proofs.{Common.◌%◌, lemmas.Bool.{and_parts, ltb-false, ltb-true}}
+use Rattle.gate_world.specs.traces.TraceStates.{WordIsValid}
+use Rattle.percpu_rwsem.specs.{SyncWords.{is_passed, on_callback, on_enter, on_exit, unpack}, Transitions.transition_next, Writers.at_down_write}
+use Rattle.percpu_rwsem.specs.Writers.{callback_step, down_write_summed, enter_step, entered_from, exit_made, up_write_after, up_write_next}
+use Rattle.percpu_rwsem.specs.declared.sync_word.{GpState.GpState, SyncWord.SyncWord}
 use Rattle.progress_laws.{proofs.nearer.Nearer.{FewerLeft, NearsBy, StaysBy}, specs.StepsLeft.{grace_left, start_left}}
 use Rattle.progress_laws.specs.Waiting.{grace_waits, sum_waits, was_found}
 

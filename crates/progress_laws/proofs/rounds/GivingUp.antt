@@ -7,10 +7,10 @@ use Rattle.progress_laws.proofs.Prelude.{cases_Bool, closing_waits, down_write_a
 use Rattle.progress_laws.proofs.Prelude.{freeze_owns, freeze_waits, held_of, hook_of, if◌then◌else◌, inl, inr, is_frozen_whole, is_outside}
 use Rattle.progress_laws.proofs.Prelude.{level_closed, map_next, must_wait, nat_lt, not, owns, phase_after, refl, sections_awaited, stands_after}
 use Rattle.progress_laws.proofs.Prelude.{subst, sym, total, total_le, true, true≢false, turns_left, ℕ, ◌&&◌, ◌*◌, ◌+◌, ◌-◌, ◌<◌, ◌∙◌, ◌≡◌, ◌≤◌, ◌⊎◌}
+use Rattle.std.proofs.{Common.{add-one, length}, Math.Nat.suc-mul, lemmas.Bool.{and_parts, ltb-true}}
 use Rattle.{cpu_words.specs.{Sums.sum_taking, Touches.wrap_add}, finite_sums.proofs.Totals.{total_bound, total_same}}
 use Rattle.{freeze_levels.specs.Freezes.freeze_hook, gate_schedules.specs.operations.Progress.{HasReply, IsUnderWay}}
 use Rattle.{gate_world.specs.Shown.{freeze_closing, is_summing}, percpu_rwsem.specs.Writers.down_write_summed}
-use Rattle.std.proofs.{Common.{add-one, length}, Math.Nat.suc-mul, lemmas.Bool.{and_parts, ltb-true}}
 use Rattle.progress_laws.proofs.blocked.{Blame.{each_is_blocked, owner_goes}, NobodyReplies.is_error, Remaining.waits_for_remains}
 use Rattle.progress_laws.proofs.nearer.{AllNearer.outside_waits, Nearer.{freeze_waits_on, on_waits, waits_on}}
 use Rattle.progress_laws.proofs.rounds.Measured.{AllSo, IsStep, Keeps, Leaves, Measures, rounds_good, rounds_settle}

@@ -5,8 +5,9 @@ use Rattle.progress_laws.proofs.Prelude.{cases_Bool, closing_tries, eqb_tells, e
 use Rattle.progress_laws.proofs.Prelude.{held_of, inl, inr, is_outside, must_wait, opening_tries, phase_after, refl, stands_after, start_steps}
 use Rattle.progress_laws.proofs.Prelude.{steps_left, subst, suc, sym, total, total_le, tries_left, true, true≢false, turns_left, update_off, value_at}
 use Rattle.progress_laws.proofs.Prelude.{view_after, zero, ℕ, ◌*◌, ◌+◌, ◌<◌, ◌∙◌, ◌≡◌, ◌≤◌, ◌⊎◌}
-use Rattle.{finite_sums.proofs.Totals.{total_add, total_bound, total_same}, gate_schedules.proofs.operations.AllOperations.phase_keeps}
-use Rattle.gate_schedules.{proofs.operations.deadlocks.FreezeProgress.{not_none, search_below}, specs.operations.Progress.IsUnderWay}
+use Rattle.finite_sums.proofs.Totals.{total_add, total_bound, total_same}
+use Rattle.gate_schedules.proofs.operations.{AllOperations.phase_keeps, deadlocks.FreezeProgress.{not_none, search_below}}
+use Rattle.gate_schedules.specs.operations.Progress.{IsUnderWay}
 use Rattle.progress_laws.proofs.nearer.AllNearer.{RoomFalls, phase_comes, room_falls, starts_small, steps_small, tries_small}
 use Rattle.progress_laws.proofs.nearer.Changes.{CountsChanges, EndsBy, KeepsBy, SameLevels, changes_count, changes_small, waits_keep}
 use Rattle.progress_laws.proofs.nearer.Nearer.{ComesNearer, StaysWaiting, goes_on, on_waits, waits_on}

@@ -3,9 +3,10 @@ use Rattle.vfs_gates.proofs.Prelude.{AreMoves, Begins, Called, Config, DealtNumb
 use Rattle.vfs_gates.proofs.Prelude.{Next, None, Numbered, Op, Option, Phase, Reply, Result, Some, Stepped, Traced, View, Wait, World, [], after_of}
 use Rattle.vfs_gates.proofs.Prelude.{ap, append_assoc, arith, each_event, next_of, refl, state_of_trace, subst, sym, trace_state_after, world_after}
 use Rattle.vfs_gates.proofs.Prelude.{ℕ, ◌++◌, ◌∙◌, ◌∷◌, ◌≡◌}
-use Rattle.{gate_schedules.proofs.schedules.HeadlineProof.whole_waits, gate_steps.proofs.call_events.{Caused.found_again, Running.course_is}}
-use Rattle.gate_steps.specs.{Histories.then_begins, Seating.{HasWitness, NumberMayStep, entered, world_entered}}
-use Rattle.gate_steps.specs.call_events.{SeatedTasks.{SeatedTask, own_number}, Spans.HappensAfter, Stepped.ToldIn, Waited.is_wait}
+use Rattle.gate_schedules.proofs.schedules.HeadlineProof.{whole_waits}
+use Rattle.gate_steps.{proofs.call_events.{Caused.found_again, Running.course_is}, specs.Histories.then_begins}
+use Rattle.gate_steps.specs.{Seating.{HasWitness, NumberMayStep, entered, world_entered}, call_events.SeatedTasks.{SeatedTask, own_number}}
+use Rattle.gate_steps.specs.call_events.{Spans.HappensAfter, Stepped.ToldIn, Waited.is_wait}
 use Rattle.gate_transitions.specs.{Answers.progress_of, declared.steps.{Progress.TheVariants.Waiting, Step.Step}}
 use Rattle.gate_world.specs.{Worlds.found_at, refusals.Waits.HasCulpritAmong, traces.TraceStates.{TraceState, trace_state_with}}
 use Rattle.vfs_gates.specs.Blockers.{WasBlocked, WasBlockedDuring}

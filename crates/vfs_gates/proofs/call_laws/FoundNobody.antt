@@ -2,12 +2,14 @@
 use Rattle.vfs_gates.proofs.Prelude.{Action, Called, Config, DealtNumbers, Done, Err, GateError, Go, Holder, HookAnswer, HookCall, List, Next, None}
 use Rattle.vfs_gates.proofs.Prelude.{Ok, Op, Option, Phase, Reply, Result, SeatedTask, Some, Traced, Wait, [], actions_of, ap, inl, inr, items_at}
 use Rattle.vfs_gates.proofs.Prelude.{option_map, refl, state_of_trace, subst, sym, told_as, unit_of, ℕ, ◌++◌, ◌∙◌, ◌∷◌, ◌≡◌}
+use Rattle.std.proofs.Common.{append-nil}
 use Rattle.freeze_levels.specs.{Freezes.freeze_hook, declared.freezes.FreezeStep.{FreezeStep, TheVariants.Waits}}
 use Rattle.freeze_levels.specs.declared.hooks.HookCall.TheVariants.{FreezeFs as FreezeCall, KeepWaiting as KeepWaitingCall, Sync as SyncCall}
-use Rattle.{freeze_levels.specs.declared.hooks.HookKind.TheVariants.KeepWaiting, gate_steps.proofs.call_events.FreezeAsks.granted_freeze}
-use Rattle.gate_steps.specs.call_events.{Asked.{AskedByFreeze, HasWaited, OnlyWaited, agreed}, Asking.{Ask, PerformsAsking, WereAsked, asks_of}}
-use Rattle.gate_steps.specs.call_events.{Asking.{asks_with, call_at, call_of, next_call}, SeatedTasks.own_number}
-use Rattle.{gate_world.specs.declared.{operations.Op.TheVariants.Freeze as FreezeOp, work.Phase.TheVariants.Freezes}, std.proofs.Common.append-nil}
+use Rattle.freeze_levels.specs.declared.hooks.HookKind.TheVariants.{KeepWaiting}
+use Rattle.gate_steps.{proofs.call_events.FreezeAsks.granted_freeze, specs.call_events.Asked.{AskedByFreeze, HasWaited, OnlyWaited, agreed}}
+use Rattle.gate_steps.specs.call_events.Asking.{Ask, PerformsAsking, WereAsked, asks_of, asks_with, call_at, call_of, next_call}
+use Rattle.gate_steps.specs.call_events.SeatedTasks.{own_number}
+use Rattle.gate_world.specs.declared.{operations.Op.TheVariants.Freeze as FreezeOp, work.Phase.TheVariants.Freezes}
 use Rattle.vfs_gates.{proofs.Returning.was_done, specs.FoundNobody.{AskedBothOrNone, FoundAt, FoundNobody, FrozeAtOnce, HasFoundSomebody}}
 use Rattle.vfs_gates.specs.{FoundNobody.WaitsInside, Patience.{IsImpatient, without_patience}}
 

@@ -6,18 +6,19 @@ use Rattle.vfs_gates.proofs.Prelude.{append_cancel_right, arith, at_snapshot, ca
 use Rattle.vfs_gates.proofs.Prelude.{has_flag, held_of, inl, inr, is_load, is_some, next_of, not, own_actions, phase_after, read, refl, shown}
 use Rattle.vfs_gates.proofs.Prelude.{state_of_trace, subst, suc, sym, trace_state_after, true, unpacked, whole_rule, world_after, ℕ, ◌&&◌, ◌+◌, ◌<◌}
 use Rattle.vfs_gates.proofs.Prelude.{◌==◌, ◌∙◌, ◌∷◌, ◌≡◌, ◌⊎◌}
-use Rattle.access_model.specs.declared.replies.Reply.TheVariants.{Ran}
-use Rattle.{cpu_words.specs.declared.names.WordName.TheVariants.{MountFlags, SbFlags, Sync}, gate_schedules.proofs.frames.Owners.no_remount}
-use Rattle.gate_schedules.proofs.{operations.change.Trace.change, schedules.HeadlineProof.whole_snapshots, traces.Moments.or_true}
-use Rattle.{gate_schedules.proofs.traces.TraceInvariant.event_at, gate_steps.proofs.call_events.{Running.course_is, Spanning.last_event}}
-use Rattle.{gate_steps.specs.call_events.{SeatedTasks.own_number, Spans.HappensAfter}, gate_world.specs.{Fits.Fits, Operations.first_snapshot}}
-use Rattle.gate_world.specs.{Owners.last_left, Rules.{AtMount, Fitting, IsGood, Known, Owner, Stages, owns, remounts}}
-use Rattle.gate_world.specs.{Views.{actions_after, with_hook}, declared.operations.Op.TheVariants.{Create, Snapshot}}
-use Rattle.gate_world.specs.traces.{Found.{found_dropped, found_shared, none_queued, says_none_queued}, TraceStates.{IsEventOf, IsNext, TraceState}}
-use Rattle.{gate_world.specs.traces.{TraceStates.trace_state_with, Traces.ReplyMatchesTrace}, gated_tree.specs.declared.phases.TreePhase.TreePhase}
-use Rattle.{gated_tree.specs.declared.snapshots.SnapshotStep.SnapshotStep, mount_counts.{proofs.laws.Bits.read_only_clear, specs.Roles.ro_bit}}
-use Rattle.{mount_counts.specs.declared.{phases.ChangeStep.ChangeStep, remounts.RemountStep.RemountStep}, percpu_rwsem.specs.SyncWords.unpack}
-use Rattle.std.proofs.{Common.◌||◌, lemmas.Bool.eq-eqb}
+use Rattle.{access_model.specs.declared.replies.Reply.TheVariants.Ran, std.proofs.{Common.◌||◌, lemmas.Bool.eq-eqb}}
+use Rattle.cpu_words.specs.declared.names.WordName.TheVariants.{MountFlags, SbFlags, Sync}
+use Rattle.gate_schedules.proofs.{frames.Owners.no_remount, operations.change.Trace.change, schedules.HeadlineProof.whole_snapshots}
+use Rattle.gate_schedules.proofs.traces.{Moments.or_true, TraceInvariant.event_at}
+use Rattle.gate_steps.{proofs.call_events.{Running.course_is, Spanning.last_event}, specs.call_events.{SeatedTasks.own_number, Spans.HappensAfter}}
+use Rattle.gate_world.specs.{Fits.Fits, Operations.first_snapshot, Owners.last_left, Rules.{AtMount, Fitting, IsGood, Known, Owner, Stages, owns}}
+use Rattle.gate_world.specs.{Rules.remounts, Views.{actions_after, with_hook}, declared.operations.Op.TheVariants.{Create, Snapshot}}
+use Rattle.gate_world.specs.traces.Found.{found_dropped, found_shared, none_queued, says_none_queued}
+use Rattle.gate_world.specs.traces.{TraceStates.{IsEventOf, IsNext, TraceState, trace_state_with}, Traces.ReplyMatchesTrace}
+use Rattle.gated_tree.specs.declared.{phases.TreePhase.TreePhase, snapshots.SnapshotStep.SnapshotStep}
+use Rattle.mount_counts.{proofs.laws.Bits.read_only_clear, specs.{Roles.ro_bit, declared.phases.ChangeStep.ChangeStep}}
+use Rattle.mount_counts.specs.declared.remounts.RemountStep.{RemountStep}
+use Rattle.percpu_rwsem.specs.SyncWords.{unpack}
 use Rattle.vfs_gates.proofs.{Holding.adds, several_tasks.{Enclosed.read_only_found, FrozenUntilThawed.load_finds}}
 use Rattle.vfs_gates.specs.FoundSo.{IsSo, WasSoDuring}
 

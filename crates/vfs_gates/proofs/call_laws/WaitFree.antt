@@ -10,8 +10,8 @@ use Rattle.gate_transitions.specs.declared.steps.Progress.TheVariants.{Waiting}
 use Rattle.gate_world.specs.{Views.with_hook, declared.work.Phase.TheVariants.Closes, traces.TraceStates.{CloseReadIsValid, IsNext, OpenReadIsValid}}
 use Rattle.gate_world.specs.traces.{TraceStates.{ReadIsValid, WordIsValid}, Traces.{IsShort, MayWait, most_events}}
 use Rattle.gated_tree.specs.declared.opens.OpenStep.{OpenStep, TheVariants.{LoadsFile as LoadsFileToOpen, OpensFile}}
-use Rattle.{gated_tree.specs.declared.phases.TreePhase.TheVariants.OpenFile as OpensOne, node_words.specs.Nodes.word_of}
-use Rattle.percpu_rwsem.specs.Readers.{down_read_next}
+use Rattle.gated_tree.specs.declared.phases.TreePhase.TheVariants.{OpenFile as OpensOne}
+use Rattle.{node_words.specs.Nodes.word_of, percpu_rwsem.specs.Readers.down_read_next}
 
 -- each word may hold some value, and so each step may find one
 word_value : (word : WordName) → (v : ℕ) × WordIsValid word v

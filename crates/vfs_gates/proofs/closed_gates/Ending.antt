@@ -2,12 +2,13 @@
 use Rattle.vfs_gates.proofs.Prelude.{Action, Bool, Config, IsLegal, Limits, List, Node, None, [], ap, arith, eqb_tells, false, if◌then◌else◌, inl}
 use Rattle.vfs_gates.proofs.Prelude.{inr, model_limits, own_part, place, refl, shown, slice_index, stride, sym, total, ℕ, ◌%◌, ◌*◌, ◌<◌, ◌∙◌, ◌∷◌}
 use Rattle.vfs_gates.proofs.Prelude.{◌≡◌, ◌≤◌}
+use Rattle.std.proofs.{Common.ne_eqb, lemmas.Bool.cases_lt}
 use Rattle.access_model.specs.{Histories.{Done, opens_of}, States.{is_removed, most_tasks, one_if, openers}}
 use Rattle.cpu_words.specs.declared.names.WordName.TheVariants.{Kids, LevelCount, MountCount, MountFlags, Remount, Removed, Section, Umount, Used}
-use Rattle.{finite_sums.proofs.Totals.{total_none, total_same}, gate_steps.proofs.call_events.Rests.{at_rest, no_hold as hold_is_clear}}
-use Rattle.{gate_steps.proofs.call_events.{Schedule.idle_sums, Snapshots.sound_as}, gate_world.specs.{Rules.{Files, Tree}, Views.has_open}}
-use Rattle.{mount_counts.specs.Roles.hold_bit, node_words.{proofs.Words.removed_shown, specs.Nodes.{IsPacked, node_shown, opens_in, removed_in}}}
-use Rattle.std.proofs.{Common.ne_eqb, lemmas.Bool.cases_lt}
+use Rattle.finite_sums.proofs.Totals.{total_none, total_same}
+use Rattle.gate_steps.proofs.call_events.{Rests.{at_rest, no_hold as hold_is_clear}, Schedule.idle_sums, Snapshots.sound_as}
+use Rattle.{gate_world.specs.{Rules.{Files, Tree}, Views.has_open}, mount_counts.specs.Roles.hold_bit}
+use Rattle.node_words.{proofs.Words.removed_shown, specs.Nodes.{IsPacked, node_shown, opens_in, removed_in}}
 use Rattle.vfs_gates.specs.Ended.{Ended, LeavesSoundTree}
 
 -- a number past the last task's has done nothing

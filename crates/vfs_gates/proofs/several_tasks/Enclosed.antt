@@ -4,11 +4,13 @@ use Rattle.vfs_gates.proofs.Prelude.{Limits, List, Mount, State, View, WordName,
 use Rattle.vfs_gates.proofs.Prelude.{ap, arith, dite, end_of, eqb_tells, false≢true, has_flag, if◌then◌else◌, inl, inr, model_limits, mounts_of, not}
 use Rattle.vfs_gates.proofs.Prelude.{numbered, own_part, part_append, read, shown, subst, sym, true, update_at, whole_run, world_after, ℕ, ℕ_discrete}
 use Rattle.vfs_gates.proofs.Prelude.{◌++◌, ◌+◌, ◌-◌, ◌<◌, ◌==◌, ◌∙◌, ◌∷◌, ◌≡◌, ◌≤◌, ◌⊎◌}
+use Rattle.std.proofs.{Common.{⊎_elim, ◌||◌}, lemmas.Bool.eq-eqb}
 use Rattle.access_model.specs.{Actions.mounts_after, Histories.Done, Laws.IsReadOnly, declared.actions.Action.TheVariants.Return}
-use Rattle.{cpu_words.specs.declared.names.WordName.TheVariants.{MountFlags, Remount, SbFlags}, finite_sums.proofs.Totals.update_off}
-use Rattle.{finite_sums.specs.Sums.update, gate_schedules.proofs.{schedules.HeadlineProof.whole_nobody, traces.Moments.or_true}}
+use Rattle.cpu_words.specs.declared.names.WordName.TheVariants.{MountFlags, Remount, SbFlags}
+use Rattle.finite_sums.{proofs.Totals.update_off, specs.Sums.update}
+use Rattle.gate_schedules.proofs.{schedules.HeadlineProof.whole_nobody, traces.Moments.or_true}
 use Rattle.gate_world.specs.{Headline.IsOneRun, Rules.{AtMount, IsGood, Owner, Stages}, traces.Found.says_read_only}
-use Rattle.{mount_counts.{proofs.laws.Bits.read_only_set, specs.Roles.ro_bit}, std.proofs.{Common.{⊎_elim, ◌||◌}, lemmas.Bool.eq-eqb}}
+use Rattle.mount_counts.{proofs.laws.Bits.read_only_set, specs.Roles.ro_bit}
 use Rattle.vfs_gates.proofs.several_tasks.FrozenUntilThawed.{in_between}
 
 -- a list that an earlier and a later schedule leave a number is that of each in between

@@ -5,9 +5,10 @@ use Rattle.vfs_gates.proofs.Prelude.{State, TakesEffect, WantWrite, [], actions_
 use Rattle.vfs_gates.proofs.Prelude.{append-nil, append_assoc, arith, call_effect, end_of, false, get_elem?, held_by, inl, inr, model_limits, only}
 use Rattle.vfs_gates.proofs.Prelude.{own_part, part_append, refl, shown, some, state_of_trace, subst, sym, true, update_at, whole_run, ℕ, ◌++◌, ◌+◌}
 use Rattle.vfs_gates.proofs.Prelude.{◌∙◌, ◌∷◌, ◌≡◌}
-use Rattle.access_model.{proofs.{Closed.closed, Frozen.{frozen_shut, frozen_still}, Lists.follows}, specs.Histories.{Done, levels_of}}
-use Rattle.{access_model.specs.Laws.{IsFrozenFor, IsFrozenStill, NeverLeaves}, gate_steps.specs.call_events.SeatedTasks.own_number}
 use Rattle.std.proofs.lemmas.Bool.{both_ways}
+use Rattle.access_model.{proofs.{Closed.closed, Frozen.{frozen_shut, frozen_still}, Lists.follows}, specs.Histories.{Done, levels_of}}
+use Rattle.access_model.specs.Laws.{IsFrozenFor, IsFrozenStill, NeverLeaves}
+use Rattle.gate_steps.specs.call_events.SeatedTasks.{own_number}
 use Rattle.vfs_gates.proofs.several_tasks.{Keeping.NoneOfThese, Shut.{legal_at, none_between, none_earlier, none_within, splits_at}}
 use Rattle.vfs_gates.specs.Meetings.{IsWritable, Thaws}
 

@@ -7,13 +7,14 @@ use Rattle.vfs_gates.proofs.Prelude.{append_cancel_right, arith, cases_Bool, eac
 use Rattle.vfs_gates.proofs.Prelude.{get_elem?, held_by, if◌then◌else◌, inl, inr, is_load, length, model_limits, next_of, not, only, own_actions}
 use Rattle.vfs_gates.proofs.Prelude.{own_number, own_part, own_view, part_append, ran_items, read, refl, shown, some, state_of_trace, subst, sym}
 use Rattle.vfs_gates.proofs.Prelude.{true, whole_run, with_holder, world_after, ℕ, ◌++◌, ◌<◌, ◌==◌, ◌∙◌, ◌∷◌, ◌≡◌, ◌≤◌, ◌⊎◌}
+use Rattle.std.proofs.Common.{◌||◌}
 use Rattle.access_model.{proofs.{Frozen.frozen_shut, Held.stays_frozen}, specs.{Histories.Done, Laws.IsFrozenFor}}
 use Rattle.access_model.specs.declared.actions.{Action.TheVariants.Leave, Holder.TheVariants.{Kernel, User}, Holders.Holders}
 use Rattle.access_model.specs.declared.{errors.GateError.TheVariants.Invalid, replies.Next.TheVariants.Done as Ends}
 use Rattle.cpu_words.specs.declared.{events.Touch.TheVariants.Load, names.WordName.TheVariants.{Holders as HoldersWord, Stage}}
 use Rattle.{freeze_levels.specs.Holders.holders_in, gate_steps.proofs.call_events.Effects.none_moves}
 use Rattle.gate_world.specs.{Headline.IsOneRun, declared.operations.Op.TheVariants.Snapshot, traces.Found.{says_incomplete, says_unheld, some_event}}
-use Rattle.{gated_tree.specs.Refusals.{finds_thawed, loads_stage}, std.proofs.Common.◌||◌}
+use Rattle.gated_tree.specs.Refusals.{finds_thawed, loads_stage}
 use Rattle.vfs_gates.{proofs.Holding.{adds, stays}, specs.Frozen.{NeedsFreeze, NeverThaws, holders_of}}
 
 -- of a history: each action by which this holder leaves is of this number

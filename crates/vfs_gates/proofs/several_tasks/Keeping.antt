@@ -6,10 +6,11 @@ use Rattle.vfs_gates.proofs.Prelude.{actions_append, actions_since, actions_so_f
 use Rattle.vfs_gates.proofs.Prelude.{cases_Bool, each_event, end_of, eqb_tells, false≢true, found_read_only, found_sealed, get_elem?, if◌then◌else◌}
 use Rattle.vfs_gates.proofs.Prelude.{inl, inr, is_load, length, model_limits, mounts_of, next_of, only, own_part, part_append, read, refl, some}
 use Rattle.vfs_gates.proofs.Prelude.{state_of_trace, subst, sym, true, whole_rule, whole_run, world_after, ℕ, ◌&&◌, ◌++◌, ◌+◌, ◌∙◌, ◌∷◌, ◌≡◌, ◌≤◌}
+use Rattle.std.proofs.Common.{length-append}
 use Rattle.access_model.{proofs.Lists.follows, specs.{Histories.Done, declared.actions.Action.TheVariants.MountRo}}
-use Rattle.{access_model.specs.declared.errors.GateError.TheVariants.Hook, cpu_words.specs.declared.names.WordName.TheVariants.SbFlags}
-use Rattle.gate_steps.specs.call_events.{SeatedTasks.own_number, Spans.GoesOnFromSeen}
-use Rattle.{gate_world.specs.traces.Found.{cleans, says_read_only, says_sealed}, std.proofs.Common.length-append}
+use Rattle.access_model.specs.declared.errors.GateError.TheVariants.{Hook}
+use Rattle.{cpu_words.specs.declared.names.WordName.TheVariants.SbFlags, gate_steps.specs.call_events.{SeatedTasks.own_number, Spans.GoesOnFromSeen}}
+use Rattle.gate_world.specs.traces.Found.{cleans, says_read_only, says_sealed}
 use Rattle.vfs_gates.proofs.several_tasks.Enclosed.{done_there, granted_there, mount_there, not_read_only, read_only_found, stood}
 use Rattle.vfs_gates.{proofs.several_tasks.FrozenUntilThawed.{SomeSays, load_finds, some_of}, specs.Meetings.Shuts}
 

@@ -7,9 +7,10 @@ use Rattle.vfs_gates.proofs.Prelude.{append-nil, append_assoc, append_cancel_rig
 use Rattle.vfs_gates.proofs.Prelude.{false, found_read_only, get_elem?, if◌then◌else◌, inl, inr, is_load, model_limits, next_of, only, own_part}
 use Rattle.vfs_gates.proofs.Prelude.{part_append, read, refl, some, state_of_trace, subst, sym, true, update_at, whole_rule, whole_run, world_after}
 use Rattle.vfs_gates.proofs.Prelude.{ℕ, ℕ_discrete, ◌&&◌, ◌++◌, ◌+◌, ◌<◌, ◌∙◌, ◌∷◌, ◌≡◌}
+use Rattle.std.proofs.lemmas.{Bool.both_ways, List.append_cancel_left}
 use Rattle.access_model.specs.{Histories.Done, Laws.IsReadOnly, declared.actions.Action.TheVariants.{MountRo, MountRw}}
 use Rattle.{finite_sums.{proofs.Totals.update_off, specs.Sums.update}, gate_steps.specs.call_events.SeatedTasks.own_number}
-use Rattle.{gate_world.specs.traces.Found.says_read_only, std.proofs.lemmas.{Bool.both_ways, List.append_cancel_left}}
+use Rattle.gate_world.specs.traces.Found.{says_read_only}
 use Rattle.vfs_gates.proofs.several_tasks.{Enclosed.read_only_found, FrozenUntilThawed.{SomeSays, load_finds, some_of}}
 use Rattle.vfs_gates.{proofs.several_tasks.Keeping.{NoneOfThese, none_own}, specs.Meetings.{Reopens, TakesMount}}
 

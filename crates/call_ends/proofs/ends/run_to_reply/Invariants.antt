@@ -1,7 +1,8 @@
 -- Each step goes on from what the one before it left, and fewer are left.
 use Rattle.call_ends.proofs.Prelude.{Bool, Op, SeatedTask, Some, ℕ, ◌≡◌}
+use Rattle.std.proofs.Common.{List}
 use Rattle.gate_steps.{proofs.call_events.Running.events_left, specs.call_events.{GhostAgrees.GhostAgrees, Runs.{IsTrying, OpUnderWay}}}
-use Rattle.{gate_steps.specs.call_events.{SeatedTasks.task_state, Turns.{StateAgrees, state_at}}, std.proofs.Common.List}
+use Rattle.gate_steps.specs.call_events.{SeatedTasks.task_state, Turns.{StateAgrees, state_at}}
 use Rattle.call_ends.proofs.ends.run_to_reply.Given as goal
 
 abbrev pub invariant-loop-answer : goal.invariant-loop-answer

@@ -1,8 +1,9 @@
 -- each step goes on from what the one before it left
 use Rattle.call_ends.proofs.Prelude.{Go, None, Op, SeatedTask, Some, Wait, ap, map_next, refl, seated_stands, subst, sym, ℕ, ◌∙◌, ◌≡◌}
+use Rattle.std.proofs.Common.{◌+◌}
 use Rattle.gate_steps.proofs.call_events.Leading.{seated_as, seated_nowhere, seated_on, stands_as}
 use Rattle.gate_steps.specs.call_events.{Asking.{OpAfterStepAsking, OpUnderWayAsking}, Led.{StaysSeated, seated_at}, Waited.counted}
-use Rattle.{gate_world.specs.Views.phase_after, std.proofs.Common.◌+◌}
+use Rattle.gate_world.specs.Views.{phase_after}
 use Rattle.call_ends.proofs.{Waited.{going_on, one_more, replied, waiting_on}, ends.step_waiting.Goals.{in-Go, in-Wait}}
 use Rattle.call_ends.proofs.ends.step_waiting.Goals as goal
 

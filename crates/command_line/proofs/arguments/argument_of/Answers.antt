@@ -1,5 +1,6 @@
+use Rattle.std.proofs.Common.{Option, Some, ap, sym, ◌∙◌}
 use Rattle.clap.specs.{Lexer.usize_max, declared.builder.{action.ArgAction.TheVariants.SetTrue, range.ValueRange.ValueRange}}
-use Rattle.{clap.specs.declared.builder.value_parser.ValueParser.ValueParser, std.proofs.Common.{Option, Some, ap, sym, ◌∙◌}}
+use Rattle.clap.specs.declared.builder.value_parser.ValueParser.{ValueParser}
 use Rattle.command_line.{proofs.Parsing.{acted, helped, named, parsed, range_there, ranged, required, valued}, specs.CommandLine.kind_rule}
 use Rattle.command_line.proofs.arguments.argument_of.Goals as goal
 

@@ -1,6 +1,7 @@
 -- the tasks meet before the change and after it
-use Rattle.{std.proofs.Common.{ap, refl, subst, sym, ◌<◌, ◌∙◌}, vfs_gates.proofs.Rounds.{from_after, from_met, rests_after, times_stay}}
-use Rattle.vfs_gates.{proofs.several_tasks.Beside.{met_again, rests_busy}, specs.Rounds.{Rests, SeatedTask, times}}
+use Rattle.std.proofs.Common.{ap, refl, subst, sym, ◌<◌, ◌∙◌}
+use Rattle.vfs_gates.proofs.{Rounds.{from_after, from_met, rests_after, times_stay}, several_tasks.Beside.{met_again, rests_busy}}
+use Rattle.vfs_gates.specs.Rounds.{Rests, SeatedTask, times}
 use Rattle.example_first.proofs.two_tasks.change_while_held.Goals as goal
 
 pub returns : goal.returns

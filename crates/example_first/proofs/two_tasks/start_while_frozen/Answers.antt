@@ -1,6 +1,7 @@
 -- the tasks meet before the freeze, after it, and after the other's call
-use Rattle.{std.proofs.Common.{None, false, subst, sym, ◌≡◌}, vfs_gates.proofs.several_tasks.{Beside.met_again, BothFrozen.both_refuse_a_start}}
-use Rattle.vfs_gates.specs.{Op.TheVariants.Start, Rounds.SeatedTask, TaskStates.refusal_at}
+use Rattle.std.proofs.Common.{None, false, subst, sym, ◌≡◌}
+use Rattle.vfs_gates.{proofs.several_tasks.{Beside.met_again, BothFrozen.both_refuse_a_start}, specs.{Op.TheVariants.Start, Rounds.SeatedTask}}
+use Rattle.vfs_gates.specs.TaskStates.{refusal_at}
 use Rattle.example_first.proofs.two_tasks.start_while_frozen.Goals as goal
 
 pub returns : goal.returns

@@ -1,6 +1,7 @@
 -- the tasks meet before the change, after it, and after the other's call
-use Rattle.{std.proofs.Common.{refl, subst, sym, true, ◌<◌}, vfs_gates.proofs.{Rounds.{from_after, from_met}, several_tasks.Beside.met_again}}
-use Rattle.vfs_gates.{proofs.several_tasks.BothShut.both_read_only, specs.Rounds.{Rests, SeatedTask}}
+use Rattle.std.proofs.Common.{refl, subst, sym, true, ◌<◌}
+use Rattle.vfs_gates.proofs.{Rounds.{from_after, from_met}, several_tasks.{Beside.met_again, BothShut.both_read_only}}
+use Rattle.vfs_gates.specs.Rounds.{Rests, SeatedTask}
 use Rattle.example_first.proofs.two_tasks.write_while_read_only.Goals as goal
 
 pub returns : goal.returns

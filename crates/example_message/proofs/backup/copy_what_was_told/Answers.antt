@@ -1,6 +1,7 @@
 -- What was told is seen once the word is taken in, and from then on.
-use Rattle.{std.proofs.{Common.{Ok, ap, subst, sym, ◌∙◌}, Math.Logic.∥∥₁_map}, vfs_gates.proofs.Grown.{both_stay_seen, stays_seen_on}}
-use Rattle.vfs_gates.{proofs.Rounds.seen_after, specs.{Grown.StaySeen, Meetings.Config, TaskStates.SeatedTask}}
+use Rattle.std.proofs.{Common.{Ok, ap, subst, sym, ◌∙◌}, Math.Logic.∥∥₁_map}
+use Rattle.vfs_gates.{proofs.{Grown.{both_stay_seen, stays_seen_on}, Rounds.seen_after}, specs.{Grown.StaySeen, Meetings.Config}}
+use Rattle.vfs_gates.specs.TaskStates.{SeatedTask}
 use Rattle.example_message.{proofs.Telling.{copied_then, told_on}, specs.Words.HadWritten}
 use Rattle.example_message.proofs.backup.copy_what_was_told.Goals as goal
 

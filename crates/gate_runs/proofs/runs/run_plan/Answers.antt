@@ -1,10 +1,10 @@
 -- what the threads did is what their tasks' numbers have in the end
 use Rattle.gate_runs.proofs.Prelude.{Among, Config, Copies, CountsRounds, Err, GateError, Gates, Gives, HasBegun, None, Ok, Option, Plan, Result}
 use Rattle.gate_runs.proofs.Prelude.{SeatedTask, ap, arith, err_from_is_err_and, inl, inr, subst, sym, ℕ, ◌-◌, ◌∙◌, ◌≡◌, ◌≤◌}
-use Rattle.access_model.specs.declared.errors.GateError.TheVariants.{NoMemory}
+use Rattle.{access_model.specs.declared.errors.GateError.TheVariants.NoMemory, std.proofs.{Common.{slice_index, unwrap_or, ◌*◌}, lemmas.Nat.mul-le}}
 use Rattle.{cpu_words.specs.{Names.{place, stride}, declared.names.WordName.TheVariants.Used}, gate_world.specs.Configs.IsWithin}
-use Rattle.{run_plans.specs.{Plans.{MayRun, run_config}, declared.counts.Details.Details}, std.proofs.Common.{slice_index, unwrap_or, ◌*◌}}
-use Rattle.{std.proofs.lemmas.Nat.mul-le, vfs_gates.{proofs.Splitting.{first_begins, gives_all}, specs.Ended.{ClosedState, EndedWith}}}
+use Rattle.run_plans.specs.{Plans.{MayRun, run_config}, declared.counts.Details.Details}
+use Rattle.vfs_gates.{proofs.Splitting.{first_begins, gives_all}, specs.Ended.{ClosedState, EndedWith}}
 use Rattle.gate_runs.{proofs.{Answering.{IsInOrder, file_in_order}, Joining.found_nothing, Staying.{all_did_on, ends_as}}, specs.Ends.AllJoined}
 use Rattle.gate_runs.specs.{Parts.EndsAs, Refusals.{NotStarted, RunRefused}}
 use Rattle.gate_runs.proofs.runs.run_plan.Goals as goal

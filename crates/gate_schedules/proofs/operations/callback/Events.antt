@@ -5,9 +5,9 @@ use Rattle.gate_schedules.proofs.Prelude.{World, actions_after, ap, arith, commo
 use Rattle.gate_schedules.proofs.Prelude.{inside, left, left_by, level_added_by, level_in, level_role_of, level_taken_by, map_next, phase_after, put}
 use Rattle.gate_schedules.proofs.Prelude.{read, shown, subst, sym, sync_role_of, update, update_same, view_after, ℕ, ◌<◌, ◌∙◌, ◌≡◌, ◌≤◌}
 use Rattle.{access_model.specs.Histories.levels_of, cpu_words.specs.gate_counts.Levels.Out as CountsNot}
-use Rattle.freeze_laws.{proofs.levels.Operations.callbacks_are_there, specs.levels.Events.SyncLevel}
-use Rattle.freeze_laws.specs.levels.Operations.{CallbackIsThere, HoldsOfNext, KnowsCallback, by_next, callback_role, put_at, value_at}
-use Rattle.{freeze_laws.specs.levels.Roles.Out as IsApart, gate_world.specs.{Fits.GraceFits, Levels.{level_added_after, level_taken_after}}}
+use Rattle.freeze_laws.{proofs.levels.Operations.callbacks_are_there, specs.levels.{Events.SyncLevel, Operations.{CallbackIsThere, HoldsOfNext}}}
+use Rattle.freeze_laws.specs.levels.{Operations.{KnowsCallback, by_next, callback_role, put_at, value_at}, Roles.Out as IsApart}
+use Rattle.gate_world.specs.{Fits.GraceFits, Levels.{level_added_after, level_taken_after}}
 use Rattle.percpu_rwsem.specs.{Callbacks.{at_callback, callback_after, callback_next}, declared.callbacks.CallbackStep.CallbackStep}
 use Rattle.gate_schedules.proofs.frames.Frames.{left_alone, level_view_as}
 use Rattle.gate_schedules.proofs.levels.Parts.{IsAtLevels, SameAtMounts, SameOffLevels, level_parts, level_still, whole_same}

@@ -4,8 +4,9 @@ use Rattle.gate_schedules.proofs.Prelude.{MoveTo, OpenFile, OpenStep, Phase, Pha
 use Rattle.gate_schedules.proofs.Prelude.{SnapshotStep, TreePhase, Words, arith, clear_after, common_steps, create_after, found_at, found_by}
 use Rattle.gate_schedules.proofs.Prelude.{grow_after, mark_after, move_after, open_after, rank, read, remove_after, snapshot_next, words_after, ℕ}
 use Rattle.gate_schedules.proofs.Prelude.{◌-◌}
-use Rattle.{gate_world.specs.traces.TraceStates.{OpenReadIsValid, WordIsValid}, gated_tree.specs.Phases.{after as tree_after, create_next, grow_next}}
-use Rattle.gated_tree.specs.Phases.{mark_next, move_next, next as tree_next, open_next, remove_next, snapshot_after}
+use Rattle.gate_world.specs.traces.TraceStates.{OpenReadIsValid, WordIsValid}
+use Rattle.gated_tree.specs.Phases.{after as tree_after, create_next, grow_next, mark_next, move_next, next as tree_next, open_next, remove_next}
+use Rattle.gated_tree.specs.Phases.{snapshot_after}
 use Rattle.gate_schedules.proofs.{frames.ValidWords.events_may_be, operations.deadlocks.RankDecreases.falls_as}
 use Rattle.gate_schedules.specs.operations.Ranks.{create_rank, grow_rank, mark_rank, move_rank, open_rank, remove_rank, snapshot_rank, tree_rank}
 use Rattle.gate_schedules.specs.operations.Unblocked.{SnapshotIsUnblocked, TreeIsUnblocked}

@@ -6,8 +6,8 @@ use Rattle.gate_schedules.proofs.Prelude.{create_after, eqb_tells, false, found_
 use Rattle.gate_schedules.proofs.Prelude.{mark_after, move_after, node_after, open_after, owns, remove_after, shown, true, unpacked, ℕ, ◌<◌, ◌==◌}
 use Rattle.gate_schedules.proofs.Prelude.{◌∷◌, ◌≡◌}
 use Rattle.gate_world.specs.refusals.{Causes.{CallRefused, IsTaken, TellsOf, TreeRefused, tree_sees}, KeptCauses.{SnapshotCause, TreeCause}}
-use Rattle.{gate_world.specs.refusals.Waits.HasCulprit, gated_tree.specs.Phases.{at_snapshot, node_step, snapshot_locked_out}}
-use Rattle.node_words.specs.Phases.{clears_at}
+use Rattle.gate_world.specs.refusals.Waits.{HasCulprit}
+use Rattle.{gated_tree.specs.Phases.{at_snapshot, node_step, snapshot_locked_out}, node_words.specs.Phases.clears_at}
 use Rattle.gate_schedules.proofs.{frames.Owners.umount_taken, operations.calls.NodeCauses.{call_refused, clear_node, create_node, grow_node}}
 use Rattle.gate_schedules.proofs.operations.calls.NodeCauses.{is_of_node, mark_node, move_node, open_node, remove_node}
 

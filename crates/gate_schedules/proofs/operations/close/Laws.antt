@@ -3,8 +3,9 @@ use Rattle.gate_schedules.proofs.Prelude.{CauseOf, ClosePhase, Config, DownRead,
 use Rattle.gate_schedules.proofs.Prelude.{Reply, Some, StepKeeps, SyncStep, World, after_step, ap, arith, cases_Bool, closed, common_steps}
 use Rattle.gate_schedules.proofs.Prelude.{down_read_after, found_at, held_of, inl, inr, level_in, map_next, phase_after, refl, rephased, sync_role_of}
 use Rattle.gate_schedules.proofs.Prelude.{value_at, word_of, ℕ, ◌<◌, ◌==◌, ◌∙◌, ◌∷◌, ◌≡◌, ◌≤◌}
-use Rattle.{composite_ops.specs.file_closes.Phases.{after, leaves_on, then_frees}, gate_world.specs.{Fits.CloseFits, SameRoles.SameRolesOffTree}}
-use Rattle.{gate_world.specs.{refusals.Causes.asks_level, traces.TraceStates.CloseReadIsValid}, node_words.specs.Nodes.any_file_in}
+use Rattle.composite_ops.specs.file_closes.Phases.{after, leaves_on, then_frees}
+use Rattle.gate_world.specs.{Fits.CloseFits, SameRoles.SameRolesOffTree, refusals.Causes.asks_level, traces.TraceStates.CloseReadIsValid}
+use Rattle.node_words.specs.Nodes.{any_file_in}
 use Rattle.gate_schedules.proofs.frames.{OperationLaws.PhaseLaws, Snapshots.completes_none, ValidWords.events_may_be}
 use Rattle.gate_schedules.proofs.operations.close.Causes.{enters_asks, enters_cause, looked_cause}
 use Rattle.gate_schedules.proofs.operations.close.{Fits.{close_acts, close_agrees, close_goes, close_there}, LevelEvents.{beside_ends, beside_enters}}

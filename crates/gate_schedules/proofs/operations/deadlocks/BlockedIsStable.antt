@@ -7,7 +7,7 @@ use Rattle.gate_schedules.proofs.Prelude.{eqb_tells, false, found_at, found_by, 
 use Rattle.gate_schedules.proofs.Prelude.{is_frozen_whole, left, map_next, nat_lt, ne_eqb, opens_in, owns, phase_action, phase_after, put, read, refl}
 use Rattle.gate_schedules.proofs.Prelude.{shown, stage_role_of, subst, sym, sync_role_of, true, true≢false, update_off, value_at, view_after}
 use Rattle.gate_schedules.proofs.Prelude.{words_after, ℕ, ◌&&◌, ◌+◌, ◌<◌, ◌==◌, ◌∙◌, ◌≡◌, ◌≤◌}
-use Rattle.access_model.specs.declared.actions.Action.TheVariants.{Pass}
+use Rattle.{access_model.specs.declared.actions.Action.TheVariants.Pass, std.proofs.lemmas.Bool.eqb-true}
 use Rattle.composite_ops.specs.declared.file_closes.phases.ClosePhase.TheVariants.{Enters as EntersLevel, LoadsFile as CloseLoadsFile}
 use Rattle.composite_ops.specs.declared.{file_closes.phases.Closing.Closing, write_access.phases.WritePhase.TheVariants.Takes}
 use Rattle.composite_ops.specs.{file_closes.Phases.{after as close_after, enters, then_frees}, write_access.Phases.then_wants}
@@ -20,7 +20,7 @@ use Rattle.gate_world.specs.declared.work.Phase.TheVariants.{Closes as FileClose
 use Rattle.gated_tree.specs.declared.phases.TreePhase.TheVariants.{Snapshot as Snapshots}
 use Rattle.mount_counts.specs.declared.phases.MountPhase.TheVariants.{Change as Changes}
 use Rattle.node_words.{proofs.ClearedMarks.{IsCleared, clears_mark, without_mark}, specs.Nodes.{IsPacked, node_of, removed_in}}
-use Rattle.{percpu_rwsem.specs.Readers.step_found, std.proofs.lemmas.Bool.eqb-true}
+use Rattle.percpu_rwsem.specs.Readers.{step_found}
 use Rattle.gate_schedules.proofs.{frames.{Owners.owns_le, Words.load_same}, levels.Facts.blocked_slow}
 use Rattle.gate_schedules.proofs.operations.deadlocks.{BlockedCloses.{StaysAtLevel, down_stays}, BlockedOrProgress.{first_finds, first_is, or_phase}}
 use Rattle.gate_schedules.proofs.operations.deadlocks.{BlockedStarts.{StaysKept, start_stays}, FreezeProgress.{next_same, not_none}}

@@ -4,8 +4,8 @@ use Rattle.gate_schedules.proofs.Prelude.{ReplyWithin, Some, View, Wait, Words, 
 use Rattle.gate_schedules.proofs.Prelude.{inl, inr, inside, next_of, phase_after, suc, sym, total, total_updated, value_at, view_after, words_after}
 use Rattle.gate_schedules.proofs.Prelude.{zero, ℕ, ◌*◌, ◌+◌, ◌<◌, ◌∙◌, ◌≡◌, ◌≤◌, ◌⊎◌}
 use Rattle.composite_ops.specs.declared.file_closes.phases.ClosePhase.TheVariants.{Enters as EntersLevel}
-use Rattle.{composite_ops.specs.declared.write_access.phases.WritePhase.TheVariants.Takes, finite_sums.proofs.Totals.{HasPlace, total_place}}
-use Rattle.gate_world.specs.declared.work.Phase.TheVariants.{Closes as FileCloses, Writes}
+use Rattle.composite_ops.specs.declared.write_access.phases.WritePhase.TheVariants.{Takes}
+use Rattle.{finite_sums.proofs.Totals.{HasPlace, total_place}, gate_world.specs.declared.work.Phase.TheVariants.{Closes as FileCloses, Writes}}
 use Rattle.gate_schedules.proofs.{frames.ValidWords.events_may_be, operations.deadlocks.RankDecreases.{near_after, no_further, stands_after}}
 use Rattle.gate_schedules.specs.operations.{Progress.HasReply, Ranks.read_rank}
 

@@ -5,9 +5,10 @@ use Rattle.gate_schedules.proofs.Prelude.{Option, Owner, Phase, PhaseEnds, Phase
 use Rattle.gate_schedules.proofs.Prelude.{at_level, cases_Bool, closed, common_steps, false, has_flag, has_hold, held_of, holds_level, inl, inr}
 use Rattle.gate_schedules.proofs.Prelude.{inside, is_frozen_whole, level_role_of, ltb-true, nat_lt, not, owns, refl, role_of, subst, suc, sym}
 use Rattle.gate_schedules.proofs.Prelude.{sync_role_of, total, total_at, total_none, true, true≢false, ℕ, ◌-◌, ◌<◌, ◌||◌, ◌∙◌, ◌≡◌, ◌≤◌, ◌⊎◌}
-use Rattle.cpu_words.{proofs.gate_counts.Events.words_sum, specs.gate_counts.{Gates.{BarringHolds, admitted, below, counted, unread}, Levels.Passed}}
-use Rattle.{cpu_words.specs.gate_counts.Levels.{barring_of, level_as_gate, processor_of}, gate_world.specs.Operations.{holds_none, holds_none_from}}
-use Rattle.{gate_world.specs.Rules.LevelHoldsIn, mount_counts.proofs.laws.Bits.hold_set, std.proofs.lemmas.Bool.{and_parts, not-true, or_cases}}
+use Rattle.std.proofs.lemmas.Bool.{and_parts, not-true, or_cases}
+use Rattle.cpu_words.{proofs.gate_counts.Events.words_sum, specs.gate_counts.Gates.{BarringHolds, admitted, below, counted, unread}}
+use Rattle.cpu_words.specs.gate_counts.Levels.{Passed, barring_of, level_as_gate, processor_of}
+use Rattle.{gate_world.specs.{Operations.{holds_none, holds_none_from}, Rules.LevelHoldsIn}, mount_counts.proofs.laws.Bits.hold_set}
 use Rattle.gate_schedules.proofs.{frames.Owners.{hold_owns, owns_le, who_holds}, levels.Counts.held_bit}
 use Rattle.gate_schedules.proofs.operations.deadlocks.{Bounds.{beside_small, is_beside, rank_small}, RankDecreases.runs_out}
 use Rattle.gate_schedules.specs.operations.{Ranks.{most_alone, most_beside}, Unblocked.{HoldIsClear, NothingCounted}}

@@ -9,8 +9,9 @@ use Rattle.gate_schedules.proofs.Prelude.{◌-◌, ◌<◌, ◌==◌, ◌∙◌,
 use Rattle.cpu_words.{proofs.gate_counts.{Events.words_sum, Numbers.{ahead_none, ahead_past, ahead_step}}, specs.Sums.{ahead, lead}}
 use Rattle.freeze_levels.specs.Freezes.{after_clearing, after_reopening, after_undoing, freeze_fails, level_closed}
 use Rattle.gate_world.specs.{Fits.DownWriteStepFits, Rules.LevelHoldsIn, refusals.Causes.{all_inside, moments_of_sum, was_inside, words_read}}
-use Rattle.{gate_world.specs.refusals.KeptCauses.{DownWriteCause, FreezeCause}, percpu_rwsem.specs.Graces.looked}
-use Rattle.percpu_rwsem.specs.{Writers.{callback_step, enter_step, passed_awaited, sections_awaited, sum_begun}, declared.grace.GraceNext.GraceNext}
+use Rattle.gate_world.specs.refusals.KeptCauses.{DownWriteCause, FreezeCause}
+use Rattle.percpu_rwsem.specs.{Graces.looked, Writers.{callback_step, enter_step, passed_awaited, sections_awaited, sum_begun}}
+use Rattle.percpu_rwsem.specs.declared.grace.GraceNext.{GraceNext}
 use Rattle.gate_schedules.proofs.{frames.{OperationLaws.IsQuiet, Words.load_same}, operations.freeze.Fits.found_cases}
 use Rattle.gate_schedules.proofs.traces.Moments.{look_skips, sum_begins, sum_goes}
 

@@ -8,7 +8,8 @@ use Rattle.gate_schedules.proofs.Prelude.{holds_level, if◌then◌else◌, inl,
 use Rattle.gate_schedules.proofs.Prelude.{model_limits, nat_lt, on_callback, on_enter, owns, phase_after, playing, put, read, refl, shown}
 use Rattle.gate_schedules.proofs.Prelude.{stage_role_of, state_after, subst, sym, taken_by, total, total_at, transition_after, tree_role_of}
 use Rattle.gate_schedules.proofs.Prelude.{tree_roles, true, true≢false, unpack, update, view_with, ℕ, ◌<◌, ◌==◌, ◌∙◌, ◌≡◌, ◌≤◌, ◌⊎◌}
-use Rattle.{cpu_words.specs.{Sums.sum_taking, declared.sums.Taken.Taken}, freeze_laws.proofs.stages.Facts.at_level}
+use Rattle.cpu_words.specs.{Sums.sum_taking, declared.sums.Taken.Taken}
+use Rattle.freeze_laws.proofs.stages.Facts.{at_level}
 use Rattle.freeze_laws.specs.stages.Events.{Happens, Passes, SetsBlock as SetsBlockStage, Stays, action_of as stage_action_of}
 use Rattle.freeze_laws.specs.stages.Roles.{Before, Closing, HasPassed, Place, bit, has_position, owns as stage_owns}
 use Rattle.{freeze_levels.specs.Freezes.{closing_waits, level_closed}, gate_world.specs.Roles.{freeze_holder_role, place_of}}

@@ -6,11 +6,11 @@ use Rattle.gate_schedules.proofs.Prelude.{dirty_in, each_updated, eqb_tells, fal
 use Rattle.gate_schedules.proofs.Prelude.{ltb-false, ltb-true, map_next, marks_of, model_limits, nat_lt, node_shown, opens_in, owns, phase_after}
 use Rattle.gate_schedules.proofs.Prelude.{read, refl, rephased, shown, stage_role_of, stage_roles, state_after, subst, suc, sym, tree_bounds, tree_of}
 use Rattle.gate_schedules.proofs.Prelude.{true, up_write_after, up_write_next, update, update_map, update_same, ℕ, ◌+◌, ◌<◌, ◌∙◌, ◌≡◌}
-use Rattle.{access_model.specs.{Actions.marked, States.IsFile}, freeze_laws.specs.stages.Events.{ClearsMark as ClearsMarkStage, cleaned}}
-use Rattle.{freeze_laws.specs.stages.Roles.{HasPassed, owns as stage_owns}, freeze_levels.specs.{Freezes.after_reopening, Thaws.after_opening}}
+use Rattle.{access_model.specs.{Actions.marked, States.IsFile}, std.proofs.Common.option_map}
+use Rattle.freeze_laws.specs.stages.{Events.{ClearsMark as ClearsMarkStage, cleaned}, Roles.{HasPassed, owns as stage_owns}}
+use Rattle.freeze_levels.specs.{Freezes.after_reopening, Thaws.after_opening}
 use Rattle.gate_world.specs.{Roles.{freeze_holder_role, freeze_position, freeze_tree_role}, SameRoles.SameRoles}
 use Rattle.node_words.{proofs.ClearedMarks.{clean_stays, cleared_shown, clears_mark, without_mark}, specs.Nodes.IsNode}
-use Rattle.std.proofs.Common.{option_map}
 use Rattle.gate_schedules.proofs.frames.{ByPhase.freeze_owner, Holders.holders_stay, PhaseSubstitution.{alike_of, made_keeps}}
 use Rattle.gate_schedules.proofs.{frames.Stages.{IsStageEvent, stages_in}, levels.LevelPositions.{HasPosition, left_world, position_after_opening}}
 use Rattle.gate_schedules.proofs.{levels.PositionRoles.levels_stay, operations.freeze.{Closes.closes, Fits.freeze_goes, GivesUp.{undoes, waits}}}

@@ -6,8 +6,9 @@ use Rattle.gate_schedules.proofs.Prelude.{exit_made, found_by, held_of, holder_r
 use Rattle.gate_schedules.proofs.Prelude.{on_exit, owns, phase_after, put, read, refl, rephased, stage_role_of, subst, sym, taken_by}
 use Rattle.gate_schedules.proofs.Prelude.{transition_after, tree_role_of, view_with, ℕ, ◌<◌, ◌∙◌, ◌≡◌, ◌≤◌}
 use Rattle.freeze_laws.{proofs.stages.Facts.at_level, specs.stages.{Events.{Stays, Unblocks}, Roles.{Before, Closing, bit}}}
-use Rattle.{freeze_levels.specs.Freezes.{after_undoing, freeze_closed, freeze_undone}, gate_world.specs.Roles.{down_count_role, place_of}}
-use Rattle.{gate_world.specs.SameRoles.SameRoles, gated_tree.specs.Roles.Out as OffTree, percpu_rwsem.specs.Transitions.transition_next}
+use Rattle.freeze_levels.specs.Freezes.{after_undoing, freeze_closed, freeze_undone}
+use Rattle.{gate_world.specs.{Roles.{down_count_role, place_of}, SameRoles.SameRoles}, gated_tree.specs.Roles.Out as OffTree}
+use Rattle.percpu_rwsem.specs.Transitions.{transition_next}
 use Rattle.gate_schedules.proofs.frames.{PhaseSubstitution.{alike_of, made_keeps}, Stages.IsStageEvent}
 use Rattle.gate_schedules.proofs.levels.{GivenUp.{summing_at, unblocked_levels}, LevelPositions.{HasPosition, position_after_opening}}
 use Rattle.gate_schedules.proofs.levels.{PositionRoles.{closing_says, closing_says_none, say_back, stands_so}, UpWrite.up_write_levels}

@@ -7,7 +7,8 @@ use Rattle.gate_schedules.proofs.Prelude.{closed, down_write_after, down_write_n
 use Rattle.gate_schedules.proofs.Prelude.{inside, level_in, ltb-false, map_next, nat_lt, on_exit, owns, read, refl, subst, sym, sync_role_of}
 use Rattle.gate_schedules.proofs.Prelude.{transition_after, true, up_write_after, wrap_add, ℕ, ◌%◌, ◌+◌, ◌<◌, ◌∙◌, ◌≡◌, ◌≤◌, ◌⊎◌}
 use Rattle.freeze_laws.{proofs.levels.CitedLaws.writers_find, specs.levels.Changes.{state_found, state_found_in}}
-use Rattle.{freeze_laws.specs.levels.Roles.{Entered, entered, entering}, freeze_levels.specs.Freezes.{after_clearing, after_reopening, after_undoing}}
+use Rattle.freeze_laws.specs.levels.Roles.{Entered, entered, entering}
+use Rattle.freeze_levels.specs.Freezes.{after_clearing, after_reopening, after_undoing}
 use Rattle.gate_world.specs.{Fits.DownWriteStepFits, refusals.{KeptCauses.{DownWriteCause, FreezeCause}, Waits.HasCulprit}}
 use Rattle.percpu_rwsem.specs.{Graces.{is_first, passed_on}, SyncWords.{is_passed, is_queued}, Writers.sections_awaited, declared.grace.Grace.Grace}
 use Rattle.percpu_rwsem.specs.declared.sync_word.GpState.{GpState}

@@ -5,14 +5,16 @@ use Rattle.gate_schedules.proofs.Prelude.{WordName, Words, World, after_step, ap
 use Rattle.gate_schedules.proofs.Prelude.{holds_level, inl, inr, level_role_of, map_next, model_limits, nat_lt, not, phase_after, put, read, refl}
 use Rattle.gate_schedules.proofs.Prelude.{shown, subst, sym, sync_role_of, true, true≢false, unpack, update, update_at, update_same, view_with}
 use Rattle.gate_schedules.proofs.Prelude.{wrap_add, ℕ, ◌+◌, ◌<◌, ◌==◌, ◌||◌, ◌∙◌, ◌≡◌, ◌≤◌}
+use Rattle.std.proofs.lemmas.Bool.{Decides.nat_tests, and_parts}
 use Rattle.access_model.specs.{Actions.IsAllowed, declared.actions.{Action.TheVariants.Grant, Gate.TheVariants.Level}}
-use Rattle.{access_model.specs.declared.replies.Reply.TheVariants.Unit as UnitReply, cpu_words.proofs.gate_counts.LevelLaws.{is_granted, is_refused}}
-use Rattle.cpu_words.specs.declared.{events.Touch.TheVariants.{Add, Load, Sub}, names.WordName.TheVariants.{Block, LevelCount, Section, Sync}}
-use Rattle.{cpu_words.specs.gate_counts.Levels.Out as CountsNot, freeze_laws.specs.levels.Roles.Fast}
+use Rattle.access_model.specs.declared.replies.Reply.TheVariants.{Unit as UnitReply}
+use Rattle.cpu_words.{proofs.gate_counts.LevelLaws.{is_granted, is_refused}, specs.declared.events.Touch.TheVariants.{Add, Load, Sub}}
+use Rattle.cpu_words.specs.{declared.names.WordName.TheVariants.{Block, LevelCount, Section, Sync}, gate_counts.Levels.Out as CountsNot}
+use Rattle.freeze_laws.specs.levels.Roles.{Fast}
 use Rattle.gate_world.specs.{Fits.{ReadFits, ReadStepFits}, Operations.holds_none_from, Roles.{count_role_if, read_count_role}}
-use Rattle.percpu_rwsem.specs.{Readers.{at_down_read, left_blocked, step_found}, declared.readers.DownReadStep.TheVariants.{CountsDown, CountsUpFast}}
-use Rattle.percpu_rwsem.specs.declared.readers.DownReadStep.TheVariants.{CountsUpSlow, EntersSection, LeavesAdmitted, LeavesBlocked, LoadsBlock}
-use Rattle.{percpu_rwsem.specs.declared.readers.DownReadStep.TheVariants.LoadsSync, std.proofs.lemmas.Bool.{Decides.nat_tests, and_parts}}
+use Rattle.percpu_rwsem.specs.Readers.{at_down_read, left_blocked, step_found}
+use Rattle.percpu_rwsem.specs.declared.readers.DownReadStep.TheVariants.{CountsDown, CountsUpFast, CountsUpSlow, EntersSection, LeavesAdmitted}
+use Rattle.percpu_rwsem.specs.declared.readers.DownReadStep.TheVariants.{LeavesBlocked, LoadsBlock, LoadsSync}
 use Rattle.gate_schedules.proofs.{frames.Frames.{count_none, level_view_as}, levels.Counts.{LevelHoldsAfter, SameElsewhere, backs_off, bit_room}}
 use Rattle.gate_schedules.proofs.levels.Counts.{count_on, down_beside, enters_fast, held_bit, level_follows, seeks, up_beside, words_down, words_up}
 use Rattle.gate_schedules.proofs.levels.Parts.{IsAtLevels, SameAtMounts, SameOffLevels, beside_levels, counts_left_at, level_parts, level_shown}

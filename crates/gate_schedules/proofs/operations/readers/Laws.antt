@@ -3,7 +3,8 @@ use Rattle.gate_schedules.proofs.Prelude.{Bool, Config, DownRead, DownReads, Fit
 use Rattle.gate_schedules.proofs.Prelude.{down_read_after, found_at, held_after, held_of, most_events, nat_lt, no_roles, refl, subst, sym}
 use Rattle.gate_schedules.proofs.Prelude.{sync_role_of, true, ℕ, ◌&&◌, ◌+◌, ◌-◌, ◌<◌, ◌∙◌, ◌≡◌, ◌≤◌}
 use Rattle.gate_world.specs.{Operations.is_level_number, declared.{operations.Op.TheVariants.{End, Start}, work.Phase.TheVariants.UpReads}}
-use Rattle.{gate_world.specs.refusals.Causes.asks_level, percpu_rwsem.specs.declared.readers.UpRead.UpRead}
+use Rattle.gate_world.specs.refusals.Causes.{asks_level}
+use Rattle.percpu_rwsem.specs.declared.readers.UpRead.{UpRead}
 use Rattle.gate_schedules.proofs.frames.{Frames.{count_none, sync_none}, OperationLaws.{IsSmall, OpLaws, PhaseLaws, by_bool}}
 use Rattle.gate_schedules.proofs.{frames.Snapshots.completes_none, operations.readers.Causes.{asks_next, next_cause, read_not_closed, read_own}}
 use Rattle.gate_schedules.proofs.operations.readers.{Causes.read_stays, EndEvents.end_keeps, Events.read_keeps, Fits.{none_from_agree, read_acts}}

@@ -4,10 +4,11 @@ use Rattle.gate_schedules.proofs.Prelude.{SyncLevelHolds, SyncStep, Touch, View,
 use Rattle.gate_schedules.proofs.Prelude.{down_read_next, eqb_tells, false, found_by, inl, inr, inside, left_by, level_in, map_next, phase_after}
 use Rattle.gate_schedules.proofs.Prelude.{read, refl, subst, sym, sync_role_if, sync_role_of, true, update, view_after, ℕ, ◌-◌, ◌<◌, ◌==◌, ◌∙◌, ◌≡◌}
 use Rattle.gate_schedules.proofs.Prelude.{◌≤◌}
-use Rattle.freeze_laws.{proofs.levels.ReadOperations.down_reads_are_there, specs.levels.Operations.{HoldsOfNext, by_next, down_read_inside}}
-use Rattle.{freeze_laws.specs.levels.{Operations.down_read_role, Roles.{Out as IsApart, fast}}, percpu_rwsem.specs.Readers.at_down_read}
-use Rattle.percpu_rwsem.specs.{Readers.left_blocked, declared.readers.DownReadStep.TheVariants.{CountsDown, CountsUpFast, CountsUpSlow}}
-use Rattle.percpu_rwsem.specs.declared.readers.DownReadStep.TheVariants.{EntersSection, LeavesAdmitted, LeavesBlocked, LoadsBlock, LoadsSync}
+use Rattle.freeze_laws.proofs.levels.ReadOperations.{down_reads_are_there}
+use Rattle.freeze_laws.specs.levels.{Operations.{HoldsOfNext, by_next, down_read_inside, down_read_role}, Roles.{Out as IsApart, fast}}
+use Rattle.percpu_rwsem.specs.Readers.{at_down_read, left_blocked}
+use Rattle.percpu_rwsem.specs.declared.readers.DownReadStep.TheVariants.{CountsDown, CountsUpFast, CountsUpSlow, EntersSection, LeavesAdmitted}
+use Rattle.percpu_rwsem.specs.declared.readers.DownReadStep.TheVariants.{LeavesBlocked, LoadsBlock, LoadsSync}
 use Rattle.gate_schedules.proofs.levels.Worlds.{IsEventAt, IsOfLevel, found_level, level_there, sections_turned, sync_elsewhere, sync_off, sync_on}
 use Rattle.gate_schedules.proofs.levels.Worlds.{sync_turned, turned_words}
 

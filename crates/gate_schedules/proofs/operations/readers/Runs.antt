@@ -6,7 +6,8 @@ use Rattle.gate_schedules.proofs.Prelude.{phase_after, put, read, refl, subst, s
 use Rattle.gate_schedules.proofs.Prelude.{wrap_add, ℕ, ◌-◌, ◌<◌, ◌==◌, ◌∙◌, ◌≡◌, ◌≤◌}
 use Rattle.cpu_words.specs.declared.names.WordName.TheVariants.{Section}
 use Rattle.freeze_laws.specs.levels.{Events.TurnsSection, Operations.{down_read_inside, down_read_role}, Roles.{Out as IsApart, fast}}
-use Rattle.{gate_world.specs.declared.work.Phase.TheVariants.{Callbacks, UpReads}, percpu_rwsem.specs.{Callbacks.callback_next, Readers.at_down_read}}
+use Rattle.gate_world.specs.declared.work.Phase.TheVariants.{Callbacks, UpReads}
+use Rattle.percpu_rwsem.specs.{Callbacks.callback_next, Readers.at_down_read}
 use Rattle.percpu_rwsem.specs.declared.readers.DownReadStep.TheVariants.{CountsDown, CountsUpFast, CountsUpSlow, EntersSection, LeavesAdmitted}
 use Rattle.percpu_rwsem.specs.declared.readers.{DownReadStep.TheVariants.{LeavesBlocked, LoadsBlock, LoadsSync}, UpRead.UpRead}
 use Rattle.gate_schedules.proofs.levels.{Steps.{level_kept, level_moved, level_stays}, Worlds.{IsEventAt, IsOfLevel, sync_off}}

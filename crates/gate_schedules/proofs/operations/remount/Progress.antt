@@ -4,8 +4,9 @@ use Rattle.gate_schedules.proofs.Prelude.{PhaseFits, RankDecreases, Remount, Rem
 use Rattle.gate_schedules.proofs.Prelude.{false, found_at, found_by, give_up, has_flag, has_mount, held_of, inl, inr, leave_holds, let_go, ltb-true}
 use Rattle.gate_schedules.proofs.Prelude.{nat_lt, not, past_mount, rank, read, subst, suc, sym, total, total_bound, total_updated, true, update}
 use Rattle.gate_schedules.proofs.Prelude.{update_at, update_off, words_after, ℕ, ◌%◌, ◌+◌, ◌-◌, ◌<◌, ◌==◌, ◌∙◌, ◌≡◌, ◌≤◌}
-use Rattle.{finite_sums.proofs.Totals.total_same, mount_counts.proofs.laws.Sets.{leaves_here, leaves_there, lowest_held}}
-use Rattle.mount_counts.specs.{Remounts.{remount_after, remount_from, remount_next}, Sets.{lowest, with_mount, without_lowest}}
+use Rattle.finite_sums.proofs.Totals.{total_same}
+use Rattle.mount_counts.{proofs.laws.Sets.{leaves_here, leaves_there, lowest_held}, specs.Remounts.{remount_after, remount_from, remount_next}}
+use Rattle.mount_counts.specs.Sets.{lowest, with_mount, without_lowest}
 use Rattle.percpu_rwsem.specs.SyncWords.{bit}
 use Rattle.gate_schedules.{proofs.operations.deadlocks.RankDecreases.falls_as, specs.operations.Ranks.{held_size, loop_rank, mount_bit, remount_rank}}
 use Rattle.gate_schedules.specs.operations.Unblocked.{RemountIsUnblocked}

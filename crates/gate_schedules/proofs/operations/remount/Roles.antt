@@ -1,8 +1,9 @@
 -- The roles of a remount at each mount.
 use Rattle.gate_schedules.proofs.Prelude.{Bool, MountSet, RemountStep, Sum, arith, false, give_up, has_mount, if◌then◌else◌, leave_holds, let_go}
 use Rattle.gate_schedules.proofs.Prelude.{nat_lt, past_mount, refl, true, ℕ, ◌+◌, ◌<◌, ◌==◌, ◌≡◌}
-use Rattle.{gate_world.specs.Remounts.{giving_role, held_role, loop_role, remount_role, summing_role}, mount_counts.proofs.laws.MountLaws.SeeksNone}
-use Rattle.{mount_counts.specs.{Remounts.past_node, Roles.{Out, Role, Summing}}, std.proofs.{Common.{eq-eqb, ne_eqb}, lemmas.Bool.Decides.nat_tests}}
+use Rattle.std.proofs.{Common.{eq-eqb, ne_eqb}, lemmas.Bool.Decides.nat_tests}
+use Rattle.gate_world.specs.Remounts.{giving_role, held_role, loop_role, remount_role, summing_role}
+use Rattle.mount_counts.{proofs.laws.MountLaws.SeeksNone, specs.{Remounts.past_node, Roles.{Out, Role, Summing}}}
 use Rattle.gate_schedules.proofs.frames.OperationLaws.{by_bool}
 use mathlib.Core.Bool.{true}
 

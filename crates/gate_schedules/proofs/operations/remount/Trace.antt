@@ -3,9 +3,10 @@ use Rattle.gate_schedules.proofs.Prelude.{Action, Bool, Config, Err, GateError, 
 use Rattle.gate_schedules.proofs.Prelude.{Reply, Result, Sum, Touch, Traced, WordName, [], actions_of, add-one, arith, cases_Bool, eq-eqb, eqb_tells}
 use Rattle.gate_schedules.proofs.Prelude.{event_of, false, give_up, if◌then◌else◌, inl, inr, leave_holds, let_go, ltb-false, ltb-true, nat_lt, ne_eqb}
 use Rattle.gate_schedules.proofs.Prelude.{past_mount, refl, subst, suc, sym, true, with_hook, wrap_add, ℕ, ◌+◌, ◌<◌, ◌==◌, ◌∙◌, ◌∷◌, ◌≡◌, ◌≤◌}
-use Rattle.gate_world.specs.traces.Found.{IsEachCount, cleans, counts_loaded, each_event, finds_taken, found_sealed, sum_loaded}
-use Rattle.{gate_world.specs.traces.Traces.IsHonestAnswer, mount_counts.specs.Sets.{with_mount, without_lowest}}
 use Rattle.std.proofs.{Common.◌++◌, lemmas.List.Sums.sum_by-cons}
+use Rattle.gate_world.specs.traces.Found.{IsEachCount, cleans, counts_loaded, each_event, finds_taken, found_sealed, sum_loaded}
+use Rattle.gate_world.specs.traces.Traces.{IsHonestAnswer}
+use Rattle.mount_counts.specs.Sets.{with_mount, without_lowest}
 use Rattle.gate_schedules.proofs.{frames.OperationLaws.by_bool, traces.Cleans.{LeaveAccesses, cleans_leave}}
 use Rattle.gate_schedules.proofs.traces.TraceInvariant.{InvariantAfterStep, IsInductive, event_at}
 

@@ -7,7 +7,8 @@ use Rattle.gate_schedules.proofs.Prelude.{held_of, if◌then◌else◌, inl, inr
 use Rattle.gate_schedules.proofs.Prelude.{refl, remounts, role_after, snapshot_next, stage_role_of, stage_roles, subst, suc, sym, tree_bounds}
 use Rattle.gate_schedules.proofs.Prelude.{tree_role_of, true, update, values_noted, view_with, ℕ, ◌<◌, ◌==◌, ◌∙◌, ◌≡◌}
 use Rattle.freeze_laws.specs.stages.Events.{Locks as LocksStage, Recalls, Releases as ReleasesStage, Stages as StageMoment}
-use Rattle.{freeze_laws.specs.stages.Roles.{Aside, clean_by, owns as stage_owns}, gate_world.specs.Roles.{snapshot_stage_role, stage_at_end}}
+use Rattle.freeze_laws.specs.stages.Roles.{Aside, clean_by, owns as stage_owns}
+use Rattle.gate_world.specs.Roles.{snapshot_stage_role, stage_at_end}
 use Rattle.gated_tree.specs.{Calls.phase_role, Phases.{at_snapshot, kids_step, snapshot_after, snapshot_locked_out}}
 use Rattle.gate_schedules.proofs.frames.{ByPhase.snapshot_owner, Frames.left_alone, Known.{IsOwnersWork, known_after}, OperationLaws.by_bool}
 use Rattle.gate_schedules.proofs.frames.{Owners.{locks_umount, releases_umount}, Snapshots.noted_part, Stages.{alike_same, nobody_owns, owners_alike}}

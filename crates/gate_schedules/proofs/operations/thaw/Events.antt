@@ -12,12 +12,14 @@ use Rattle.gate_schedules.proofs.Prelude.{◌≤◌}
 use Rattle.access_model.specs.{Holders.{is_unheld, nobody, with_holder}, declared.actions.Holders.Holders}
 use Rattle.freeze_laws.specs.stages.Events.{ClearsBlock as ClearsBlockOf, LeavesOne, Locks as LocksStage, Recalls, Releases as ReleasesStage, Stays}
 use Rattle.freeze_laws.specs.stages.Events.{Thaws as StoresThaw, ThawsAtOnce, action_of as stage_action_of}
-use Rattle.{freeze_laws.specs.stages.Roles.{Reopening, clean_by, is_full, owns as stage_owns}, freeze_levels.proofs.holder_laws.HolderLaws.roles_tell}
-use Rattle.freeze_levels.{proofs.holder_laws.Words.{holds_alone, holds_own, leaves_none, unpack_pack}, specs.{Holders.word_of, Levels.reopening}}
-use Rattle.freeze_levels.specs.{Thaws.{after_opening, at_thaw}, holder_laws.Events.{Finds, Leaves as LeavesOthers, LeavesLast as LeavesNobody}}
-use Rattle.freeze_levels.specs.holder_laws.{Events.{LetsGo as LetsHoldersGo, Thaws as ThawsHolders}, Roles.{Empties, Found, between, minds}}
+use Rattle.freeze_laws.specs.stages.Roles.{Reopening, clean_by, is_full, owns as stage_owns}
+use Rattle.freeze_levels.{proofs.holder_laws.{HolderLaws.roles_tell, Words.{holds_alone, holds_own, leaves_none, unpack_pack}}, specs.Holders.word_of}
+use Rattle.freeze_levels.specs.{Levels.reopening, Thaws.{after_opening, at_thaw}, holder_laws.Events.{Finds, Leaves as LeavesOthers}}
+use Rattle.freeze_levels.specs.holder_laws.Events.{LeavesLast as LeavesNobody, LetsGo as LetsHoldersGo, Thaws as ThawsHolders}
+use Rattle.freeze_levels.specs.holder_laws.Roles.{Empties, Found, between, minds}
 use Rattle.gate_world.specs.{Fits.ThawFits, Levels.{level_added_after, level_taken_after}, Roles.{thaw_holder_role, thaw_owns, thaw_position}}
-use Rattle.{gate_world.specs.{Roles.thaw_stage_role, Rules.holder_roles, Views.{added_after, taken_after}}, gated_tree.specs.Roles.Out as OffTree}
+use Rattle.gate_world.specs.{Roles.thaw_stage_role, Rules.holder_roles, Views.{added_after, taken_after}}
+use Rattle.gated_tree.specs.Roles.{Out as OffTree}
 use Rattle.gate_schedules.proofs.frames.{ByPhase.thaw_owner, Frames.{added_load, taken_load}, Holders.{holders_after, holders_at, holders_stay}}
 use Rattle.gate_schedules.proofs.frames.{Holders.nobody_minds, Stages.{IsStageEvent, nobody_owns, owners_alike, stages_in}}
 use Rattle.gate_schedules.proofs.levels.{FreezeCompletes.thaws_all, LevelPositions.{HasPosition, LevelsHold, left_world, position_after_opening}}

@@ -4,10 +4,11 @@ use Rattle.gate_schedules.proofs.Prelude.{Option, Owner, Phase, Some, Stages, Wo
 use Rattle.gate_schedules.proofs.Prelude.{freeze_stage_role, held_at, held_of, holds_level, inl, inr, is_frozen_whole, level_role_of, ltb-true}
 use Rattle.gate_schedules.proofs.Prelude.{nat_lt, refl, ro_bit, stage_role_of, stage_roles, suc, sym, total, total_at, true, true≢false, zero, ℕ, ◌-◌}
 use Rattle.gate_schedules.proofs.Prelude.{◌<◌, ◌==◌, ◌≡◌, ◌≤◌, ◌⊎◌}
+use Rattle.std.proofs.lemmas.Bool.{and_parts}
 use Rattle.cpu_words.{proofs.gate_counts.LevelLaws.{none_frozen, none_passed}, specs.gate_counts.{Gates.past, Levels.Passed}}
 use Rattle.freeze_laws.{proofs.stages.CitedLaws.freeze_is_under_way, specs.stages.Roles.{Place, passed_at, passed_by}}
 use Rattle.gate_world.specs.{Operations.{is_writer, some_mount}, Roles.{count_beside, freeze_position, place_of, position_count}}
-use Rattle.{mount_counts.specs.Roles.mount_as_gate, std.proofs.lemmas.Bool.and_parts}
+use Rattle.mount_counts.specs.Roles.{mount_as_gate}
 use Rattle.gate_schedules.proofs.frames.Stages.{stages_in, stages_right}
 
 pub mount_there : (n : ℕ) (held : ℕ → ℕ) → some_mount n held ≡ true → (m : ℕ) × (m < n) × (0 < held m)

@@ -9,9 +9,10 @@ use Rattle.gate_schedules.proofs.Prelude.{map_next, mark_after, model_limits, ne
 use Rattle.gate_schedules.proofs.Prelude.{ro_bit, role_after, roles_of, shown, subst, sym, taken_by, tree_bounds, tree_role_of, tree_roles, true}
 use Rattle.gate_schedules.proofs.Prelude.{true≢false, update, update_map, update_same, value_at, values_noted, view_after, words_after, ℕ, ◌<◌, ◌==◌}
 use Rattle.gate_schedules.proofs.Prelude.{◌||◌, ◌∙◌, ◌≡◌, ◌⊎◌}
-use Rattle.{freeze_laws.specs.stages.Roles.Aside, gate_world.specs.{Fits.TreeAccess, Levels.{level_added_after, level_taken_after}}}
-use Rattle.gate_world.specs.{Roles.nodes_noted, Rules.{Moves as ModelMoves, SameView}, Trees.is_sealed, Views.{added_after, taken_after}}
-use Rattle.{gate_world.specs.traces.Found.is_load, gated_tree.specs.{Calls.{NextFits, TreePhaseFits, phase_role}, Phases.{after, next}}}
+use Rattle.freeze_laws.specs.stages.Roles.{Aside}
+use Rattle.gate_world.specs.{Fits.TreeAccess, Levels.{level_added_after, level_taken_after}, Roles.nodes_noted, Rules.{Moves as ModelMoves, SameView}}
+use Rattle.gate_world.specs.{Trees.is_sealed, Views.{added_after, taken_after}, traces.Found.is_load}
+use Rattle.gated_tree.specs.{Calls.{NextFits, TreePhaseFits, phase_role}, Phases.{after, next}}
 use Rattle.gate_schedules.proofs.frames.{Accesses.holdings_of_after, Agreeing.access_agrees, Frames.{left_alone, level_view_as, shown_as, view_as}}
 use Rattle.gate_schedules.proofs.{frames.Openers.most_tasks_is, trees.{Allowed.{may_do, tree_alone}, Fitting.fits_after, Phases.each_phase}}
 use Rattle.gate_schedules.proofs.trees.worlds.{MayTree.{LeaveFor, call_fits, leave, may_step}, OpenFiles.{file_then, files_counted, same_counts}}

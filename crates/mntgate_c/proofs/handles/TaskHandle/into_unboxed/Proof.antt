@@ -1,6 +1,6 @@
 -- `into_unboxed` makes a unboxed box box of the pointer again.
-use Rattle.{core.proofs.alloc.Calls.handle_tells, std.proofs.{Common.{List, [], refl, subst, sym, ◌++◌, ◌∷◌, ◌≡◌}, raw_atomic.Walks.leaves}}
-use Rattle.{std.proofs.raw_atomic.Walks.proved_at, std_alloc.specs.Box.Ownership.box_owns, std_heap.specs.contracts.GlobalAllocator.TheImpl.ghosts}
+use Rattle.std.proofs.{Common.{List, [], refl, subst, sym, ◌++◌, ◌∷◌, ◌≡◌}, raw_atomic.Walks.{leaves, proved_at}}
+use Rattle.{core.proofs.alloc.Calls.handle_tells, std_alloc.specs.Box.Ownership.box_owns, std_heap.specs.contracts.GlobalAllocator.TheImpl.ghosts}
 use Rattle.mntgate_c.proofs.{HandleSteps.{H', handle_out, word}, Unboxing.{heap_of, pair, pair_fits, put_together}}
 use Rattle.mntgate_c.{proofs.handles.TaskHandle.into_unboxed.Statement.statement, specs.Handles.{heap, holds}}
 use Rattle.mntgate_c.specs.contracts.handles.TaskHandle.into_unboxed.{Key.name as #self, clauses, ended}

@@ -1,8 +1,8 @@
 -- The core is a twin of the gates that were set up.
+use Rattle.std.proofs.{Common.{IfErr, None, ap, inl, inr, refl, subst, sym, ℕ, ◌<◌, ◌∙◌, ◌≡◌, ◌⊎◌}, lemmas.Result.IfOk-weaker}
 use Rattle.{access_model.specs.declared.errors.GateError.TheVariants.NoMemory, exploration.proofs.Lists.err_from}
 use Rattle.{gate_core.specs.{Drivers.CoreShows, Memory.Memory, Moves.phase_in}, gate_world.specs.declared.config.Config.Config}
-use Rattle.{schedule_lines.specs.declared.faults.Fault.TheVariants.Refused, std.proofs.Common.{IfErr, None, ap, inl, inr, refl, subst, sym, ℕ, ◌<◌}}
-use Rattle.{std.proofs.{Common.{◌∙◌, ◌≡◌, ◌⊎◌}, lemmas.Result.IfOk-weaker}, transcripts.{proofs.Opening.answer_mapped, specs.Transcript.ReplayState}}
+use Rattle.{schedule_lines.specs.declared.faults.Fault.TheVariants.Refused, transcripts.{proofs.Opening.answer_mapped, specs.Transcript.ReplayState}}
 use Rattle.race_files.{proofs.{FirstFaults.{any_fault, fault_mapped}, Idle.{idle_recent, phase_there}}, specs.FirstFaults.FailsFromRace}
 use Rattle.race_files.specs.{FirstFaults.{FailsFromRace.{InCalls, NotIdle}, FailsInCalls, IsMemory}, Left.{Left, behind}, Races.AllAreIdle}
 use Rattle.race_files.specs.declared.faults.RaceFault.{RaceFault, TheVariants.Schedule}

@@ -1,6 +1,7 @@
 -- the operation begins after all that either had seen
-use Rattle.{std.proofs.Common.{List, ap, subst, sym, ◌∙◌}, vfs_gates.proofs.several_tasks.{Beside.met_stays, GoingOn.begins_still}}
-use Rattle.vfs_gates.specs.{Grown.StaySeen, Meetings.Entry, Op.Op, Rounds.SeatedTask, Runs.OpUnderWay}
+use Rattle.std.proofs.Common.{List, ap, subst, sym, ◌∙◌}
+use Rattle.vfs_gates.{proofs.several_tasks.{Beside.met_stays, GoingOn.begins_still}, specs.{Grown.StaySeen, Meetings.Entry, Op.Op, Rounds.SeatedTask}}
+use Rattle.vfs_gates.specs.Runs.{OpUnderWay}
 use Rattle.test_gates.proofs.tests.meetings.begin_before_a_meeting.Goals as goal
 
 pub returns : goal.returns

@@ -1,6 +1,7 @@
 -- the operation goes on across the meeting
-use Rattle.{std.proofs.Common.{List, ap, sym, ◌∙◌}, vfs_gates.proofs.{AtOnce.goes_by, several_tasks.{Beside.met_stays, GoingOn.goes_on_still}}}
-use Rattle.vfs_gates.specs.{Grown.StaySeen, Meetings.Entry, Op.Op, Rounds.SeatedTask, Runs.OpUnderWay}
+use Rattle.std.proofs.Common.{List, ap, sym, ◌∙◌}
+use Rattle.vfs_gates.{proofs.{AtOnce.goes_by, several_tasks.{Beside.met_stays, GoingOn.goes_on_still}}, specs.{Grown.StaySeen, Meetings.Entry, Op.Op}}
+use Rattle.vfs_gates.specs.{Rounds.SeatedTask, Runs.OpUnderWay}
 use Rattle.test_gates.proofs.tests.meetings.step_across_a_meeting.Goals as goal
 
 pub returns : goal.returns

@@ -1,7 +1,8 @@
 -- a call that does its steps until it replies: its beginning, the steps, and what the task shows then
 use Rattle.vfs_gates.proofs.Prelude.{Done, None, SeatedTask, [], ap, own_number, refl, sym, task_state, the_reply, ◌∙◌}
+use Rattle.std.proofs.Common.{add-zero}
 use Rattle.gate_steps.{proofs.call_events.{Asking.{was_done_asking, was_refused_asking}, Running.told_whole}, specs.call_events.Asking.CalledAsking}
-use Rattle.{gate_steps.specs.call_events.Waited.{counted, waits_in}, std.proofs.Common.add-zero}
+use Rattle.gate_steps.specs.call_events.Waited.{counted, waits_in}
 use Rattle.vfs_gates.proofs.{Admitting.refused_by, Calling.{Call, Left, call_with, ended_asking, ghost_agrees_done, has_asked_none, is_agrees}}
 use Rattle.vfs_gates.proofs.{Rooming.room_done, Waiting.left_tells, task.Task.perform_waiting.Goals.After-wait_for_reply-answer}
 use Rattle.vfs_gates.proofs.task.Task.perform_waiting.Goals as goal
