@@ -1,5 +1,6 @@
 -- The state of the access model.
-use Rattle.{finite_sums.specs.Sums.{total, update}, std.specs.Prelude.{Bool, None, Option, Some, false, true, ℕ, ◌<◌, ◌≡◌, ◌≤◌}}
+use Rattle.std.specs.Prelude.{Bool, None, Option, Some, false, true, ℕ, ◌<◌, ◌≡◌, ◌≤◌}
+use Rattle.finite_sums.specs.Sums.{total, update}
 use Rattle.access_model.specs.{Holders.nobody, declared.actions.{Gate.{Gate, TheVariants.{Level, Mount}}, Holders.Holders}}
 use Rattle.access_model.specs.declared.actions.{Kind.TheVariants.{Dir, File}, NodeInfo.NodeInfo}
 

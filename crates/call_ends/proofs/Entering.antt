@@ -1,6 +1,7 @@
 -- The first two steps of a taking of write access, whose words are known.
 use Rattle.call_ends.proofs.Prelude.{Accesses, Go, Led, Next, None, Ok, Op, Phase, Writes, after_of, ap, led_on, led_to, subst, sym, ℕ, ◌∙◌, ◌≡◌}
-use Rattle.{composite_ops.specs.declared.write_access.phases.WritePhase.WritePhase, std.proofs.Common.Option}
+use Rattle.std.proofs.Common.{Option}
+use Rattle.composite_ops.specs.declared.write_access.phases.WritePhase.{WritePhase}
 use Rattle.gate_steps.specs.{call_events.Led.TaskSeat, declared.call_events.words.GateWords.GateWords}
 use Rattle.percpu_rwsem.specs.declared.readers.DownReadStep.TheVariants.{CountsUpFast, EntersSection, LoadsSync}
 use Rattle.call_ends.specs.Paths.{taking_at}

@@ -1,7 +1,7 @@
 -- What comes after each step of the reopening of the levels.
 use Rattle.call_ends.proofs.Prelude.{Accesses, Bool, Go, Loads, Ok, Some, after_of, ap, arith, false, refl, sym, true, ℕ, ◌∙◌, ◌≡◌}
-use Rattle.{access_model.specs.{Holders.{held_by, is_unheld, with_holder}, declared.actions.Holders.Holders}, std.proofs.Common.◌==◌}
-use Rattle.cpu_words.specs.Hooks.{HookAnswer}
+use Rattle.std.proofs.Common.{◌==◌}
+use Rattle.{access_model.specs.{Holders.{held_by, is_unheld, with_holder}, declared.actions.Holders.Holders}, cpu_words.specs.Hooks.HookAnswer}
 use Rattle.freeze_levels.specs.{Holders.holders_in, Thaws.thaw_finds, declared.thaws.{Thaw.Thaw, ThawStep.ThawStep}}
 use Rattle.freeze_levels.specs.declared.thaws.ThawStep.TheVariants.{LeavesLast, LoadsHolders, LoadsStage, LoadsSuperblock, Locks}
 use Rattle.gate_world.specs.{Accesses.accesses_after, declared.work.Phase.TheVariants.Thaws}

@@ -1,5 +1,6 @@
 -- Where the reopening of the levels by a thaw stands after each part of it.
-use Rattle.{access_model.specs.{Replies.map_next, declared.replies.Next.Next}, std.specs.Prelude.{Bool, false, true, ℕ, ◌-◌}}
+use Rattle.std.specs.Prelude.{Bool, false, true, ℕ, ◌-◌}
+use Rattle.access_model.specs.{Replies.map_next, declared.replies.Next.Next}
 use Rattle.freeze_levels.specs.{Thaws.{at_thaw, thaw_opens}, declared.thaws.{Thaw.Thaw, ThawStep.{ThawStep, TheVariants.Reopens}}}
 use Rattle.gate_world.specs.declared.work.Phase.{Phase, TheVariants.Thaws}
 use Rattle.percpu_rwsem.specs.declared.{transitions.Transition.TheVariants.Loads, writers.UpWriteStep.{TheVariants.Exits, UpWriteStep}}

@@ -1,5 +1,6 @@
 -- Sums over the words of a gate, read one after the other.
-use Rattle.{finite_sums.specs.Sums.total, std.specs.Prelude.{List, if◌then◌else◌, length, nat_le, nat_lt, sum, ℕ, ◌%◌, ◌+◌}}
+use Rattle.std.specs.Prelude.{List, if◌then◌else◌, length, nat_le, nat_lt, sum, ℕ, ◌%◌, ◌+◌}
+use Rattle.finite_sums.specs.Sums.{total}
 use Rattle.cpu_words.specs.{Touches.wrap_add, declared.sums.{Sum.Sum, Taken.{Taken, TheVariants.{More, Total}}}}
 
 -- what a sum is after one word more, of so many processors

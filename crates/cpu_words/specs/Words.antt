@@ -1,5 +1,6 @@
 -- All words at one moment.
-use Rattle.{finite_sums.specs.Sums.update, std.specs.Prelude.ℕ}
+use Rattle.std.specs.Prelude.{ℕ}
+use Rattle.finite_sums.specs.Sums.{update}
 use Rattle.cpu_words.specs.declared.names.WordName.TheVariants.{Block, Holders, Kids, LevelCount, MountCount, MountFlags, Node, Remount, Removed}
 use Rattle.cpu_words.specs.declared.names.WordName.{TheVariants.{SbFlags, Section, Stage, Sync, Umount, Used}, WordName}
 

@@ -1,5 +1,6 @@
 -- What a backup with a deadline has done.
-use Rattle.{access_model.specs.declared.actions.Holder.TheVariants.User, std.specs.Prelude.{Ok, true, ℕ}}
+use Rattle.std.specs.Prelude.{Ok, true, ℕ}
+use Rattle.access_model.specs.declared.actions.Holder.TheVariants.{User}
 use Rattle.vfs_gates.specs.Op.TheVariants.{Freeze as FreezeOp, Snapshot as SnapshotOp, Thaw as ThawOp}
 use Rattle.vfs_gates.specs.Rounds.{BothDone, Performs, Rounds, SeatedTask}
 

@@ -1,5 +1,6 @@
 -- What word tells, and what a copy has that is made when word came.
-use Rattle.{access_model.specs.Histories.own_part, std.specs.Prelude.{IfOk, IfSome, List, Ok, Option, Result, Some, [], true, ℕ, ◌+◌, ◌∷◌, ◌≡◌, ◌≤◌}}
+use Rattle.std.specs.Prelude.{IfOk, IfSome, List, Ok, Option, Result, Some, [], true, ℕ, ◌+◌, ◌∷◌, ◌≡◌, ◌≤◌}
+use Rattle.access_model.specs.Histories.{own_part}
 use Rattle.gate_world.specs.{Headline.{actions_so_far, world_after}, Moments.IsPresentTree, declared.entries.Entry.Entry}
 use Rattle.gate_world.specs.declared.{operations.Op.TheVariants.Snapshot as SnapshotOp, views.Snapshot.Snapshot}
 use Rattle.gated_tree.specs.declared.trees.TreeWords.{TreeWords}

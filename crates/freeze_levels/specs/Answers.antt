@@ -1,5 +1,6 @@
 -- Where a step reads no hook's answer, it is the same for any two answers, and so is what comes after it.
-use Rattle.{cpu_words.specs.Hooks.HookAnswer, std.specs.Prelude.{None, ℕ, ◌≡◌}}
+use Rattle.std.specs.Prelude.{None, ℕ, ◌≡◌}
+use Rattle.cpu_words.specs.Hooks.{HookAnswer}
 use Rattle.freeze_levels.specs.{Freezes.{freeze_after, freeze_hook, freeze_next}, Thaws.{thaw_after, thaw_hook, thaw_next}}
 use Rattle.freeze_levels.specs.declared.{freezes.Freeze.Freeze, thaws.Thaw.Thaw}
 

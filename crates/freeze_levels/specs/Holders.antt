@@ -1,5 +1,6 @@
 -- The word of those who hold a freeze: the kernel 1, user space 2.
-use Rattle.{access_model.specs.declared.actions.Holders.Holders, std.specs.Prelude.{if◌then◌else◌, ℕ, ◌%◌, ◌+◌, ◌/◌, ◌==◌}}
+use Rattle.std.specs.Prelude.{if◌then◌else◌, ℕ, ◌%◌, ◌+◌, ◌/◌, ◌==◌}
+use Rattle.access_model.specs.declared.actions.Holders.{Holders}
 
 -- the word of these holders
 abbrev pub word_of : Holders → ℕ

@@ -1,5 +1,6 @@
 -- The order of steps of a freeze or a thaw.
-use Rattle.{access_model.specs.{Replies.map_next, declared.{actions.Action.Action, replies.Next.Next}}, std.specs.Prelude.{Option, ℕ}}
+use Rattle.std.specs.Prelude.{Option, ℕ}
+use Rattle.access_model.specs.{Replies.map_next, declared.{actions.Action.Action, replies.Next.Next}}
 use Rattle.cpu_words.specs.{Hooks.HookAnswer, declared.{events.Touch.Touch, names.WordName.WordName}}
 use Rattle.freeze_levels.specs.{Freezes.{freeze_after, freeze_hook, freeze_next}, Thaws.{thaw_after, thaw_hook, thaw_next}}
 use Rattle.freeze_levels.specs.declared.{hooks.HookKind.HookKind, phases.FreezePhase.{FreezePhase, TheVariants.{Freeze as Freezes, Thaw as Thaws}}}

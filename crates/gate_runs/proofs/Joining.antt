@@ -2,7 +2,8 @@
 use Rattle.gate_runs.proofs.Prelude.{Action, Config, DealtNumbers, FoundOthers, HaveNotFrozen, List, NeverFreezes, SeatedTask, User, View, [], arith}
 use Rattle.gate_runs.proofs.Prelude.{false, inl, inr, length, own_number, refl, spare_of, subst, suc, sym, zero, ℕ, ◌++◌, ◌+◌, ◌<◌, ◌∙◌, ◌∷◌, ◌≡◌}
 use Rattle.gate_runs.proofs.Prelude.{◌≤◌}
-use Rattle.{access_model.specs.declared.actions.Action.TheVariants.Leave, std.proofs.lemmas.Bool.Decides.eqb_tells}
+use Rattle.std.proofs.lemmas.Bool.Decides.{eqb_tells}
+use Rattle.access_model.specs.declared.actions.Action.TheVariants.{Leave}
 use Rattle.vfs_gates.proofs.{Grown.{both_stay_seen, same_stays_seen, stays_seen_on}, Rounds.{own_number_same, own_times, times-append}}
 use Rattle.vfs_gates.{proofs.several_tasks.{FreezesBeside.not_busy, FrozenUntilThawed.stands}, specs.Ended.{EndedWith, HasAll}}
 use Rattle.vfs_gates.specs.{Frozen.{IsBesideFreezes, NeverThaws}, Grown.StaySeen, Seating.{HaveViews, one_if, times}}

@@ -4,7 +4,8 @@ use Rattle.gate_runs.proofs.Prelude.{GateError, Grow, HaveNotFrozen, IsRefused, 
 use Rattle.gate_runs.proofs.Prelude.{Remounts, Repeats, Reply, Result, SeatedTask, Some, Traced, Waits, WantWrite, WriterRound, Writes, [], adds, ap}
 use Rattle.gate_runs.proofs.Prelude.{false, inl, inr, length, own_actions, own_number, own_view, refl, refusal_at, spare_of, subst, suc, sym, true}
 use Rattle.gate_runs.proofs.Prelude.{zero, ℕ, ◌++◌, ◌+◌, ◌∙◌, ◌∷◌, ◌≡◌, ◌≤◌}
-use Rattle.{access_model.specs.declared.replies.Reply.TheVariants.Node, std.proofs.lemmas.Bool.cases_Bool}
+use Rattle.std.proofs.lemmas.Bool.{cases_Bool}
+use Rattle.access_model.specs.declared.replies.Reply.TheVariants.{Node}
 use Rattle.gate_world.specs.{declared.operations.Op.TheVariants.ChangeMount, traces.{Found.found_read_only, Traces.actions_of}}
 use Rattle.run_plans.specs.declared.counts.Tried.{TheVariants.{Copied, GaveUp as GivenUp}, Tried}
 use Rattle.vfs_gates.{proofs.{Holding.same_own, Rounds.ran_spare, several_tasks.FrozenUntilThawed.some_ran}, specs.Runs.{Replies, ran_items}}

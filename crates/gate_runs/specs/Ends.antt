@@ -1,6 +1,6 @@
 -- How the threads of a run end.
-use Rattle.{access_model.specs.declared.errors.GateError.GateError, std.specs.Prelude.{IfErr, IfOk, Result, ℕ, ◌⊎◌}}
-use Rattle.run_plans.specs.declared.{counts.Details.Details, plans.Plan.Plan}
+use Rattle.std.specs.Prelude.{IfErr, IfOk, Result, ℕ, ◌⊎◌}
+use Rattle.{access_model.specs.declared.errors.GateError.GateError, run_plans.specs.declared.{counts.Details.Details, plans.Plan.Plan}}
 use Rattle.vfs_gates.specs.{Ended.HasAll, TaskStates.{IsFrom, SeatedTask, spare_of}, declared.Gates.Gates}
 use Rattle.gate_runs.specs.{Counts.CountsRounds, Keeping.HaveNotFrozen, Parts.{AllDid, Among}, Refusals.{FoundOthers, WriterRefused}}
 

@@ -1,5 +1,6 @@
 -- What the task of a thread comes home with: the remounter, which has number 1, and each writer.
-use Rattle.{access_model.specs.declared.errors.GateError.GateError, std.specs.Prelude.{IfErr, IfOk, Result, length, ℕ, ◌++◌, ◌+◌, ◌<◌, ◌≡◌, ◌≤◌}}
+use Rattle.std.specs.Prelude.{IfErr, IfOk, Result, length, ℕ, ◌++◌, ◌+◌, ◌<◌, ◌≡◌, ◌≤◌}
+use Rattle.access_model.specs.declared.errors.GateError.{GateError}
 use Rattle.run_plans.specs.{Plans.run_config, declared.{counts.{Remounts.Remounts, Writes.Writes}, plans.Plan.Plan}}
 use Rattle.vfs_gates.specs.{Grown.StaySeen, Held.Rests, Seating.times, Splitting.HasBegun, TaskStates.{IsFrom, SeatedTask, own_number, spare_of}}
 use Rattle.vfs_gates.specs.declared.Gates.{Gates}

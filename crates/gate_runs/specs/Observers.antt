@@ -1,5 +1,6 @@
 -- What a watch without notes says of a call.
-use Rattle.{std.specs.Prelude.ℕ, vfs_gates.specs.TaskStates.{SeatedTask, own_number}}
+use Rattle.std.specs.Prelude.{ℕ}
+use Rattle.vfs_gates.specs.TaskStates.{SeatedTask, own_number}
 
 -- a call of `holding` by a task that stands so is one by its number
 abbrev pub was_held : (ℕ → ℕ → Type 0) → SeatedTask → ℕ → Unit {0} → Unit {0} → Type 0

@@ -1,5 +1,6 @@
 -- What each task of a run has done, from where it began, and how it stands at the end.
-use Rattle.{gate_world.specs.declared.views.View.View, std.specs.Prelude.{List, Option, [], length, suc, ℕ, ◌+◌, ◌-◌, ◌∷◌, ◌≡◌, ◌⊎◌}}
+use Rattle.std.specs.Prelude.{List, Option, [], length, suc, ℕ, ◌+◌, ◌-◌, ◌∷◌, ◌≡◌, ◌⊎◌}
+use Rattle.gate_world.specs.declared.views.View.{View}
 use Rattle.run_plans.specs.declared.counts.{Copies.Copies, Details.Details, Remounts.Remounts, Writes.Writes}
 use Rattle.vfs_gates.specs.{Seating.{DealtNumbers, numbered}, Splitting.HasBegun, TaskStates.{SeatedTask, own_number, own_view}}
 use Rattle.gate_runs.specs.{Counts.{all_writes, no_copies, no_remounts, no_writes, remounts_of}, Observers.{was_frozen, was_held}}

@@ -1,5 +1,6 @@
 -- What reports itself frozen.
-use Rattle.{gate_world.specs.{Shown.shown, Worlds.World, declared.config.Config.Config}, std.specs.Prelude.{false, true, ℕ, ◌<◌, ◌≡◌, ◌≤◌, ◌⊎◌}}
+use Rattle.std.specs.Prelude.{false, true, ℕ, ◌<◌, ◌≡◌, ◌≤◌, ◌⊎◌}
+use Rattle.gate_world.specs.{Shown.shown, Worlds.World, declared.config.Config.Config}
 
 -- What reports itself frozen has no writer inside: at stage 4 all three levels are passed, so no task is inside one; or the superblock is read-only,
 -- so no task holds an access at a mount.

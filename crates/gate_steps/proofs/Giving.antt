@@ -2,9 +2,9 @@
 use Rattle.gate_steps.proofs.Prelude.{Config, Dealt, DealtNumbers, Entry, HaveSeen, HaveViews, Knowledge, List, Numbered, Option, Phase, Traced, View}
 use Rattle.gate_steps.proofs.Prelude.{World, [], ap, arith, at_map, at_set, dite, get_elem?, inl, inr, items_of, knows, map, numbered, refl, set}
 use Rattle.gate_steps.proofs.Prelude.{some, some-injective, some-ne-none, subst, suc, sym, times, zero, ℕ, ⊎_elim, ◌++◌, ◌+◌, ◌<◌, ◌∙◌, ◌∷◌, ◌≡◌, ◌≤◌}
-use Rattle.{access_model.specs.Histories.own_part, std.proofs.{Common.{cond, eq-eqb, eqb, ne_eqb, ◌≢◌, ◌⊎◌}, lemmas.List.{map-append, map-set}}}
-use Rattle.{atomic_table.{proofs.Lists.{at_longer, at_snoc, set_else}, specs.Table.{Joins, Splits}}, cpu_words.specs.Words.Words}
-use Rattle.finite_sums.{proofs.Totals.{each_updated, update_at, update_off}, specs.Sums.update}
+use Rattle.std.proofs.{Common.{cond, eq-eqb, eqb, ne_eqb, ◌≢◌, ◌⊎◌}, lemmas.List.{map-append, map-set}}
+use Rattle.{access_model.specs.Histories.own_part, atomic_table.{proofs.Lists.{at_longer, at_snoc, set_else}, specs.Table.{Joins, Splits}}}
+use Rattle.{cpu_words.specs.Words.Words, finite_sums.{proofs.Totals.{each_updated, update_at, update_off}, specs.Sums.update}}
 use Rattle.gate_schedules.proofs.frames.Frames.{left_alone, shown_still}
 use Rattle.gate_world.specs.{Moments.HasMoment, Owners.KnowsWords, Rules.{AtLevel, AtMount, Files, Fitting, Holding, Holds, IsGood, Known, Owner}}
 use Rattle.gate_world.specs.{Rules.{Part, Sections, Stages, SyncAt, Tree, owns}, Trees.tree_role_of}

@@ -2,7 +2,8 @@
 use Rattle.gate_steps.proofs.Prelude.{Config, DealtNumbers, HaveSeen, HaveViews, IsWithin, Knowledge, List, Numbered, TableInvariantHolds, [], ap}
 use Rattle.gate_steps.proofs.Prelude.{arith, dite, get_elem?, knows, numbered, opening, refl, some, some-injective, some-ne-none, subst, suc, sym}
 use Rattle.gate_steps.proofs.Prelude.{table_index, table_length, times, zero, ℕ, ◌+◌, ◌<◌, ◌∙◌, ◌∷◌, ◌≡◌, ◌≤◌}
-use Rattle.{cpu_words.{proofs.Places.opening_listed, specs.{Lists.AreOpening, Words.opening_words}}, std.proofs.Common.eqb}
+use Rattle.std.proofs.Common.{eqb}
+use Rattle.cpu_words.{proofs.Places.opening_listed, specs.{Lists.AreOpening, Words.opening_words}}
 use Rattle.gate_schedules.proofs.{frames.Places.are_few, schedules.Schedule.{opening_good, opening_shown}}
 use Rattle.gate_world.specs.{Configs.extents_kept, Views.opening_view}
 use Rattle.gate_steps.proofs.{Dealing.{one_if-other, one_if-same}, Growing.seen_now, Reaching.opening_reached, TableWords.apart}

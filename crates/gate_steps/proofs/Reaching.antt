@@ -2,8 +2,9 @@
 use Rattle.gate_steps.proofs.Prelude.{Begins, Config, Entry, HookAnswer, List, None, Op, Option, Phase, Some, Steps, View, World, [], actions_after}
 use Rattle.gate_steps.proofs.Prelude.{after_of, ap, arith, event_of, first_phase, happens, held_of, next_of, opening, phase_after, refl, run, subst}
 use Rattle.gate_steps.proofs.Prelude.{sym, view_after_with_others, ℕ, ◌++◌, ◌<◌, ◌∙◌, ◌∷◌, ◌≡◌}
-use Rattle.{access_model.specs.Histories.Done, std.proofs.{Common.{false, is_some}, lemmas.Bool.lt-ltb}}
-use Rattle.{finite_sums.{proofs.Totals.each_updated, specs.Sums.update}, gate_schedules.proofs.schedules.{Beginnings.may_begin, Runs.run_more}}
+use Rattle.std.proofs.{Common.{false, is_some}, lemmas.Bool.lt-ltb}
+use Rattle.{access_model.specs.Histories.Done, finite_sums.{proofs.Totals.each_updated, specs.Sums.update}}
+use Rattle.gate_schedules.proofs.schedules.{Beginnings.may_begin, Runs.run_more}
 use Rattle.gate_world.specs.{Beginnings.{refusal, view_refusal}, Holdings.holdings_of, Views.{begun_view, view_after, with_hook}}
 use Rattle.gate_world.specs.Worlds.{action_of, after_begin, after_step, after_step_with_others, found_at, history, phase_action, task_of, value_at}
 use Rattle.gate_world.specs.Worlds.{with_action, words_after}

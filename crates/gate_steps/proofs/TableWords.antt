@@ -1,8 +1,9 @@
 -- The table: after a write of one word it shows the words with that one written.
 use Rattle.gate_steps.proofs.Prelude.{Config, IsWithin, List, WordName, [], arith, get_elem?, length, place, some, some-injective, some-ne-none, suc}
 use Rattle.gate_steps.proofs.Prelude.{sym, table_index, table_length, zero, ℕ, ◌<◌, ◌∷◌, ◌≡◌}
-use Rattle.{cpu_words.{proofs.Places.{place_small, written}, specs.{Names.IsWord, Words.{Words, put}}}, std.proofs.Common.{slice_index, slice_set}}
-use Rattle.{gate_schedules.proofs.frames.Places.are_few, gate_world.specs.Configs.extents_kept}
+use Rattle.std.proofs.Common.{slice_index, slice_set}
+use Rattle.{cpu_words.{proofs.Places.{place_small, written}, specs.{Names.IsWord, Words.{Words, put}}}, gate_schedules.proofs.frames.Places.are_few}
+use Rattle.gate_world.specs.Configs.{extents_kept}
 use Rattle.gate_steps.specs.Rules.{TableShows}
 
 -- words lie apart

@@ -1,6 +1,6 @@
 -- The one history of a state, and the schedule that makes it.
-use Rattle.{access_model.specs.Histories.{Done, IsLegal, IsMerge, end_of}, std.specs.Prelude.{List, None, Option, Some, [], ℕ, ◌++◌, ◌∷◌, ◌≡◌}}
-use Rattle.cpu_words.specs.Hooks.{HookAnswer}
+use Rattle.std.specs.Prelude.{List, None, Option, Some, [], ℕ, ◌++◌, ◌∷◌, ◌≡◌}
+use Rattle.{access_model.specs.Histories.{Done, IsLegal, IsMerge, end_of}, cpu_words.specs.Hooks.HookAnswer}
 use Rattle.gate_world.specs.{Configs.model_limits, Moments.AllHaveMoments, Shown.shown, Worlds.{World, happens, history, opening, run}}
 use Rattle.gate_world.specs.declared.{config.Config.Config, entries.Entry.{Entry, TheVariants.{Begins, Steps}}, operations.Op.Op, views.View.View}
 

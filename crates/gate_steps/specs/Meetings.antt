@@ -1,5 +1,6 @@
 -- What a seat learns of the table when it looks at it.
-use Rattle.{gate_world.specs.declared.{config.Config.Config, entries.Entry.Entry}, std.specs.Prelude.{List, ℕ, ◌<◌, ◌≡◌, ◌≤◌}}
+use Rattle.std.specs.Prelude.{List, ℕ, ◌<◌, ◌≡◌, ◌≤◌}
+use Rattle.gate_world.specs.declared.{config.Config.Config, entries.Entry.Entry}
 use Rattle.gate_steps.specs.{Seating.{DealtNumbers, HaveHistory, HaveSeen, times}, declared.seating.Knowledge.Knowledge}
 
 -- These numbers stand in one state. The execution that leads to it goes on from each that was seen, and is what is seen from now on. Each of

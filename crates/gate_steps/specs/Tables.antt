@@ -1,5 +1,6 @@
 -- The table as it is closed.
-use Rattle.{gate_world.specs.{Worlds.World, declared.config.Config.Config}, std.specs.Prelude.{List, ℕ, ◌<◌, ◌≤◌}}
+use Rattle.std.specs.Prelude.{List, ℕ, ◌<◌, ◌≤◌}
+use Rattle.gate_world.specs.{Worlds.World, declared.config.Config.Config}
 use Rattle.gate_steps.specs.{Histories.HasHistory, Rules.Ruled, Seating.{HaveSeen, HaveViews, times}, declared.seating.Knowledge.Knowledge}
 
 -- The words are those of some state that the invariant holds of, with one history, and the schedule that makes it, and in which the numbers of

@@ -1,5 +1,6 @@
 -- The limits of a configuration.
-use Rattle.{access_model.specs.States.Limits, cpu_words.specs.Names.Extents, std.specs.Prelude.{ℕ, ◌<◌, ◌≤◌}}
+use Rattle.std.specs.Prelude.{ℕ, ◌<◌, ◌≤◌}
+use Rattle.{access_model.specs.States.Limits, cpu_words.specs.Names.Extents}
 use Rattle.gate_world.specs.declared.config.Config.{Config}
 
 -- the numbers are within the limits

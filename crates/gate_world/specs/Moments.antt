@@ -1,6 +1,6 @@
 -- The moments of snapshots in a history.
-use Rattle.{access_model.specs.Histories.Done, std.specs.Prelude.{List, None, Option, Some, length, slice_index, ℕ, ◌<◌, ◌∷◌, ◌≡◌}}
-use Rattle.{cpu_words.specs.{Hooks.HookAnswer, Words.Words}, freeze_laws.specs.moments.Moments.WasFrozenWith}
+use Rattle.std.specs.Prelude.{List, None, Option, Some, length, slice_index, ℕ, ◌<◌, ◌∷◌, ◌≡◌}
+use Rattle.{access_model.specs.Histories.Done, cpu_words.specs.{Hooks.HookAnswer, Words.Words}, freeze_laws.specs.moments.Moments.WasFrozenWith}
 use Rattle.{gated_tree.specs.{Trees.{LoadedClean, LoadedSound, node_at}, declared.trees.TreeWords.TreeWords}, node_words.specs.Nodes.node_shown}
 use Rattle.gate_world.specs.{Worlds.{World, found_at}, declared.{config.Config.Config, views.Snapshot.Snapshot, work.Phase.Phase}}
 use Rattle.gate_world.specs.traces.Snapshots.{completes}

@@ -1,5 +1,6 @@
 -- A remount between two of its steps: what it does at each mount, what it owns and has set, and what its numbers are.
-use Rattle.{cpu_words.specs.declared.sums.Sum.Sum, std.specs.Prelude.{Bool, false, nat_lt, true, ℕ, ◌<◌, ◌==◌, ◌≡◌, ◌≤◌}}
+use Rattle.std.specs.Prelude.{Bool, false, nat_lt, true, ℕ, ◌<◌, ◌==◌, ◌≡◌, ◌≤◌}
+use Rattle.cpu_words.specs.declared.sums.Sum.{Sum}
 use Rattle.mount_counts.specs.{Roles.{Empty, Leaving, Out, Role, Skipped, Summing}, Sets.has_mount, declared.remounts.RemountStep.RemountStep}
 use Rattle.mount_counts.specs.declared.remounts.RemountStep.TheVariants.{ClearsHold, ClearsMark, ClearsRemount, GivesUp, LeavesHolds, LoadsFlags}
 use Rattle.mount_counts.specs.declared.remounts.RemountStep.TheVariants.{LoadsRemovedAgain, Locks, SetsHold, SetsReadOnly, SetsRemount, Sums}

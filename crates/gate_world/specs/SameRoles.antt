@@ -1,6 +1,7 @@
 -- Phases that stand for one another: all that the invariant reads of the one it reads of the other. So an operation that goes through the
 -- phases of another, as a part of its own, needs no second proof of its steps.
-use Rattle.{cpu_words.specs.gate_counts.Levels.LevelRole, finite_sums.specs.Sums.update, std.specs.Prelude.{Bool, List, None, Option, ℕ, ◌≡◌}}
+use Rattle.std.specs.Prelude.{Bool, List, None, Option, ℕ, ◌≡◌}
+use Rattle.{cpu_words.specs.gate_counts.Levels.LevelRole, finite_sums.specs.Sums.update}
 use Rattle.{freeze_laws.specs.{levels.Roles.SyncRole, stages.Roles.StageRole}, freeze_levels.specs.holder_laws.Roles.HolderRole}
 use Rattle.{gated_tree.specs.Roles.Role as TreeRole, mount_counts.specs.Roles.Role}
 use Rattle.gate_world.specs.{Fits.file_of, Levels.{inside, level_role_of, sync_role_of}, Rules.{holder_role_of, owns, remounts, role_of}}

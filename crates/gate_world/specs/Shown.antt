@@ -1,5 +1,6 @@
 -- The shown state: what words and views show of the access model.
-use Rattle.{access_model.specs.States.State, finite_sums.specs.Sums.total, std.specs.Prelude.{Option, Some, if◌then◌else◌, ℕ, ◌&&◌, ◌+◌, ◌==◌, ◌||◌}}
+use Rattle.std.specs.Prelude.{Option, Some, if◌then◌else◌, ℕ, ◌&&◌, ◌+◌, ◌==◌, ◌||◌}
+use Rattle.{access_model.specs.States.State, finite_sums.specs.Sums.total}
 use Rattle.{freeze_levels.specs.{Holders.holders_in, declared.freezes.FreezeStep.FreezeStep}, mount_counts.specs.Roles.ro_bit}
 use Rattle.{node_words.specs.Nodes.node_shown, percpu_rwsem.specs.declared.writers.DownWriteStep.DownWriteStep}
 use Rattle.gate_world.specs.{Views.{has_open, held_at, holds_level}, Worlds.World, declared.{config.Config.Config, work.Phase.Phase}}

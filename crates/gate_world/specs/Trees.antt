@@ -1,6 +1,6 @@
 -- The tree of a state: its words, and what each task is doing at them.
-use Rattle.{cpu_words.specs.Words.Words, std.specs.Prelude.{List, Option, Some, ℕ}}
-use Rattle.gated_tree.specs.{Calls.phase_role, Roles.{Bounds, Out, Role, TreeState, bare_by, sealed_by}}
+use Rattle.std.specs.Prelude.{List, Option, Some, ℕ}
+use Rattle.{cpu_words.specs.Words.Words, gated_tree.specs.{Calls.phase_role, Roles.{Bounds, Out, Role, TreeState, bare_by, sealed_by}}}
 use Rattle.gate_world.specs.{Roles.{close_tree_role, freeze_tree_role, nodes_noted, remount_tree_role}, Worlds.World, declared.config.Config.Config}
 use Rattle.gate_world.specs.{declared.{views.Traced.Traced, work.Phase.Phase}, traces.Snapshots.values_noted}
 

@@ -1,5 +1,6 @@
 -- The phases of all layers as one.
-use Rattle.{access_model.specs.{Replies.map_next, declared.{actions.Action.Action, replies.Next.Next}}, std.specs.Prelude.{None, Option, ℕ, ◌≡◌}}
+use Rattle.std.specs.Prelude.{None, Option, ℕ, ◌≡◌}
+use Rattle.access_model.specs.{Replies.map_next, declared.{actions.Action.Action, replies.Next.Next}}
 use Rattle.composite_ops.specs.declared.write_access.phases.WritePhase.{TheVariants.{Drops, Ends, GivesBack, Takes, Wants}, WritePhase}
 use Rattle.composite_ops.specs.file_closes.Phases.{after as close_after, next as close_next}
 use Rattle.composite_ops.specs.write_access.Phases.{after as write_after, leaves_on, next as write_next}

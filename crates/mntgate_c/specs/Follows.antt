@@ -1,5 +1,6 @@
 -- What a handle has once its task comes back that it lent.
-use Rattle.{std.specs.Prelude.true, vfs_gates.specs.TaskStates.SeatedTask}
+use Rattle.std.specs.Prelude.{true}
+use Rattle.vfs_gates.specs.TaskStates.{SeatedTask}
 use Rattle.mntgate_c.specs.contracts.{handles.TaskHandle.the_row as handle_row, members.Member.the_row as member_row}
 use Rattle.mntgate_c.specs.declared.handles.TaskHandle.{TaskHandle}
 use base.Fml.{Fml}

@@ -1,6 +1,7 @@
 -- What a handle owns.
-use Rattle.{std.specs.Prelude.{Bool, false, true}, std_alloc.specs.Box.Ownership.box_owns}
-use Rattle.{std_heap.specs.contracts.{Global.the_row as Heap, GlobalAllocator.TheImpl.ghosts}, vfs_gates.specs.TaskStates.SeatedTask}
+use Rattle.std.specs.Prelude.{Bool, false, true}
+use Rattle.{std_alloc.specs.Box.Ownership.box_owns, std_heap.specs.contracts.{Global.the_row as Heap, GlobalAllocator.TheImpl.ghosts}}
+use Rattle.vfs_gates.specs.TaskStates.{SeatedTask}
 use Rattle.mntgate_c.specs.contracts.members.Member.{the_row}
 use base.Fml.{Fml, ftrue}
 use denote.RawPtr.{Ptr}

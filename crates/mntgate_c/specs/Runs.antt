@@ -1,6 +1,6 @@
 -- What a run of steps is.
-use Rattle.{cpu_words.specs.Hooks.HookAnswer, std.specs.Prelude.{None, Ok, Some, suc, zero, ℕ, ◌≡◌, ◌≤◌, ◌⊎◌}}
-use Rattle.gate_steps.specs.call_events.Stepped.{Stepped}
+use Rattle.std.specs.Prelude.{None, Ok, Some, suc, zero, ℕ, ◌≡◌, ◌≤◌, ◌⊎◌}
+use Rattle.{cpu_words.specs.Hooks.HookAnswer, gate_steps.specs.call_events.Stepped.Stepped}
 use Rattle.gate_transitions.specs.{Answers.asked_by, declared.steps.{Progress.{Progress, TheVariants.Going}, Step.Step}}
 use Rattle.{gate_world.specs.declared.work.Phase.Phase, vfs_gates.specs.TaskStates.SeatedTask}
 

@@ -1,5 +1,6 @@
 -- What the numbers of a record tell C of a node.
-use Rattle.{access_model.specs.declared.actions.NodeInfo.NodeInfo, std.specs.Prelude.{None, Option, Some, if◌then◌else◌}}
+use Rattle.std.specs.Prelude.{None, Option, Some, if◌then◌else◌}
+use Rattle.access_model.specs.declared.actions.NodeInfo.{NodeInfo}
 use Rattle.mntgate_c.specs.{Operations.kind_of, declared.trees.NodeRecord.NodeRecord}
 
 abbrev pub node_told : NodeRecord → Option NodeInfo

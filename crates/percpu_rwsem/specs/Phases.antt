@@ -1,5 +1,6 @@
 -- The order of steps of any operation at a level.
-use Rattle.{access_model.specs.{Replies.map_next, declared.{actions.Action.Action, replies.Next.Next}}, std.specs.Prelude.{Option, ℕ}}
+use Rattle.std.specs.Prelude.{Option, ℕ}
+use Rattle.access_model.specs.{Replies.map_next, declared.{actions.Action.Action, replies.Next.Next}}
 use Rattle.cpu_words.specs.{Hooks.HookAnswer, declared.{events.Touch.Touch, names.WordName.WordName}}
 use Rattle.percpu_rwsem.specs.{Callbacks.{callback_after, callback_next}, Readers.{down_read_after, down_read_next, up_read_after, up_read_next}}
 use Rattle.percpu_rwsem.specs.{Writers.{down_write_after, down_write_next, up_write_after, up_write_next}, declared.phases.SemPhase.SemPhase}

@@ -1,6 +1,6 @@
 -- What a call of the gates that one thread drives does to their tasks, and which state they show.
-use Rattle.{gate_world.specs.{Worlds.World, declared.config.Config.Config}, std.specs.Prelude.{List, slice_index_or, vec_len, ℕ, ◌∷◌, ◌≡◌, ◌≢◌}}
-use Rattle.vfs_gates.specs.TaskStates.{SeatedTask}
+use Rattle.std.specs.Prelude.{List, slice_index_or, vec_len, ℕ, ◌∷◌, ◌≡◌, ◌≢◌}
+use Rattle.{gate_world.specs.{Worlds.World, declared.config.Config.Config}, vfs_gates.specs.TaskStates.SeatedTask}
 use Rattle.program_replay.specs.{Shown.TasksShow, declared.gates_driver.GatesDriver.GatesDriver}
 
 -- all tasks, in the order of their numbers

@@ -1,5 +1,6 @@
 -- A list of words that is moved by steps.
-use Rattle.{cpu_words.specs.{Names.place, declared.events.Event.Event}, std.specs.Prelude.{List, None, Option, Some, slice_set, ℕ}}
+use Rattle.std.specs.Prelude.{List, None, Option, Some, slice_set, ℕ}
+use Rattle.cpu_words.specs.{Names.place, declared.events.Event.Event}
 
 -- these words, each at its place, after a step, if there is one: it has left its own as it says
 abbrev pub words_after : Option Event → List ℕ → List ℕ

@@ -1,6 +1,6 @@
 -- Which state the gates show that one thread drives.
-use Rattle.{cpu_words.specs.{Lists.ListShows, Names.words_in_all}, std.specs.Prelude.{List, None, [], length, slice_index_or, ℕ, ◌<◌, ◌∷◌, ◌≡◌, ◌≤◌}}
-use Rattle.gate_steps.specs.{Seating.DealtNumbers, call_events.Grown.HasSeen}
+use Rattle.std.specs.Prelude.{List, None, [], length, slice_index_or, ℕ, ◌<◌, ◌∷◌, ◌≡◌, ◌≤◌}
+use Rattle.{cpu_words.specs.{Lists.ListShows, Names.words_in_all}, gate_steps.specs.{Seating.DealtNumbers, call_events.Grown.HasSeen}}
 use Rattle.gate_world.specs.{Configs.{IsWithin, extents_kept}, Fits.Fits, Headline.world_after, Views.{held_of, opening_view}, Worlds.World}
 use Rattle.gate_world.specs.declared.{config.Config.Config, entries.Entry.Entry}
 use Rattle.vfs_gates.specs.TaskStates.{SeatedTask, own_number, own_view}

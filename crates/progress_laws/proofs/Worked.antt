@@ -1,7 +1,8 @@
 -- Worked executions, by computing: who has to wait beside a task that is lost where it stands, and what a start can do that doesn't sleep.
 use Rattle.progress_laws.proofs.Prelude.{Begins, Config, Entry, Err, List, None, Ok, Op, Steps, [], false, refl, run, suc, true, turns_left, zero, ℕ}
 use Rattle.progress_laws.proofs.Prelude.{◌==◌, ◌∷◌, ◌≡◌}
-use Rattle.{access_model.specs.declared.actions.Holder.Holder, gate_world.specs.Worlds.opening, std.proofs.Common.{replicate, ◌++◌}}
+use Rattle.std.proofs.Common.{replicate, ◌++◌}
+use Rattle.{access_model.specs.declared.actions.Holder.Holder, gate_world.specs.Worlds.opening}
 use Rattle.progress_laws.{proofs.rounds.Settling.waits_at, specs.{Alone.turns_alone, GivingUp.turns_to_give_up}}
 
 -- three tasks, two processors, one mount

@@ -1,6 +1,6 @@
 -- A task that runs alone, whatever all others are at: how many steps it takes until it has its reply or has to wait.
-use Rattle.{cpu_words.specs.Words.Words, std.specs.Prelude.{Bool, Option, not, ℕ, ◌*◌, ◌+◌, ◌<◌, ◌==◌, ◌≤◌}}
-use Rattle.gate_world.specs.{Worlds.World, declared.{config.Config.Config, work.Phase.Phase}}
+use Rattle.std.specs.Prelude.{Bool, Option, not, ℕ, ◌*◌, ◌+◌, ◌<◌, ◌==◌, ◌≤◌}
+use Rattle.{cpu_words.specs.Words.Words, gate_world.specs.{Worlds.World, declared.{config.Config.Config, work.Phase.Phase}}}
 use Rattle.progress_laws.specs.LostTasks.{SettlesAmong}
 use Rattle.progress_laws.specs.StepsLeft.{as_one, changes_of, most_steps, start_room_of, start_steps_of, steps_of, tries_of, try_room_of}
 

@@ -1,6 +1,6 @@
 -- What `keep_waiting` answers: a freeze that finds somebody counted at a level that it closes asks whether to wait on.
-use Rattle.{cpu_words.specs.Hooks.HookAnswer, std.specs.Prelude.{Err, List, Ok, Some, [], ℕ, ◌∷◌, ◌≡◌}}
-use Rattle.freeze_levels.specs.declared.hooks.HookKind.TheVariants.{KeepWaiting}
+use Rattle.std.specs.Prelude.{Err, List, Ok, Some, [], ℕ, ◌∷◌, ◌≡◌}
+use Rattle.{cpu_words.specs.Hooks.HookAnswer, freeze_levels.specs.declared.hooks.HookKind.TheVariants.KeepWaiting}
 use Rattle.gate_world.specs.{Work.hook_of, Worlds.{World, happens, run}, declared.{config.Config.Config, entries.Entry.Entry}}
 use Rattle.gate_world.specs.declared.{entries.Entry.TheVariants.{Begins, Steps}, work.Phase.Phase}
 

@@ -1,6 +1,6 @@
 -- How near the first reply is beside lost tasks.
-use Rattle.{cpu_words.specs.Hooks.HookAnswer, std.specs.Prelude.{Bool, false, suc, zero, ℕ, ◌*◌, ◌+◌, ◌<◌, ◌≡◌, ◌⊎◌}}
-use Rattle.gate_schedules.specs.operations.Progress.{HasReply, IsUnderWay}
+use Rattle.std.specs.Prelude.{Bool, false, suc, zero, ℕ, ◌*◌, ◌+◌, ◌<◌, ◌≡◌, ◌⊎◌}
+use Rattle.{cpu_words.specs.Hooks.HookAnswer, gate_schedules.specs.operations.Progress.{HasReply, IsUnderWay}}
 use Rattle.gate_world.specs.{Worlds.{World, happens}, declared.{config.Config.Config, entries.Entry.TheVariants.Steps}}
 use Rattle.progress_laws.specs.{LostTasks.AllWait, StepsLeft.most_steps}
 

@@ -1,6 +1,6 @@
 -- Where `keep_waiting` says to give up whenever it is asked, no freeze waits for who holds a level.
-use Rattle.{finite_sums.specs.Sums.total, std.specs.Prelude.{Bool, List, Option, Some, false, length, true, ℕ, ◌*◌, ◌+◌, ◌<◌, ◌≡◌, ◌≤◌, ◌⊎◌}}
-use Rattle.gate_schedules.specs.operations.Progress.{HasReply, IsUnderWay}
+use Rattle.std.specs.Prelude.{Bool, List, Option, Some, false, length, true, ℕ, ◌*◌, ◌+◌, ◌<◌, ◌≡◌, ◌≤◌, ◌⊎◌}
+use Rattle.{finite_sums.specs.Sums.total, gate_schedules.specs.operations.Progress.{HasReply, IsUnderWay}}
 use Rattle.gate_world.specs.{Levels.is_frozen_whole, Worlds.World, declared.{config.Config.Config, entries.Entry.Entry, work.Phase.Phase}}
 use Rattle.progress_laws.specs.{Answers.{IsImpatient, RoundsAnswerSo}, FairRounds.{AreRounds, nobody, run_all}}
 use Rattle.progress_laws.specs.{LostTasks.{AllWait, FreezeSums, LeavesBehind}, StepsLeft.{most_turns, turns_left}, Waiting.is_outside}

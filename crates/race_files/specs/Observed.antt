@@ -1,5 +1,6 @@
 -- What an observer is shown of the lines before a race.
-use Rattle.{schedule_lines.specs.declared.output.Output.Output, std.specs.Prelude.{List, None, Ok, Option, Some, [], ℕ, ◌++◌, ◌∷◌, ◌≡◌}}
+use Rattle.std.specs.Prelude.{List, None, Ok, Option, Some, [], ℕ, ◌++◌, ◌∷◌, ◌≡◌}
+use Rattle.schedule_lines.specs.declared.output.Output.{Output}
 use Rattle.schedule_text.specs.{Parsing.parsed, declared.commands.Line.{Line, TheVariants.{Config, Request, Skipped}}}
 use Rattle.transcripts.specs.Transcript.{ReplayState, request_outcome, tasks_of}
 use Rattle.race_files.specs.{Left.{Left, left_in, line_count}, SettingUp.IsDone, declared.lines.Lines.Lines}

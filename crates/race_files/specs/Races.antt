@@ -1,6 +1,7 @@
 -- The race of a text.
-use Rattle.{gate_core.specs.{Drivers.CoreShows, Memory.Memory}, std.specs.Prelude.{List, None, Ok, Option, Some, ℕ, ◌<◌, ◌≡◌}}
-use Rattle.{races.specs.{Counts.AreRecent, declared.calls.Call.Call}, transcripts.specs.Transcript.ReplayState}
+use Rattle.std.specs.Prelude.{List, None, Ok, Option, Some, ℕ, ◌<◌, ◌≡◌}
+use Rattle.{gate_core.specs.{Drivers.CoreShows, Memory.Memory}, races.specs.{Counts.AreRecent, declared.calls.Call.Call}}
+use Rattle.transcripts.specs.Transcript.{ReplayState}
 use Rattle.race_files.specs.{Left.{BeginRace, Left, behind, calls_left}, SettingUp.SetsUp}
 
 -- no task has an operation under way

@@ -1,5 +1,6 @@
 -- What a run may be asked for, and its gates.
-use Rattle.{gate_world.specs.declared.config.Config.Config, std.specs.Prelude.{ℕ, ◌%◌, ◌*◌, ◌+◌, ◌-◌, ◌≤◌}}
+use Rattle.std.specs.Prelude.{ℕ, ◌%◌, ◌*◌, ◌+◌, ◌-◌, ◌≤◌}
+use Rattle.gate_world.specs.declared.config.Config.{Config}
 
 -- 3 to 64 tasks, 1 to 64 processors, 1 to 10,000 rounds, and at most 1,000 freezes
 pub record MayRun (tasks processors rounds freezes : ℕ) : Type 0 where

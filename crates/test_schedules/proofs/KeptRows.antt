@@ -1,6 +1,6 @@
 -- Worked executions in which an operation is kept, by computing: what an idle task keeps, and what a frozen file system does.
-use Rattle.{access_model.specs.declared.actions.{Holder.Holder, Kind.Kind}, std.proofs.Common.{List, Some, [], arith, refl, true, ◌++◌, ◌∷◌, ◌≡◌}}
-use Rattle.composite_ops.specs.declared.file_closes.phases.ClosePhase.{ClosePhase}
+use Rattle.std.proofs.Common.{List, Some, [], arith, refl, true, ◌++◌, ◌∷◌, ◌≡◌}
+use Rattle.{access_model.specs.declared.actions.{Holder.Holder, Kind.Kind}, composite_ops.specs.declared.file_closes.phases.ClosePhase.ClosePhase}
 use Rattle.gate_schedules.specs.operations.Progress.{AFreezeIsKept, CloseIsBlocked, LockIsBlocked, StartIsBlocked}
 use Rattle.gate_world.specs.{Worlds.{opening, run}, declared.{entries.Entry.{Entry, TheVariants.Begins}, operations.Op.Op, work.Phase.Phase}}
 use Rattle.percpu_rwsem.specs.declared.readers.{DownRead.DownRead, DownReadStep.DownReadStep}

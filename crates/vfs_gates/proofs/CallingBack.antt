@@ -2,7 +2,8 @@
 use Rattle.vfs_gates.proofs.Prelude.{Bool, Callback, Called, Config, Err, GateError, IsAsBefore, IsHonestAnswer, IsIdle, List, None, Ok, Option}
 use Rattle.vfs_gates.proofs.Prelude.{Replies, Reply, Result, SeatedTask, Some, Traced, arith, is_some, lt-ltb, refl, refusal_at, subst, sym}
 use Rattle.vfs_gates.proofs.Prelude.{the_reply, told_as, true, ℕ, ◌∙◌, ◌≡◌, ◌≤◌}
-use Rattle.{access_model.specs.declared.errors.GateError.TheVariants.Order, std.proofs.Common.{IfOk, OnOk}}
+use Rattle.std.proofs.Common.{IfOk, OnOk}
+use Rattle.access_model.specs.declared.errors.GateError.TheVariants.{Order}
 use Rattle.gate_steps.{proofs.call_events.Running.ran_told, specs.call_events.Runs.{IsRanReply, ran_of}}
 use Rattle.vfs_gates.{proofs.Holding.{as_before_twice, keeps}, specs.Settled.{Settles, SettlesLevel}}
 

@@ -11,8 +11,8 @@ use Rattle.vfs_gates.proofs.Prelude.{Bool, DealtNumbers, Empty, EndedWith, Entry
 use Rattle.vfs_gates.proofs.Prelude.{Some, SplitOf, StaySeen, Traced, View, Want, WantWrite, [], and_parts, ap, arith, false, held_of, length}
 use Rattle.vfs_gates.proofs.Prelude.{own_actions, own_number, own_view, ran_items, refl, refusal_at, same_stays_seen, spare_of, subst, suc, sym}
 use Rattle.vfs_gates.proofs.Prelude.{times, told_as, true, unit_of, ◌++◌, ◌+◌, ◌<◌, ◌∙◌, ◌∷◌, ◌≡◌}
-use Rattle.{gate_steps.proofs.call_events.Grown.call_stays_seen, std.proofs.{Common.{add-zero, nat_lt}, lemmas.Bool.{eq-eqb, ltb-true}}}
-use Rattle.gate_world.specs.declared.operations.Op.TheVariants.{DropMount, DropWrite}
+use Rattle.std.proofs.{Common.{add-zero, nat_lt}, lemmas.Bool.{eq-eqb, ltb-true}}
+use Rattle.{gate_steps.proofs.call_events.Grown.call_stays_seen, gate_world.specs.declared.operations.Op.TheVariants.{DropMount, DropWrite}}
 use Rattle.vfs_gates.proofs.{Holding.{keeps, rests_on, same_own}, Reopening.{Opens, opens}, Resting.{change_begins, first_ends, second_ends}}
 use Rattle.vfs_gates.proofs.{Resting.split_done_nothing, Returning.{done_idle, dropped, may, was_done, written_back}, Rooming.kept_view}
 use Rattle.vfs_gates.{proofs.{call_laws.Timing.comes_after, several_tasks.Told.own_list}, specs.{Held.{IsGivenBack, takes_nothing}, Meetings.SawList}}

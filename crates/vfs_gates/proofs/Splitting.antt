@@ -2,7 +2,8 @@
 use Rattle.vfs_gates.proofs.Prelude.{Config, DealtNumbers, GateError, IsIdle, List, SeatedTask, SplitOf, [], ap, arith, cond, deal, dite, eqb, false}
 use Rattle.vfs_gates.proofs.Prelude.{first_items, given_of, kept_of, length, own_number, own_view, refl, spare_of, subst, suc, sym, times, true}
 use Rattle.vfs_gates.proofs.Prelude.{view_in, zero, ℕ, ℕ_discrete, ◌++◌, ◌+◌, ◌<◌, ◌∙◌, ◌∷◌, ◌≡◌, ◌≤◌}
-use Rattle.{access_model.specs.declared.errors.GateError.TheVariants.{NoMemory, Order, TooMany}, std.proofs.Common.◌≢◌}
+use Rattle.std.proofs.Common.{◌≢◌}
+use Rattle.access_model.specs.declared.errors.GateError.TheVariants.{NoMemory, Order, TooMany}
 use Rattle.gate_steps.proofs.call_events.{Giving.{times-without, times-without_other}, Opening.{times-deal, times-deal_below}}
 use Rattle.gate_steps.specs.Seating.{without}
 use Rattle.vfs_gates.{proofs.Waiting.kept_number, specs.{Parts.SplitRefused, Splitting.{AreNumbered, Gives, HasBegun, HaveDoneNothing}}}

@@ -1,5 +1,6 @@
 -- Operations begun and done as far as they go at once.
-use Rattle.{access_model.specs.declared.{errors.GateError.GateError, replies.Reply.Reply}, std.specs.Prelude.{Err, None, Ok, Result, Some, ◌≡◌}}
+use Rattle.std.specs.Prelude.{Err, None, Ok, Result, Some, ◌≡◌}
+use Rattle.access_model.specs.declared.{errors.GateError.GateError, replies.Reply.Reply}
 use Rattle.gate_steps.specs.call_events.{Progress.Progress, Runs.{Called, IsBounded, ProgressMatches, told_as, unit_of}}
 use Rattle.gate_world.specs.{declared.operations.Op.Op, traces.Traces.most_events}
 use Rattle.vfs_gates.specs.TaskStates.{SeatedTask, refusal_at}

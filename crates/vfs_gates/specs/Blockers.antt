@@ -1,5 +1,6 @@
 -- What blocks a step that waits, in the state in which it was done.
-use Rattle.{cpu_words.specs.Hooks.HookAnswer, std.specs.Prelude.{List, Some, [], ℕ, ◌++◌, ◌∷◌, ◌≡◌}}
+use Rattle.std.specs.Prelude.{List, Some, [], ℕ, ◌++◌, ◌∷◌, ◌≡◌}
+use Rattle.cpu_words.specs.Hooks.{HookAnswer}
 use Rattle.gate_steps.specs.{Seating.{DealtNumbers, IsPrefix}, call_events.{SeatedTasks.own_number, Spans.{IsEventDuring, worlds_since}}}
 use Rattle.gate_world.specs.{Headline.world_after, declared.{config.Config.Config, entries.Entry.{Entry, TheVariants.Steps}, operations.Op.Op}}
 use Rattle.gate_world.specs.{declared.{views.Traced.Traced, work.Phase.Phase}, refusals.{Causes.{since_begun, trail_of}, Waits.HasCulpritAmong}}

@@ -1,6 +1,6 @@
 -- What a dropped task has left, for the steps of others: a task that was dropped takes no step and begins nothing.
-use Rattle.{cpu_words.specs.Hooks.HookAnswer, std.specs.Prelude.{Bool, List, Some, [], ℕ, ◌++◌, ◌∷◌, ◌≡◌}}
-use Rattle.gate_schedules.specs.operations.Progress.{IsUnderWay}
+use Rattle.std.specs.Prelude.{Bool, List, Some, [], ℕ, ◌++◌, ◌∷◌, ◌≡◌}
+use Rattle.{cpu_words.specs.Hooks.HookAnswer, gate_schedules.specs.operations.Progress.IsUnderWay}
 use Rattle.gate_steps.specs.{Seating.{DealtNumbers, IsPrefix}, call_events.SeatedTasks.own_number}
 use Rattle.gate_world.specs.{Headline.world_after, declared.{config.Config.Config, entries.Entry.{Entry, TheVariants.Steps}, work.Phase.Phase}}
 use Rattle.progress_laws.specs.{Answers.{AllAnswerSo, IsPatientWith}, LostForEver.{AreOfOthers, MeetsLost}}

@@ -1,5 +1,6 @@
 -- What a call found that was done and added nothing, and the instant at which that was so.
-use Rattle.{access_model.specs.{Laws.IsReadOnly, declared.replies.Reply.{Reply, TheVariants.Ran}}, std.specs.Prelude.{List, [], false, true, ◌≡◌}}
+use Rattle.std.specs.Prelude.{List, [], false, true, ◌≡◌}
+use Rattle.access_model.specs.{Laws.IsReadOnly, declared.replies.Reply.{Reply, TheVariants.Ran}}
 use Rattle.gate_steps.specs.{Seating.DealtNumbers, call_events.Spans.IsEventDuring}
 use Rattle.gate_world.specs.{Headline.world_after, Shown.shown, Worlds.World, declared.{config.Config.Config, entries.Entry.Entry, operations.Op.Op}}
 use Rattle.gate_world.specs.declared.{operations.Op.TheVariants.{Callback, ChangeMount, RemountSb, Snapshot}, views.Traced.Traced}

@@ -1,5 +1,6 @@
 -- What a call of a task has behind it to which another task was joined.
-use Rattle.{access_model.specs.Histories.{Done, own_part}, gate_steps.specs.Seating.HaveHistory, std.specs.Prelude.{List, ◌++◌, ◌≡◌}}
+use Rattle.std.specs.Prelude.{List, ◌++◌, ◌≡◌}
+use Rattle.{access_model.specs.Histories.{Done, own_part}, gate_steps.specs.Seating.HaveHistory}
 use Rattle.vfs_gates.specs.{Held.own_actions, TaskStates.{SeatedTask, own_number}}
 
 -- In the one history that a call leaves, all that the other task's number had done stands before all that was added since the call began; and what

@@ -1,6 +1,7 @@
 -- A pair of calls with others between them. What comes between leads from one state of the task, with an answer, to another.
-use Rattle.{access_model.specs.declared.{actions.Holder.Holder, errors.GateError.GateError}, std.specs.Prelude.{Err, Ok, Result, ℕ, ◌≡◌}}
-use Rattle.{cpu_words.specs.Hooks.HookAnswer, freeze_levels.specs.declared.hooks.HookCall.HookCall}
+use Rattle.std.specs.Prelude.{Err, Ok, Result, ℕ, ◌≡◌}
+use Rattle.{access_model.specs.declared.{actions.Holder.Holder, errors.GateError.GateError}, cpu_words.specs.Hooks.HookAnswer}
+use Rattle.freeze_levels.specs.declared.hooks.HookCall.{HookCall}
 use Rattle.gate_steps.specs.{Seating.DealtNumbers, call_events.{Asking.PerformsAsking, Runs.Performs}}
 use Rattle.gate_world.specs.declared.operations.Op.TheVariants.{DropWrite, Freeze, Thaw, WantWrite}
 use Rattle.vfs_gates.specs.TaskStates.{SeatedTask}

@@ -1,5 +1,6 @@
 -- Numbers that go from task to task.
-use Rattle.{access_model.specs.declared.errors.GateError.{GateError, TheVariants.{NoMemory, Order, TooMany}}, std.specs.Prelude.{ℕ, ◌<◌, ◌≡◌, ◌≤◌}}
+use Rattle.std.specs.Prelude.{ℕ, ◌<◌, ◌≡◌, ◌≤◌}
+use Rattle.access_model.specs.declared.errors.GateError.{GateError, TheVariants.{NoMemory, Order, TooMany}}
 use Rattle.gate_steps.specs.Seating.{given_of, kept_of, times}
 use Rattle.vfs_gates.specs.TaskStates.{IsIdle, SeatedTask, spare_of}
 

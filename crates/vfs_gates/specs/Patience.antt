@@ -1,6 +1,7 @@
 -- What the hooks of a freeze with little patience answer: they ask a file system's own, and where these would wait they may give up.
-use Rattle.{cpu_words.specs.Hooks.HookAnswer, std.specs.Prelude.{Err, Ok, ℕ, ◌≡◌, ◌⊎◌}}
-use Rattle.{freeze_levels.specs.declared.hooks.HookCall.{HookCall, TheVariants.KeepWaiting}, gate_steps.specs.Seating.DealtNumbers}
+use Rattle.std.specs.Prelude.{Err, Ok, ℕ, ◌≡◌, ◌⊎◌}
+use Rattle.{cpu_words.specs.Hooks.HookAnswer, freeze_levels.specs.declared.hooks.HookCall.{HookCall, TheVariants.KeepWaiting}}
+use Rattle.gate_steps.specs.Seating.{DealtNumbers}
 
 -- EAGAIN, by which a freeze that waits for nobody gives up, and ETIMEDOUT, by which one gives up whose limit has passed
 abbrev pub found_somebody : ℕ

@@ -1,6 +1,6 @@
 -- What a task's last snapshot is of.
-use Rattle.{freeze_laws.specs.moments.Moments.MomentTells, std.specs.Prelude.{List, Some, length, ℕ, ◌∷◌, ◌≡◌}}
-use Rattle.gate_steps.specs.Seating.{DealtNumbers, HaveHistory, done_by}
+use Rattle.std.specs.Prelude.{List, Some, length, ℕ, ◌∷◌, ◌≡◌}
+use Rattle.{freeze_laws.specs.moments.Moments.MomentTells, gate_steps.specs.Seating.{DealtNumbers, HaveHistory, done_by}}
 use Rattle.gate_world.specs.{Configs.model_limits, Moments.IsOfMoment, declared.{config.Config.Config, entries.Entry.Entry, views.Snapshot.Snapshot}}
 use Rattle.gated_tree.specs.Trees.{node_at}
 use Rattle.vfs_gates.specs.TaskStates.{own_number, own_view, spare_of}

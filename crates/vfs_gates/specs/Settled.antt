@@ -1,6 +1,6 @@
 -- Callbacks of a level until none is queued.
-use Rattle.{gate_steps.specs.call_events.Runs.{Replies, ran_of}, std.specs.Prelude.{Ok, false, suc, true, zero, ℕ, ◌≡◌}}
-use Rattle.gate_world.specs.declared.operations.Op.TheVariants.{Callback}
+use Rattle.std.specs.Prelude.{Ok, false, suc, true, zero, ℕ, ◌≡◌}
+use Rattle.{gate_steps.specs.call_events.Runs.{Replies, ran_of}, gate_world.specs.declared.operations.Op.TheVariants.Callback}
 use Rattle.vfs_gates.specs.TaskStates.{SeatedTask}
 
 -- so many callbacks of a level, each of which ran

@@ -1,5 +1,6 @@
 -- What the first task of some gates has to give while tasks are split off, one after the other.
-use Rattle.{gate_steps.specs.Seating.{DealtNumbers, times}, std.specs.Prelude.{List, [], length, ℕ, ◌+◌, ◌<◌, ◌∷◌, ◌≡◌, ◌≤◌}}
+use Rattle.std.specs.Prelude.{List, [], length, ℕ, ◌+◌, ◌<◌, ◌∷◌, ◌≡◌, ◌≤◌}
+use Rattle.gate_steps.specs.Seating.{DealtNumbers, times}
 use Rattle.vfs_gates.specs.TaskStates.{IsIdle, SeatedTask, own_number, own_view, spare_of}
 
 -- these have the numbers from this one on, each the next

@@ -1,5 +1,6 @@
 -- The words of a gate.
-use Rattle.{access_model.specs.declared.actions.Gate.{Gate, TheVariants.{Level, Mount}}, std.specs.Prelude.{ℕ, ◌<◌, ◌≤◌}}
+use Rattle.std.specs.Prelude.{ℕ, ◌<◌, ◌≤◌}
+use Rattle.access_model.specs.declared.actions.Gate.{Gate, TheVariants.{Level, Mount}}
 use Rattle.{cpu_words.specs.declared.names.WordName.{TheVariants.{LevelCount, MountCount}, WordName}, gate_world.specs.declared.config.Config.Config}
 
 -- the word that counts a gate's writers on a processor

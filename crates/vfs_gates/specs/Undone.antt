@@ -1,6 +1,6 @@
 -- What a freeze that a hook has refused leaves.
-use Rattle.{gate_world.specs.{Headline.world_after, declared.entries.Entry.Entry}, std.specs.Prelude.{List, [], ◌∷◌, ◌≡◌}}
-use Rattle.progress_laws.specs.Undone.{IsUndone}
+use Rattle.std.specs.Prelude.{List, [], ◌∷◌, ◌≡◌}
+use Rattle.{gate_world.specs.{Headline.world_after, declared.entries.Entry.Entry}, progress_laws.specs.Undone.IsUndone}
 use Rattle.vfs_gates.specs.TaskStates.{SeatedTask, own_number}
 
 -- A call leaves nothing behind in the gates. At its answer its task has seen one schedule, which ends with the call's last step; in the state of that

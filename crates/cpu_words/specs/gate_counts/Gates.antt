@@ -1,5 +1,6 @@
 -- The counts of any gate: a mount's count words and its flag HOLD, a freeze level's read counts and its word `block`.
-use Rattle.{finite_sums.specs.Sums.total, std.specs.Prelude.{suc, zero, ℕ, ◌%◌, ◌*◌, ◌+◌, ◌<◌, ◌≡◌, ◌≤◌}}
+use Rattle.std.specs.Prelude.{suc, zero, ℕ, ◌%◌, ◌*◌, ◌+◌, ◌<◌, ◌≡◌, ◌≤◌}
+use Rattle.finite_sums.specs.Sums.{total}
 use Rattle.cpu_words.specs.Sums.{lead}
 
 -- what a task has to do with the flag that bars a gate

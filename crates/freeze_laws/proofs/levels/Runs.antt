@@ -1,6 +1,7 @@
 -- each step of a level keeps what is right of it
-use Rattle.{cpu_words.specs.Touches.wrap_add, std.proofs.Common.{Option, arith, subst, suc, sym, zero, ℕ, ◌-◌, ◌<◌, ◌≡◌, ◌≤◌}}
-use Rattle.{finite_sums.specs.Sums.update, percpu_rwsem.specs.{Graces.{looked, started}, declared.sync_word.GpState.GpState}}
+use Rattle.std.proofs.Common.{Option, arith, subst, suc, sym, zero, ℕ, ◌-◌, ◌<◌, ◌≡◌, ◌≤◌}
+use Rattle.{cpu_words.specs.Touches.wrap_add, finite_sums.specs.Sums.update}
+use Rattle.percpu_rwsem.specs.{Graces.{looked, started}, declared.sync_word.GpState.GpState}
 use Rattle.freeze_laws.specs.levels.Changes.{claims, role_found, state_found, waits}
 use Rattle.freeze_laws.specs.levels.Events.{AddsFast, Calls, Claims, Enters, Exits, FindsIdle, Freezes, Happens, Looks, LooksClaimed, Opens, Passes}
 use Rattle.freeze_laws.specs.levels.Events.{Stays, Swaps, SyncEvent, SyncLevel, SyncLevelHolds, SyncRun, SyncStep, Thaws, TurnsSection}

@@ -1,5 +1,6 @@
 -- Each step keeps what holds of the stage and of the marks.
-use Rattle.{finite_sums.specs.Sums.{total, update}, std.proofs.Common.{None, Some, arith, false, refl, subst, suc, sym, true, ℕ, ◌+◌, ◌<◌, ◌≡◌, ◌≤◌}}
+use Rattle.std.proofs.Common.{None, Some, arith, false, refl, subst, suc, sym, true, ℕ, ◌+◌, ◌<◌, ◌≡◌, ◌≤◌}
+use Rattle.finite_sums.specs.Sums.{total, update}
 use Rattle.freeze_laws.proofs.stages.{MarkLaws.{cleared_anew, marked, washed}, StageLaws.{advances, begins, clears_block, clears_remount, completes}}
 use Rattle.freeze_laws.proofs.stages.StageLaws.{fails, freezes_at_once, gives_up, releases_open, relied_on, sets_block, sets_read_only, sets_remount}
 use Rattle.freeze_laws.proofs.stages.StageLaws.{sets_writable, thaws, thaws_at_once, turns, turns_block, unblocks}

@@ -1,5 +1,6 @@
 -- One level from step to step, and runs of it.
-use Rattle.{cpu_words.specs.Touches.wrap_add, finite_sums.specs.Sums.{total, update}, std.specs.Prelude.{Some, suc, ℕ, ◌+◌, ◌-◌, ◌<◌, ◌≡◌}}
+use Rattle.std.specs.Prelude.{Some, suc, ℕ, ◌+◌, ◌-◌, ◌<◌, ◌≡◌}
+use Rattle.{cpu_words.specs.Touches.wrap_add, finite_sums.specs.Sums.{total, update}}
 use Rattle.percpu_rwsem.specs.{Graces.{looked, started}, SyncWords.{on_callback, on_claim, on_enter, on_exit}, declared.grace.Grace.Grace}
 use Rattle.percpu_rwsem.specs.declared.sync_word.GpState.TheVariants.{Idle}
 use Rattle.freeze_laws.specs.levels.{Changes.{claims, role_found, state_found, transition, waits}, Roles.{Claimed, Closed, Entered, Fast, Out, Past}}

@@ -1,5 +1,6 @@
 -- The transitions that phases make, by a load and a compare-exchange, as transitions of the number that is in memory.
-use Rattle.{cpu_words.specs.Touches.left, std.specs.Prelude.{None, Option, Some, ℕ, ◌≡◌}}
+use Rattle.std.specs.Prelude.{None, Option, Some, ℕ, ◌≡◌}
+use Rattle.cpu_words.specs.Touches.{left}
 use Rattle.percpu_rwsem.specs.{SyncWords.IsLawful, Transitions.{transition_after, transition_next}, declared.sync_word.SyncWord.SyncWord}
 use Rattle.percpu_rwsem.specs.declared.transitions.Transition.{TheVariants.{Exchanges, Loads}, Transition}
 use Rattle.percpu_rwsem.specs.declared.transitions.TransitionNext.{TheVariants.{Made, More, Undefined}, TransitionNext}

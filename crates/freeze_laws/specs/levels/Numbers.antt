@@ -1,6 +1,6 @@
 -- The transitions of a sync word as the number that it is in memory.
-use Rattle.{finite_sums.specs.Sums.total, std.specs.Prelude.{Option, Some, ℕ, ◌+◌, ◌<◌, ◌≡◌}}
-use Rattle.percpu_rwsem.specs.{SyncWords.{on_callback, on_enter, on_exit}, declared.sync_word.SyncWord.SyncWord}
+use Rattle.std.specs.Prelude.{Option, Some, ℕ, ◌+◌, ◌<◌, ◌≡◌}
+use Rattle.{finite_sums.specs.Sums.total, percpu_rwsem.specs.{SyncWords.{on_callback, on_enter, on_exit}, declared.sync_word.SyncWord.SyncWord}}
 use Rattle.freeze_laws.specs.levels.{Changes.transition, Roles.{Entered, Past, Ready, SyncNumberHolds, SyncRole, entered}}
 
 -- the transition that a loaded word asks for is defined

@@ -1,5 +1,6 @@
 -- The operations at a level as steps of it: what a task is doing there before each step, and what the step leaves.
-use Rattle.{access_model.specs.declared.replies.Next.{Next, TheVariants.{Done, Go, Wait}}, std.specs.Prelude.{ℕ, ◌+◌, ◌<◌, ◌≡◌}}
+use Rattle.std.specs.Prelude.{ℕ, ◌+◌, ◌<◌, ◌≡◌}
+use Rattle.access_model.specs.declared.replies.Next.{Next, TheVariants.{Done, Go, Wait}}
 use Rattle.cpu_words.specs.{Touches.{found_by, left}, declared.{events.Touch.Touch, names.WordName.{TheVariants.{Block, Section, Sync}, WordName}}}
 use Rattle.finite_sums.specs.Sums.{total, update}
 use Rattle.percpu_rwsem.specs.{Callbacks.{callback_after, callback_next}, Readers.{down_read_after, down_read_next}, SyncWords.on_callback}

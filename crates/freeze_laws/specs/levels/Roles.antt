@@ -1,5 +1,6 @@
 -- One level without its counts: its sync word, its block and the sections, and what each task is doing there.
-use Rattle.{finite_sums.specs.Sums.total, std.specs.Prelude.{None, Option, Some, true, ℕ, ◌%◌, ◌+◌, ◌<◌, ◌≡◌, ◌≤◌}}
+use Rattle.std.specs.Prelude.{None, Option, Some, true, ℕ, ◌%◌, ◌+◌, ◌<◌, ◌≡◌, ◌≤◌}
+use Rattle.finite_sums.specs.Sums.{total}
 use Rattle.percpu_rwsem.specs.{SyncWords.{bit, is_lawful, unpack}, declared.{grace.Grace.Grace, sync_word.GpState.GpState}}
 use Rattle.percpu_rwsem.specs.declared.sync_word.{GpState.TheVariants.{Enter, Idle}, SyncWord.SyncWord}
 

@@ -1,5 +1,6 @@
 -- The laws of the holders.
-use Rattle.{access_model.specs.{Holders.is_unheld, declared.actions.Holders.Holders}, std.specs.Prelude.{false, ℕ, ◌<◌, ◌≡◌}}
+use Rattle.std.specs.Prelude.{false, ℕ, ◌<◌, ◌≡◌}
+use Rattle.access_model.specs.{Holders.is_unheld, declared.actions.Holders.Holders}
 use Rattle.freeze_levels.specs.{Holders.holders_in, holder_laws.{Events.{Happens, HolderEvent, HolderMoment, HoldsAt}, Roles.{Apart, Found, between}}}
 
 -- nothing is frozen, and everybody is apart

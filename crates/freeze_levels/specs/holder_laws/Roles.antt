@@ -1,6 +1,6 @@
 -- Who holds a freeze: the word of the holders beside the stage, and what each task is doing with it.
-use Rattle.{access_model.specs.declared.actions.Holders.Holders, std.specs.Prelude.{if◌then◌else◌, ℕ, ◌+◌, ◌<◌, ◌==◌, ◌≡◌, ◌≤◌}}
-use Rattle.finite_sums.specs.Sums.{total}
+use Rattle.std.specs.Prelude.{if◌then◌else◌, ℕ, ◌+◌, ◌<◌, ◌==◌, ◌≡◌, ◌≤◌}
+use Rattle.{access_model.specs.declared.actions.Holders.Holders, finite_sums.specs.Sums.total}
 use Rattle.freeze_levels.specs.Holders.{holders_in, word_of}
 
 -- What a task is doing with the holders. All but who is apart own `umount`.

@@ -4,7 +4,8 @@ use Rattle.gate_schedules.proofs.Prelude.{HookAnswer, IsGood, IsWithin, IsWord, 
 use Rattle.gate_schedules.proofs.Prelude.{Traced, WordName, World, actions_of, after_of, after_step, all_counted, arith, extents_of, false, file_of}
 use Rattle.gate_schedules.proofs.Prelude.{first_phase, found_at, held_after, held_of, holdings_of, level_in, most_events, next_of, no_roles}
 use Rattle.gate_schedules.proofs.Prelude.{phase_after, roles_of, true, ℕ, ◌+◌, ◌-◌, ◌<◌, ◌∷◌, ◌≡◌, ◌≤◌}
-use Rattle.{cpu_words.specs.Names.Extents, std.proofs.Common.◌++◌}
+use Rattle.std.proofs.Common.{◌++◌}
+use Rattle.cpu_words.specs.Names.{Extents}
 use Rattle.gate_world.specs.{Beginnings.{is_in_order, is_in_range, is_within_room}, Configs.extents_among, Moments.CompletesNow}
 use Rattle.gate_world.specs.refusals.Causes.{all_inside}
 use Rattle.gate_schedules.proofs.traces.TraceInvariant.{TraceLaws}

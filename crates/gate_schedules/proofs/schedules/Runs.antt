@@ -1,7 +1,7 @@
 -- Executions, transition by transition.
 use Rattle.gate_schedules.proofs.Prelude.{Action, Config, Entry, List, Option, World, [], ap, arith, happens, refl, run, sym, ℕ, ◌∙◌, ◌∷◌, ◌≡◌}
-use Rattle.{access_model.specs.Histories.Done, std.proofs.Common.{append_assoc, ◌++◌}}
-use Rattle.gate_world.specs.Worlds.{action_of, history, task_of, with_action}
+use Rattle.std.proofs.Common.{append_assoc, ◌++◌}
+use Rattle.{access_model.specs.Histories.Done, gate_world.specs.Worlds.{action_of, history, task_of, with_action}}
 
 pub run_more : (c : Config) (w : World) (es : List Entry) (e : Entry) → run c w (es ++ e ∷ []) ≡ happens c (run c w es) e
 run_more c w [] e = refl

@@ -6,7 +6,8 @@ use Rattle.gate_schedules.proofs.Prelude.{each_updated, eqb_tells, false, file_o
 use Rattle.gate_schedules.proofs.Prelude.{level_role_of, ltb-true, model_limits, nat_lt, one_if, openers, opens_in, owns, phase_action, refl, role_of}
 use Rattle.gate_schedules.proofs.Prelude.{run, shown, step_of, sym, total, total_bound, total_none, tree_bounds, tree_role_of, true≢false, update, ℕ}
 use Rattle.gate_schedules.proofs.Prelude.{◌%◌, ◌*◌, ◌<◌, ◌∙◌, ◌∷◌, ◌≡◌, ◌≤◌}
-use Rattle.{access_model.specs.{Histories.{Done, IsLegal, end_of}, States.{most_tasks, opening_state}}, std.proofs.Math.Path.fun_ext}
+use Rattle.std.proofs.Math.Path.{fun_ext}
+use Rattle.access_model.specs.{Histories.{Done, IsLegal, end_of}, States.{most_tasks, opening_state}}
 use Rattle.cpu_words.proofs.gate_counts.{Events.words_sum, Flags.gate_begins, Numbers.below_le}
 use Rattle.cpu_words.specs.gate_counts.{Gates.{below, counted as counted_of}, Levels.{level_as_gate, processor_of as level_processor}}
 use Rattle.finite_sums.proofs.Totals.{total_same}

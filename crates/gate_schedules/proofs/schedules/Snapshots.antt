@@ -3,8 +3,9 @@ use Rattle.gate_schedules.proofs.Prelude.{Action, Config, Entry, GateError, Hook
 use Rattle.gate_schedules.proofs.Prelude.{Phase, Some, State, Steps, View, World, [], ap, arith, begin_of, cases_Bool, each_updated, found_at}
 use Rattle.gate_schedules.proofs.Prelude.{happens, inl, inr, length, ltb-true, model_limits, nat_lt, phase_action, refl, run, shown, step_of, subst}
 use Rattle.gate_schedules.proofs.Prelude.{sym, value_at, ℕ, ◌<◌, ◌∙◌, ◌∷◌, ◌≡◌}
-use Rattle.{access_model.specs.{Histories.{Done, IsLegal, IsMerge, end_of, own_part}, States.size_of}, std.proofs.Common.slice_index}
-use Rattle.{finite_sums.proofs.Totals.total_same, freeze_laws.{proofs.moments.Moments.{is_now, stays}, specs.moments.Moments.HaveDone}}
+use Rattle.std.proofs.Common.{slice_index}
+use Rattle.{access_model.specs.{Histories.{Done, IsLegal, IsMerge, end_of, own_part}, States.size_of}, finite_sums.proofs.Totals.total_same}
+use Rattle.freeze_laws.{proofs.moments.Moments.{is_now, stays}, specs.moments.Moments.HaveDone}
 use Rattle.gate_world.specs.{Beginnings.view_refusal, Headline.FrozenTreeIsWhole, Moments.{AllHaveMoments, CompletesNow, HasMoment, IsPresentTree}}
 use Rattle.gate_world.specs.{Views.view_after_with_others, Worlds.{action_of, after_step_with_others, history, task_of, with_action}}
 use Rattle.gate_world.specs.{declared.{entries.Entry.TheVariants.Begins, views.Snapshot.Snapshot}, traces.Snapshots.{completes, last_snapshot}}

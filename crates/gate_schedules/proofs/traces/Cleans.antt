@@ -1,6 +1,7 @@
 -- The marks that a trace has cleared are nothing that a task holds.
 use Rattle.gate_schedules.proofs.Prelude.{Action, List, Touch, Traced, WordName, [], arith, holdings_of, ℕ, ◌∷◌, ◌≡◌}
-use Rattle.{gate_world.specs.traces.Found.{clean_found, cleans}, std.proofs.Common.◌++◌}
+use Rattle.std.proofs.Common.{◌++◌}
+use Rattle.gate_world.specs.traces.Found.{clean_found, cleans}
 
 -- these actions leave what the task holds as it was
 abbrev pub LeaveAccesses : List Action → List Action → Type 0

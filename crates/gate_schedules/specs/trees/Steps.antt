@@ -1,5 +1,6 @@
 -- One step of a call, among all words.
-use Rattle.{access_model.specs.declared.actions.Action.Action, std.specs.Prelude.{Bool, Option, false, suc, true, ℕ, ◌+◌, ◌<◌, ◌≡◌}}
+use Rattle.std.specs.Prelude.{Bool, Option, false, suc, true, ℕ, ◌+◌, ◌<◌, ◌≡◌}
+use Rattle.access_model.specs.declared.actions.Action.{Action}
 use Rattle.cpu_words.specs.{Hooks.HookAnswer, Touches.{found_by, left}, Words.{Words, put, read}, declared.events.Touch.Touch}
 use Rattle.cpu_words.specs.declared.names.WordName.{WordName}
 use Rattle.finite_sums.specs.Sums.{update}

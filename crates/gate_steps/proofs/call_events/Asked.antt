@@ -2,7 +2,8 @@
 use Rattle.gate_steps.proofs.Prelude.{Action, Ask, Bool, Called, Config, DealtNumbers, Done, GateError, Go, HookAnswer, List, Next, Op, Phase, Reply}
 use Rattle.gate_steps.proofs.Prelude.{Result, SeatedTask, Traced, Wait, [], actions_after, actions_of, after_of, asks_of, asks_with, call_at}
 use Rattle.gate_steps.proofs.Prelude.{first_phase, own_number, state_of_trace, subst, ℕ, ◌∷◌}
-use Rattle.{gate_world.specs.traces.TraceStates.trace_state_after, std.proofs.Common.{false, if◌then◌else◌, true}}
+use Rattle.std.proofs.Common.{false, if◌then◌else◌, true}
+use Rattle.gate_world.specs.traces.TraceStates.{trace_state_after}
 use Rattle.gate_steps.specs.call_events.{Asking.next_call, Runs.items_at}
 
 -- what comes next, whichever of two it is

@@ -3,7 +3,8 @@ use Rattle.gate_steps.proofs.Prelude.{Accesses, Action, Bool, Config, DealtNumbe
 use Rattle.gate_steps.proofs.Prelude.{Op, Option, Phase, SeatedTask, Some, Stepped, Touch, View, WordName, after_of, ap, arith, done_by, entered}
 use Rattle.gate_steps.proofs.Prelude.{event_of, found_by, held_of, items_after, knows, next_of, numbered, phase_after, progress_of, refl, subst, sym}
 use Rattle.gate_steps.proofs.Prelude.{view_after_with_others, ℕ, ◌∙◌, ◌≡◌}
-use Rattle.{atomic_table.specs.Seated.TableId, std.proofs.lemmas.Grind.common_steps}
+use Rattle.std.proofs.lemmas.Grind.{common_steps}
+use Rattle.atomic_table.specs.Seated.{TableId}
 use Rattle.gate_schedules.proofs.frames.{Accesses.{agree_after, deep_after, holdings_of_after, long_after, wide_after}, Agreeing.agree_sym}
 use Rattle.gate_schedules.proofs.schedules.Phases.{action_fits, fits_after, fits_agree}
 use Rattle.gate_transitions.specs.{TaskStates.task_holdings, declared.{steps.Progress.Progress, task_states.TaskState.TaskState}}

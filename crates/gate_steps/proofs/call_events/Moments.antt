@@ -1,8 +1,8 @@
 -- The states of a schedule that goes on, and the transitions of one number in it.
 use Rattle.gate_steps.proofs.Prelude.{Config, Entry, List, None, NoneOf, Phase, Some, View, World, [], ap, append-nil, append_assoc, arith, happens}
 use Rattle.gate_steps.proofs.Prelude.{inl, inr, opening, refl, run, subst, sym, world_after, ℕ, ◌++◌, ◌∙◌, ◌∷◌, ◌≡◌}
-use Rattle.{access_model.specs.Histories.Done, std.proofs.lemmas.Bool.Decides.eqb_tells}
-use Rattle.gate_schedules.proofs.schedules.{Entries.begun_on, Runs.{history_on, run_more}}
+use Rattle.std.proofs.lemmas.Bool.Decides.{eqb_tells}
+use Rattle.{access_model.specs.Histories.Done, gate_schedules.proofs.schedules.{Entries.begun_on, Runs.{history_on, run_more}}}
 use Rattle.gate_world.specs.{Headline.{actions_since, actions_so_far}, Worlds.{history, task_of}, refusals.Causes.{since_begun, trail, trail_of}}
 use Rattle.gate_steps.specs.call_events.Spans.{own_entries}
 

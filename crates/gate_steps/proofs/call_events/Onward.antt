@@ -2,7 +2,8 @@
 use Rattle.gate_steps.proofs.Prelude.{Accesses, Action, Bool, Called, Config, DealtNumbers, Done, Event, GateError, Go, HookAnswer, IsWithin}
 use Rattle.gate_steps.proofs.Prelude.{Knowledge, List, Next, None, Op, Option, Phase, Reply, Result, SeatedTask, Some, Stepped, Wait, ap, arith}
 use Rattle.gate_steps.proofs.Prelude.{map_next, phase_after, progress_of, subst, ℕ, ◌<◌, ◌≡◌}
-use Rattle.{atomic_table.specs.Seated.TableId, gate_transitions.specs.declared.steps.Progress.TheVariants.Done as Ended, std.proofs.Common.◌⊎◌}
+use Rattle.std.proofs.Common.{◌⊎◌}
+use Rattle.{atomic_table.specs.Seated.TableId, gate_transitions.specs.declared.steps.Progress.TheVariants.Done as Ended}
 use Rattle.gate_steps.{proofs.call_events.{Running.{events_left, falls}, Turning.went_so}, specs.call_events.GhostAgrees.GhostAgrees}
 use Rattle.gate_steps.specs.call_events.{Runs.{IsTrying, OpAfterStep, OpUnderWay}, SeatedTasks.task_state, Turns.{state_at, step_was}}
 

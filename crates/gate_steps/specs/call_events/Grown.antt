@@ -1,5 +1,6 @@
 -- Each later schedule goes on from each earlier one.
-use Rattle.{gate_world.specs.declared.entries.Entry.Entry, std.specs.Prelude.{List, ℕ, ◌≡◌}}
+use Rattle.std.specs.Prelude.{List, ℕ, ◌≡◌}
+use Rattle.gate_world.specs.declared.entries.Entry.{Entry}
 use Rattle.gate_steps.specs.Seating.{IsPrefix}
 use lib.ListN.{get_elem?}
 use mathlib.Core.Option.{some}

@@ -1,6 +1,7 @@
 -- Where an operation stands, and where lines of steps lead it.
-use Rattle.{access_model.specs.declared.replies.Next.Next, atomic_table.specs.declared.Seat.Seat, std.specs.Prelude.{List, None, Option, ℕ, ◌≡◌}}
-use Rattle.{cpu_words.specs.Hooks.HookAnswer, freeze_levels.specs.declared.hooks.HookCall.HookCall}
+use Rattle.std.specs.Prelude.{List, None, Option, ℕ, ◌≡◌}
+use Rattle.{access_model.specs.declared.replies.Next.Next, atomic_table.specs.declared.Seat.Seat, cpu_words.specs.Hooks.HookAnswer}
+use Rattle.freeze_levels.specs.declared.hooks.HookCall.{HookCall}
 use Rattle.gate_world.specs.{Views.phase_after, declared.{accesses.Accesses.Accesses, operations.Op.Op, work.Phase.Phase}}
 use Rattle.gate_steps.specs.{Seating.DealtNumbers, call_events.Asking.{Ask, OpAfterStepAsking, OpAfterStepWith}}
 use Rattle.gate_steps.specs.call_events.{SeatedTasks.{SeatedTask, task_state}, Turns.{AgreesAfter, StateAgrees}}

@@ -1,5 +1,6 @@
 -- What one step of a task is.
-use Rattle.{cpu_words.specs.{Hooks.HookAnswer, Touches.{event_of, found_by}}, std.specs.Prelude.{List, None, Option, Some, [], ℕ, ◌∷◌, ◌≡◌}}
+use Rattle.std.specs.Prelude.{List, None, Option, Some, [], ℕ, ◌∷◌, ◌≡◌}
+use Rattle.cpu_words.specs.{Hooks.HookAnswer, Touches.{event_of, found_by}}
 use Rattle.gate_transitions.specs.{Answers.{phase_step, progress_of}, declared.steps.Step.Step}
 use Rattle.gate_world.specs.{Views.phase_after, Work.{after_of, next_of}, declared.{config.Config.Config, entries.Entry.Entry, operations.Op.Op}}
 use Rattle.gate_world.specs.declared.work.Phase.{Phase}

@@ -5,7 +5,8 @@ use Rattle.progress_laws.proofs.Prelude.{after_step, ap, arith, at_freeze, cases
 use Rattle.progress_laws.proofs.Prelude.{freeze_left, freeze_tries, freeze_waits, happens, held_of, if◌then◌else◌, inl, inr, map_next, must_wait, not}
 use Rattle.progress_laws.proofs.Prelude.{phase_after, refl, stands_after, subst, suc, sym, total_at, true, true≢false, words_after, zero, ℕ, ◌*◌, ◌+◌}
 use Rattle.progress_laws.proofs.Prelude.{◌<◌, ◌==◌, ◌∙◌, ◌≡◌, ◌≤◌, ◌⊎◌}
-use Rattle.{access_model.specs.declared.replies.Reply.Reply, std.proofs.{Common.Result, Math.Nat.le-max_right, lemmas.Bool.ne_eqb}}
+use Rattle.std.proofs.{Common.Result, Math.Nat.le-max_right, lemmas.Bool.ne_eqb}
+use Rattle.access_model.specs.declared.replies.Reply.{Reply}
 use Rattle.freeze_laws.{proofs.stages.Facts.other_zero, specs.stages.Roles.{KnowsStage, freezes, under_way}}
 use Rattle.gate_schedules.{proofs.operations.deadlocks.BlockedOrProgress.first_is, specs.operations.{Progress.is_first_lock, Ranks.most_alone}}
 use Rattle.gate_world.specs.{Roles.{freeze_stage_role, reopening_role}, Rules.{Stages, stage_role_of, stage_roles}}

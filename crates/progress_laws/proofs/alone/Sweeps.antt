@@ -4,7 +4,8 @@ use Rattle.progress_laws.proofs.Prelude.{PhaseFits, Some, SyncAt, SyncHoldsIn, T
 use Rattle.progress_laws.proofs.Prelude.{arith, cases_Bool, eq-eqb, eqb_tells, false, fits_at, found_at, held_of, if◌then◌else◌, inl, inr, map_next}
 use Rattle.progress_laws.proofs.Prelude.{must_wait, phase_after, refl, stands_after, subst, suc, sym, sync_role_of, total, total_at, total_le}
 use Rattle.progress_laws.proofs.Prelude.{transition_after, true, words_after, zero, ℕ, ◌*◌, ◌+◌, ◌-◌, ◌<◌, ◌∙◌, ◌≡◌, ◌≤◌}
-use Rattle.{finite_sums.proofs.Totals.{total_add, total_bound}, std.proofs.Math.Nat.suc-mul}
+use Rattle.std.proofs.Math.Nat.{suc-mul}
+use Rattle.finite_sums.proofs.Totals.{total_add, total_bound}
 use Rattle.{freeze_laws.specs.{levels.{Operations.callback_role, Roles.claimed as has_claimed}, stages.Roles.bit}, gate_world.specs.Fits.GraceFits}
 use Rattle.percpu_rwsem.specs.{Callbacks.{at_callback, claimed}, SyncWords.{bit as taken_bit, on_claim}}
 use Rattle.progress_laws.proofs.alone.{Alone.{HasRoom, step_alone}, RunAlone.{Makes, NoneGoes, Stopped, and_then, no_nearer, runs, some_or_none}}

@@ -6,8 +6,9 @@ use Rattle.progress_laws.proofs.Prelude.{SnapshotStep, Some, SyncAt, SyncHoldsIn
 use Rattle.progress_laws.proofs.Prelude.{arith, at_level, callback_waits, cases_Bool, closed, closing_waits, eqb_tells, false, fits_at, freeze_waits}
 use Rattle.progress_laws.proofs.Prelude.{has_flag, held_of, inl, inr, level_as_gate, must_wait, not, owns, refl, start_waits, sym, sync_role_of}
 use Rattle.progress_laws.proofs.Prelude.{thaw_waits, total, true, true≢false, ℕ, ◌<◌, ◌==◌, ◌∙◌, ◌≡◌, ◌≤◌, ◌⊎◌}
-use Rattle.{cpu_words.{proofs.gate_counts.Events.words_sum, specs.gate_counts.Gates.counted}, std.proofs.{Common.◌%◌, lemmas.Bool.and_parts}}
-use Rattle.{finite_sums.proofs.Totals.{HasPlace, total_place}, freeze_laws.specs.levels.Roles.SyncRole}
+use Rattle.std.proofs.{Common.◌%◌, lemmas.Bool.and_parts}
+use Rattle.{cpu_words.{proofs.gate_counts.Events.words_sum, specs.gate_counts.Gates.counted}, finite_sums.proofs.Totals.{HasPlace, total_place}}
+use Rattle.freeze_laws.specs.levels.Roles.{SyncRole}
 use Rattle.gate_schedules.proofs.{frames.Owners.{hold_owns, owns_le, who_holds}, operations.deadlocks.WhoCanStep.{HasOwner, has_owner}}
 use Rattle.gate_world.specs.{Fits.GraceFits, Levels.inside, Rules.{AtMount, LevelHoldsIn, Sections, role_of}}
 use Rattle.mount_counts.{proofs.laws.Bits.hold_set, specs.Roles.has_hold}

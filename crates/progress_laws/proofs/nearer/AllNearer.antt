@@ -4,7 +4,8 @@ use Rattle.progress_laws.proofs.Prelude.{Holdings, HookAnswer, IsWithin, Next, P
 use Rattle.progress_laws.proofs.Prelude.{Words, WritePhase, after_of, arith, cases_Bool, closing_left, common_steps, exchange_rank, freeze_left}
 use Rattle.progress_laws.proofs.Prelude.{freeze_tries, inl, inr, is_outside, map_next, must_wait, opening_left, start_steps, steps_left, subst, sym}
 use Rattle.progress_laws.proofs.Prelude.{tries_left, true, ℕ, ◌*◌, ◌+◌, ◌==◌, ◌≡◌, ◌≤◌}
-use Rattle.{access_model.specs.declared.actions.Holder.Holder, std.proofs.Math.Nat.{le-max_left, le-max_right}}
+use Rattle.std.proofs.Math.Nat.{le-max_left, le-max_right}
+use Rattle.access_model.specs.declared.actions.Holder.{Holder}
 use Rattle.composite_ops.specs.{file_closes.Phases.after as close_after, write_access.Phases.after as write_after}
 use Rattle.gate_schedules.{proofs.operations.deadlocks.Bounds.rank_small, specs.operations.Ranks.most_alone}
 use Rattle.{gate_world.specs.Fits.{GraceFits, ThawFits}, mount_counts.specs.Ranks.want_rank}

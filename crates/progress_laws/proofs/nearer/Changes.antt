@@ -11,7 +11,8 @@ use Rattle.progress_laws.proofs.Prelude.{freeze_after, freeze_left, freeze_next,
 use Rattle.progress_laws.proofs.Prelude.{load_same, looked, map_next, must_wait, nat_lt, opening_left, opening_tries, read, refl, sections_awaited}
 use Rattle.progress_laws.proofs.Prelude.{start_steps, steps_left, subst, suc, sym, sync_role_of, thaw_after, thaw_waits, transition_after, tries_left}
 use Rattle.progress_laws.proofs.Prelude.{true, true≢false, words_after, ℕ, ◌*◌, ◌+◌, ◌-◌, ◌<◌, ◌==◌, ◌∙◌, ◌≡◌, ◌≤◌, ◌⊎◌}
-use Rattle.{access_model.specs.{Holders.{held_by, is_unheld, with_holder}, declared.actions.Action.Action}, std.proofs.Math.Nat.suc-mul}
+use Rattle.std.proofs.Math.Nat.{suc-mul}
+use Rattle.access_model.specs.{Holders.{held_by, is_unheld, with_holder}, declared.actions.Action.Action}
 use Rattle.composite_ops.specs.file_closes.Phases.{after as close_after, next as close_next, then_frees}
 use Rattle.composite_ops.specs.write_access.Phases.{after as write_after, next as write_next, then_gives_back, then_wants}
 use Rattle.cpu_words.specs.{Sums.sum_taking, Words.put, declared.{events.Touch.Touch, sums.Taken.Taken}}

@@ -5,7 +5,8 @@ use Rattle.progress_laws.proofs.Prelude.{IsGood, IsWithin, MountPhase, Option, P
 use Rattle.progress_laws.proofs.Prelude.{Words, World, WritePhase, ap, arith, at_freeze, at_level, cases_Bool, false, fits_at, freeze_owns}
 use Rattle.progress_laws.proofs.Prelude.{freeze_waits, held_of, if◌then◌else◌, inl, inr, level_as_gate, must_wait, nat_lt, owns, refl, start_waits}
 use Rattle.progress_laws.proofs.Prelude.{subst, sym, thaw_waits, true, true≢false, turns_left, ℕ, ◌<◌, ◌∙◌, ◌≡◌, ◌≤◌}
-use Rattle.{cpu_words.specs.gate_counts.{Gates.{below, counted, unread}, Levels.processor_of}, std.proofs.lemmas.Bool.ltb-true}
+use Rattle.std.proofs.lemmas.Bool.{ltb-true}
+use Rattle.cpu_words.specs.gate_counts.{Gates.{below, counted, unread}, Levels.processor_of}
 use Rattle.gate_schedules.proofs.{levels.Counts.held_bit, operations.deadlocks.WhoCanStep.{holds_below, holds_not_none, open_above}}
 use Rattle.gate_schedules.specs.operations.Progress.{AllAreBlocked, BlockedIfFreeze, ChangeIsBlocked, FreezeIsBlocked, HeldLevelAhead, IsBlockedAt}
 use Rattle.gate_schedules.specs.operations.Progress.{IsHeldIdle, LockIsBlocked, RemountIsBlocked, SnapshotIsBlocked, StartIsBlocked, ThawIsBlocked}

@@ -2,8 +2,8 @@
 use Rattle.progress_laws.proofs.Prelude.{Begins, Bool, Config, Entry, HookAnswer, IsGood, IsWithin, KeepWaiting, List, None, Option, Phase, Some}
 use Rattle.progress_laws.proofs.Prelude.{Steps, World, [], after_step, ap, arith, false, happens, happens_is, hook_of, inl, inr, is_outside, refl}
 use Rattle.progress_laws.proofs.Prelude.{run, subst, sym, true, ℕ, ◌<◌, ◌∙◌, ◌∷◌, ◌≡◌, ◌≤◌, ◌⊎◌}
-use Rattle.{gate_schedules.proofs.schedules.Schedule.happens_keeps, std.proofs.{Common.{length, ◌++◌}, lemmas.Bool.{cases_lt, le-ltb, lt-ltb}}}
-use Rattle.gate_world.specs.Worlds.{step_of, task_of}
+use Rattle.std.proofs.{Common.{length, ◌++◌}, lemmas.Bool.{cases_lt, le-ltb, lt-ltb}}
+use Rattle.{gate_schedules.proofs.schedules.Schedule.happens_keeps, gate_world.specs.Worlds.{step_of, task_of}}
 use Rattle.progress_laws.specs.Answers.{AllAnswerSo, AnswersSo, RoundsAnswerSo}
 use Rattle.progress_laws.specs.FairRounds.{AreRounds, IsRound, IsServed, MayAllStep, MayStep, rests_at, run_all}
 

@@ -2,7 +2,8 @@
 use Rattle.progress_laws.proofs.Prelude.{AllWait, Begins, Bool, Config, Entry, HookAnswer, IsGood, IsWithin, List, None, Option, Phase, Some, Steps}
 use Rattle.progress_laws.proofs.Prelude.{Words, World, [], after_step, ap, arith, cases_Bool, eqb_tells, false, happens, inl, inr, is_outside, refl}
 use Rattle.progress_laws.proofs.Prelude.{run, subst, suc, sym, true, true≢false, turns_left, zero, ℕ, ◌<◌, ◌∙◌, ◌∷◌, ◌≡◌, ◌⊎◌}
-use Rattle.{gate_schedules.specs.operations.Progress.IsUnderWay, std.proofs.Common.◌++◌}
+use Rattle.std.proofs.Common.{◌++◌}
+use Rattle.gate_schedules.specs.operations.Progress.{IsUnderWay}
 use Rattle.progress_laws.proofs.nearer.{AllNearer.outside_waits, Nearer.{on_waits, patient_waits, waits_on}}
 use Rattle.progress_laws.proofs.rounds.Measured.{IsStep, Keeps, Measures, after_good, by_entry, rounds_once, rounds_settle, run_keeps}
 use Rattle.progress_laws.proofs.rounds.Settling.{IsRoomy, next_roomy, others_same, step_falls, step_same, step_stays, waits_at, waits_of}

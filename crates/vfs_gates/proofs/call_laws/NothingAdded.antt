@@ -6,7 +6,8 @@ use Rattle.vfs_gates.proofs.Prelude.{append_cancel_right, arith, at_snapshot, ca
 use Rattle.vfs_gates.proofs.Prelude.{has_flag, held_of, inl, inr, is_load, is_some, next_of, not, own_actions, phase_after, read, refl, shown}
 use Rattle.vfs_gates.proofs.Prelude.{state_of_trace, subst, suc, sym, trace_state_after, true, unpacked, whole_rule, world_after, ℕ, ◌&&◌, ◌+◌, ◌<◌}
 use Rattle.vfs_gates.proofs.Prelude.{◌==◌, ◌∙◌, ◌∷◌, ◌≡◌, ◌⊎◌}
-use Rattle.{access_model.specs.declared.replies.Reply.TheVariants.Ran, std.proofs.{Common.◌||◌, lemmas.Bool.eq-eqb}}
+use Rattle.std.proofs.{Common.◌||◌, lemmas.Bool.eq-eqb}
+use Rattle.access_model.specs.declared.replies.Reply.TheVariants.{Ran}
 use Rattle.cpu_words.specs.declared.names.WordName.TheVariants.{MountFlags, SbFlags, Sync}
 use Rattle.gate_schedules.proofs.{frames.Owners.no_remount, operations.change.Trace.change, schedules.HeadlineProof.whole_snapshots}
 use Rattle.gate_schedules.proofs.traces.{Moments.or_true, TraceInvariant.event_at}

@@ -1,6 +1,7 @@
 -- A gate is there where its count word is, and its counts are summed.
 use Rattle.vfs_gates.proofs.Prelude.{Config, Gate, IsWithin, Level, Mount, ap, arith, sym, total, ℕ, ◌%◌, ◌+◌, ◌<◌, ◌∙◌, ◌≡◌}
-use Rattle.{cpu_words.specs.Names.IsWord, gate_world.specs.Configs.{extents_kept, extents_of}, std.proofs.Common.add-one}
+use Rattle.std.proofs.Common.{add-one}
+use Rattle.{cpu_words.specs.Names.IsWord, gate_world.specs.Configs.{extents_kept, extents_of}}
 use Rattle.vfs_gates.specs.Sums.{IsGate, count_word}
 
 some_processor : (c : Config) → IsWithin c → 0 < c.processors

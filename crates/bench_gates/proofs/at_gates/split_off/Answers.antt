@@ -1,5 +1,6 @@
 -- Every task comes from the gates.
-use Rattle.{std.proofs.{Common.◌∙◌, lemmas.List.Elements.All-push}, vfs_gates.specs.TaskStates.IsFrom}
+use Rattle.std.proofs.{Common.◌∙◌, lemmas.List.Elements.All-push}
+use Rattle.vfs_gates.specs.TaskStates.{IsFrom}
 use Rattle.bench_gates.proofs.at_gates.split_off.Goals as goal
 
 -- A split leaves its task at the same gates, and the new one comes from them too.

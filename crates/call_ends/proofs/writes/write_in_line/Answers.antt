@@ -1,6 +1,7 @@
 -- a taking and a return go on as what they are
 use Rattle.call_ends.proofs.Prelude.{Go, Led, Op, Phase, Some, Writes, ap, false, led_from, led_to, stands_from, subst, sym, true, ◌∙◌, ◌≡◌}
-use Rattle.{gate_steps.specs.call_events.Led.Stands, std.proofs.Common.Option}
+use Rattle.std.proofs.Common.{Option}
+use Rattle.gate_steps.specs.call_events.Led.{Stands}
 use Rattle.call_ends.{proofs.Begun.{IsFirstWrite, none_else, write_begun}, specs.Paths.{done_or, of_write}}
 use Rattle.call_ends.proofs.writes.write_in_line.Goals as goal
 

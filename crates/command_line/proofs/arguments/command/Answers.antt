@@ -1,4 +1,5 @@
-use Rattle.{clap.specs.{Simple.{app_of_fields, on_top}, Words.App}, std.proofs.Common.{ap, refl, true, ◌∙◌}}
+use Rattle.std.proofs.Common.{ap, refl, true, ◌∙◌}
+use Rattle.clap.specs.{Simple.{app_of_fields, on_top}, Words.App}
 use Rattle.command_line.proofs.Parsing.{commands_all, commands_more, joined}
 use Rattle.command_line.proofs.arguments.command.Goals as goal
 

@@ -1,4 +1,5 @@
-use Rattle.{clap.specs.Words.app_of, std.proofs.Common.{take, ◌≡◌}}
+use Rattle.std.proofs.Common.{take, ◌≡◌}
+use Rattle.clap.specs.Words.{app_of}
 use Rattle.command_line.proofs.Parsing.{no_commands, with_all}
 use Rattle.command_line.proofs.arguments.command.Given as goal
 

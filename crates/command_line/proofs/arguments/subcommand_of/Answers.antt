@@ -1,4 +1,5 @@
-use Rattle.{clap.specs.{Simple.app_of_fields, Words.Rule}, std.proofs.{Common.{List, ap, arith, map, ◌∙◌}, lemmas.List.take_all}}
+use Rattle.std.proofs.{Common.{List, ap, arith, map, ◌∙◌}, lemmas.List.take_all}
+use Rattle.clap.specs.{Simple.app_of_fields, Words.Rule}
 use Rattle.command_line.{proofs.Parsing.{added, rules_more}, specs.CommandLine.{alone, argument_rule, command_of}}
 use Rattle.command_line.specs.declared.arguments.Argument.{Argument}
 use Rattle.command_line.proofs.arguments.subcommand_of.Goals as goal

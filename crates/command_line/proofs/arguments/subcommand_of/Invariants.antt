@@ -1,4 +1,5 @@
-use Rattle.{clap.specs.Words.app_of, std.proofs.Common.{map, take, ◌≡◌}}
+use Rattle.std.proofs.Common.{map, take, ◌≡◌}
+use Rattle.clap.specs.Words.{app_of}
 use Rattle.command_line.specs.CommandLine.{alone, argument_rule, command_of}
 use Rattle.command_line.proofs.arguments.subcommand_of.Given as goal
 

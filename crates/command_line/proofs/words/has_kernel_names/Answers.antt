@@ -1,4 +1,5 @@
-use Rattle.{clap.{proofs.WalkLemmas.first_value-rows, specs.Words.found_of}, std.proofs.Common.{codes, ◌∙◌}}
+use Rattle.std.proofs.Common.{codes, ◌∙◌}
+use Rattle.clap.{proofs.WalkLemmas.first_value-rows, specs.Words.found_of}
 use Rattle.command_line.proofs.words.has_kernel_names.Goals as goal
 
 pub returns-in-Some : goal.returns-in-Some

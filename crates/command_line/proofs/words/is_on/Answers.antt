@@ -1,4 +1,5 @@
-use Rattle.{clap.{proofs.WalkLemmas.one_text-rows, specs.Words.{found_of, one_of, rows_of}}, std.proofs.Common.◌∙◌}
+use Rattle.std.proofs.Common.{◌∙◌}
+use Rattle.clap.{proofs.WalkLemmas.one_text-rows, specs.Words.{found_of, one_of, rows_of}}
 use Rattle.command_line.proofs.Parsing.{off_false}
 use Rattle.command_line.proofs.words.is_on.Goals as goal
 

@@ -1,5 +1,6 @@
 -- a snapshot and a thaw take nothing
-use Rattle.{std.proofs.Common.refl, vfs_gates.proofs.Rounds.rests_after}
+use Rattle.std.proofs.Common.{refl}
+use Rattle.vfs_gates.proofs.Rounds.{rests_after}
 use Rattle.example_backup.proofs.deadline.copy_and_thaw.Goals as goal
 
 pub returns-in_err-thaw-clause-rests : goal.returns-in_err-thaw-clause-rests

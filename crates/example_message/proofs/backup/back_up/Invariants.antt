@@ -1,5 +1,6 @@
 -- The task comes from the gates, and its last copy, if there is one, has every write told.
-use Rattle.{std.proofs.Common.IfSome, vfs_gates.specs.TaskStates.IsFrom}
+use Rattle.std.proofs.Common.{IfSome}
+use Rattle.vfs_gates.specs.TaskStates.{IsFrom}
 use Rattle.example_message.specs.Words.{HasEveryWrite}
 use Rattle.example_message.proofs.backup.back_up.Given as goal
 

@@ -1,5 +1,6 @@
 -- a snapshot that was taken is the task's last one
-use Rattle.{std.proofs.Common.{subst, true}, vfs_gates.{proofs.Taking.took_whole, specs.{Op.TheVariants.Snapshot as SnapshotOp, Runs.Performs}}}
+use Rattle.std.proofs.Common.{subst, true}
+use Rattle.vfs_gates.{proofs.Taking.took_whole, specs.{Op.TheVariants.Snapshot as SnapshotOp, Runs.Performs}}
 use Rattle.example_message.proofs.backup.copy_tree.Goals as goal
 
 pub returns-clause-copied : goal.returns-clause-copied

@@ -1,5 +1,6 @@
 -- The task comes from the gates, and has written at least so often.
-use Rattle.{std.proofs.Common.◌≤◌, vfs_gates.specs.{Held.own_actions, TaskStates.IsFrom}}
+use Rattle.std.proofs.Common.{◌≤◌}
+use Rattle.vfs_gates.specs.{Held.own_actions, TaskStates.IsFrom}
 use Rattle.example_message.specs.Words.{writes_in}
 use Rattle.example_message.proofs.writer.write_and_tell.Given as goal
 

@@ -1,7 +1,8 @@
 -- what the threads did is what their tasks' numbers have in the end
 use Rattle.gate_runs.proofs.Prelude.{Among, Config, Copies, CountsRounds, Err, GateError, Gates, Gives, HasBegun, None, Ok, Option, Plan, Result}
 use Rattle.gate_runs.proofs.Prelude.{SeatedTask, ap, arith, err_from_is_err_and, inl, inr, subst, sym, ℕ, ◌-◌, ◌∙◌, ◌≡◌, ◌≤◌}
-use Rattle.{access_model.specs.declared.errors.GateError.TheVariants.NoMemory, std.proofs.{Common.{slice_index, unwrap_or, ◌*◌}, lemmas.Nat.mul-le}}
+use Rattle.std.proofs.{Common.{slice_index, unwrap_or, ◌*◌}, lemmas.Nat.mul-le}
+use Rattle.access_model.specs.declared.errors.GateError.TheVariants.{NoMemory}
 use Rattle.{cpu_words.specs.{Names.{place, stride}, declared.names.WordName.TheVariants.Used}, gate_world.specs.Configs.IsWithin}
 use Rattle.run_plans.specs.{Plans.{MayRun, run_config}, declared.counts.Details.Details}
 use Rattle.vfs_gates.{proofs.Splitting.{first_begins, gives_all}, specs.Ended.{ClosedState, EndedWith}}

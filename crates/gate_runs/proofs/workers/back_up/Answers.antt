@@ -1,7 +1,8 @@
 -- one round more
 use Rattle.gate_runs.proofs.Prelude.{BackupRound, Copies, CountsRounds, GaveUp, MayFreeze, None, Option, Repeats, SeatedTask, Some, User, ap, arith}
 use Rattle.gate_runs.proofs.Prelude.{subst, sym, ℕ, ◌+◌, ◌<◌, ◌≡◌, ◌≤◌}
-use Rattle.{run_plans.specs.declared.counts.Tried.{TheVariants.{Copied, GaveUp as GivenUp}, Tried}, std.proofs.Common.◌*◌}
+use Rattle.std.proofs.Common.{◌*◌}
+use Rattle.run_plans.specs.declared.counts.Tried.{TheVariants.{Copied, GaveUp as GivenUp}, Tried}
 use Rattle.gate_runs.proofs.{Answering.callbacks_list, GivingUp.never_gives_up, Keeping.{backs_stay, stays_on}, Repeating.one_more}
 use Rattle.gate_runs.specs.{Counts.{no_copies, with_try}, Rounds.Tries}
 use Rattle.gate_runs.proofs.workers.back_up.Goals as goal

@@ -1,6 +1,7 @@
 -- one refusal more, or done
 use Rattle.gate_runs.proofs.Prelude.{Again, Config, Grow, IsRefused, ap, arith, refl, rules, subst, ◌+◌, ◌-◌, ◌∙◌, ◌≡◌}
-use Rattle.{std.proofs.Common.{min, ◌^◌}, vfs_gates.proofs.Resting.some_mount}
+use Rattle.std.proofs.Common.{min, ◌^◌}
+use Rattle.vfs_gates.proofs.Resting.{some_mount}
 use Rattle.gate_runs.proofs.Answering.{grow_begins, grow_refused, inside_by, was_whole}
 use Rattle.gate_runs.proofs.{Keeping.{freezes_none_on, freezes_nothing, refusals_freeze_none}, Repeating.{answered, counted_more, one_more}}
 use Rattle.gate_runs.proofs.workers.grow.Goals as goal

@@ -1,7 +1,8 @@
 -- one round more
 use Rattle.gate_runs.proofs.Prelude.{Config, Does, DropWrite, Err, GateError, HasWriteAccess, Ok, Performs, Rests, Result, SeatedTask, WriterRefused}
 use Rattle.gate_runs.proofs.Prelude.{WriterRound, ap, arith, counted, err_from_is_err_and, subst, sym, ℕ, ◌+◌, ◌-◌, ◌<◌, ◌∙◌, ◌≡◌, ◌≤◌}
-use Rattle.{std.proofs.{Common.◌%◌, lemmas.Nat.mod_below}, vfs_gates.proofs.CallingBack.none_err}
+use Rattle.std.proofs.{Common.◌%◌, lemmas.Nat.mod_below}
+use Rattle.vfs_gates.proofs.CallingBack.{none_err}
 use Rattle.gate_runs.proofs.{Answering.gives_back, Keeping.{freezes_none_on, freezes_nothing, takes_freeze_none, writes_freeze_none}}
 use Rattle.gate_runs.{proofs.Repeating.{one_more, rounds_of_any}, specs.{Counts.no_writes, Rounds.Takes}}
 use Rattle.gate_runs.proofs.workers.write.Goals as goal

@@ -5,7 +5,8 @@ use Rattle.gate_schedules.proofs.Prelude.{Sum, Touch, View, ViewFits, WordName, 
 use Rattle.gate_schedules.proofs.Prelude.{eq-eqb, eqb_tells, false, has_hold, held_of, inl, inr, ltb-false, ltb-true, nat_lt, ne_eqb, owns, refl}
 use Rattle.gate_schedules.proofs.Prelude.{remounts, role_of, shown, subst, suc, sym, taken_by, total, total_at, true, update, view_with, wrap_add, ℕ}
 use Rattle.gate_schedules.proofs.Prelude.{◌+◌, ◌<◌, ◌==◌, ◌∙◌, ◌∷◌, ◌≡◌}
-use Rattle.{gate_world.specs.{Fits.SumFits, Roles.{change_owns, change_role}}, std.proofs.Common.bit_or}
+use Rattle.std.proofs.Common.{bit_or}
+use Rattle.gate_world.specs.{Fits.SumFits, Roles.{change_owns, change_role}}
 use Rattle.mount_counts.proofs.laws.Bits.{IsWithHold, IsWithReadOnly, IsWithoutHold, IsWithoutReadOnly, and_not_hold, and_not_read_only, or_hold}
 use Rattle.mount_counts.proofs.laws.{Bits.{or_read_only, without_hold, without_read_only}, MountLaws.{SeeksNone, clears_hold as mount_clears_hold}}
 use Rattle.mount_counts.proofs.laws.MountLaws.{clears_read_only as mount_clears_read_only, empties, sets_hold as mount_sets_hold}

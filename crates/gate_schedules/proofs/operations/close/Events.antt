@@ -6,7 +6,8 @@ use Rattle.gate_schedules.proofs.Prelude.{file_of, has_open, holds_level, if◌t
 use Rattle.gate_schedules.proofs.Prelude.{openers, opens_in, refl, removal, role_after, subst, sym, total, total_at, total_updated, tree_bounds}
 use Rattle.gate_schedules.proofs.Prelude.{tree_of, tree_role_of, tree_roles, true, turned, update, update_off, word_of, ℕ, ◌&&◌, ◌<◌, ◌==◌, ◌∙◌, ◌≡◌}
 use Rattle.gate_schedules.proofs.Prelude.{◌≤◌}
-use Rattle.{access_model.specs.States.most_tasks, std.proofs.lemmas.Bool.true≢false}
+use Rattle.std.proofs.lemmas.Bool.{true≢false}
+use Rattle.access_model.specs.States.{most_tasks}
 use Rattle.composite_ops.specs.{declared.file_closes.phases.Closing.Closing, file_closes.Phases.{after, closed_from, enters, next}}
 use Rattle.{gate_world.specs.{Fits.MayLower, Roles.close_tree_role}, gated_tree.specs.Roles.{Dropped, IsLastOpen, NobodyElseFrees, Uncounting, frees}}
 use Rattle.node_words.{proofs.Words.{word_opens, word_shows}, specs.Nodes.{any_file_in, info_of}}

@@ -7,7 +7,8 @@ use Rattle.gate_schedules.proofs.Prelude.{eqb_tells, false, found_at, found_by, 
 use Rattle.gate_schedules.proofs.Prelude.{is_frozen_whole, left, map_next, nat_lt, ne_eqb, opens_in, owns, phase_action, phase_after, put, read, refl}
 use Rattle.gate_schedules.proofs.Prelude.{shown, stage_role_of, subst, sym, sync_role_of, true, true≢false, update_off, value_at, view_after}
 use Rattle.gate_schedules.proofs.Prelude.{words_after, ℕ, ◌&&◌, ◌+◌, ◌<◌, ◌==◌, ◌∙◌, ◌≡◌, ◌≤◌}
-use Rattle.{access_model.specs.declared.actions.Action.TheVariants.Pass, std.proofs.lemmas.Bool.eqb-true}
+use Rattle.std.proofs.lemmas.Bool.{eqb-true}
+use Rattle.access_model.specs.declared.actions.Action.TheVariants.{Pass}
 use Rattle.composite_ops.specs.declared.file_closes.phases.ClosePhase.TheVariants.{Enters as EntersLevel, LoadsFile as CloseLoadsFile}
 use Rattle.composite_ops.specs.declared.{file_closes.phases.Closing.Closing, write_access.phases.WritePhase.TheVariants.Takes}
 use Rattle.composite_ops.specs.{file_closes.Phases.{after as close_after, enters, then_frees}, write_access.Phases.then_wants}

@@ -3,8 +3,9 @@ use Rattle.gate_schedules.proofs.Prelude.{Bool, ChangeStep, ClosePhase, Config, 
 use Rattle.gate_schedules.proofs.Prelude.{None, Option, Phase, PhaseFits, RemountStep, Some, Stages, ThawStep, TreePhase, World, WritePhase, ap}
 use Rattle.gate_schedules.proofs.Prelude.{arith, false, freeze_stage_role, held_of, inl, inr, is_frozen_whole, refl, remount_stage_role}
 use Rattle.gate_schedules.proofs.Prelude.{stage_role_of, stage_roles, true, ℕ, ◌&&◌, ◌<◌, ◌==◌, ◌∙◌, ◌≡◌, ◌≤◌, ◌⊎◌}
-use Rattle.{finite_sums.proofs.Totals.{HasPlace, total_place}, std.proofs.lemmas.Bool.lt-leb}
-use Rattle.{freeze_laws.specs.stages.Roles.{bit, closed_by, closes, up_to}, gate_world.specs.Roles.{thaw_stage_role, tree_stage_role}}
+use Rattle.std.proofs.lemmas.Bool.{lt-leb}
+use Rattle.{finite_sums.proofs.Totals.{HasPlace, total_place}, freeze_laws.specs.stages.Roles.{bit, closed_by, closes, up_to}}
+use Rattle.gate_world.specs.Roles.{thaw_stage_role, tree_stage_role}
 use Rattle.gate_schedules.proofs.operations.{AllOperations.phase_ends, deadlocks.{BlockedOrProgress.world_goes, WhoCanStep.fits_at}}
 use Rattle.gate_schedules.specs.operations.Progress.{AFreezeIsKept, ChangeIsBlocked, FreezeIsBlocked, HeldLevelAhead, IsBlockedAt, Progresses}
 use Rattle.gate_schedules.specs.operations.{Progress.{RemountIsBlocked, ReplyOrFrozen, ThawIsBlocked, TreeIsBlocked}, Ranks.most_events_to_reply}

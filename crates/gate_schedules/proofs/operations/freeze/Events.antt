@@ -6,7 +6,8 @@ use Rattle.gate_schedules.proofs.Prelude.{dirty_in, each_updated, eqb_tells, fal
 use Rattle.gate_schedules.proofs.Prelude.{ltb-false, ltb-true, map_next, marks_of, model_limits, nat_lt, node_shown, opens_in, owns, phase_after}
 use Rattle.gate_schedules.proofs.Prelude.{read, refl, rephased, shown, stage_role_of, stage_roles, state_after, subst, suc, sym, tree_bounds, tree_of}
 use Rattle.gate_schedules.proofs.Prelude.{true, up_write_after, up_write_next, update, update_map, update_same, ℕ, ◌+◌, ◌<◌, ◌∙◌, ◌≡◌}
-use Rattle.{access_model.specs.{Actions.marked, States.IsFile}, std.proofs.Common.option_map}
+use Rattle.std.proofs.Common.{option_map}
+use Rattle.access_model.specs.{Actions.marked, States.IsFile}
 use Rattle.freeze_laws.specs.stages.{Events.{ClearsMark as ClearsMarkStage, cleaned}, Roles.{HasPassed, owns as stage_owns}}
 use Rattle.freeze_levels.specs.{Freezes.after_reopening, Thaws.after_opening}
 use Rattle.gate_world.specs.{Roles.{freeze_holder_role, freeze_position, freeze_tree_role}, SameRoles.SameRoles}

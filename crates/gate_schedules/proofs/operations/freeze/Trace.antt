@@ -5,8 +5,8 @@ use Rattle.gate_schedules.proofs.Prelude.{TransitionNext, UpWrite, UpWriteStep, 
 use Rattle.gate_schedules.proofs.Prelude.{at_freeze, cases_Bool, dirty_in, down_write_after, eq-eqb, eqb_tells, event_of, exit_made, false, found_by}
 use Rattle.gate_schedules.proofs.Prelude.{has_flag, if◌then◌else◌, inl, inr, map_next, ne_eqb, node_after, on_exit, refl, subst, suc, sym}
 use Rattle.gate_schedules.proofs.Prelude.{transition_after, true, with_hook, zero, ℕ, ◌-◌, ◌==◌, ◌∙◌, ◌∷◌, ◌≡◌, ◌≤◌}
-use Rattle.{access_model.specs.Holders.nobody, std.proofs.{Common.bit_and, lemmas.Nat.Bits.and_pow}}
-use Rattle.freeze_levels.specs.Freezes.{after_clearing, after_reopening, after_undoing}
+use Rattle.std.proofs.{Common.bit_and, lemmas.Nat.Bits.and_pow}
+use Rattle.{access_model.specs.Holders.nobody, freeze_levels.specs.Freezes.{after_clearing, after_reopening, after_undoing}}
 use Rattle.gate_world.specs.{Operations.{all_levels_closed, failed_adds, two_levels_closed, word_decided}, traces.Found.{ReadAnswer, cleans}}
 use Rattle.gate_world.specs.traces.{Found.{found_complete, found_sealed, gave_up, level_opened, stored_stage}, Traces.IsHonestAnswer}
 use Rattle.{node_words.specs.Phases.clears_at, percpu_rwsem.specs.Transitions.transition_next}

@@ -4,7 +4,8 @@ use Rattle.gate_schedules.proofs.Prelude.{Next, None, Ok, Option, Phase, PhaseFi
 use Rattle.gate_schedules.proofs.Prelude.{at_remount, cases_Bool, eqb_tells, extents_of, false, give_up, has_flag, has_mount, held_after}
 use Rattle.gate_schedules.proofs.Prelude.{if◌then◌else◌, inl, inr, leave_holds, let_go, map_next, nat_lt, not, past_mount, phase_after, refl, sym}
 use Rattle.gate_schedules.proofs.Prelude.{true, true≢false, wrap_add, ℕ, ◌+◌, ◌<◌, ◌==◌, ◌∙◌, ◌≡◌}
-use Rattle.{gate_world.specs.Remounts.AllBelow, std.proofs.Common.ltb-true}
+use Rattle.std.proofs.Common.{ltb-true}
+use Rattle.gate_world.specs.Remounts.{AllBelow}
 use Rattle.mount_counts.proofs.laws.Sets.{joins_there, joins_within, leaves_here, leaves_there, leaves_within, lowest_held, none_held}
 use Rattle.mount_counts.specs.Remounts.{past_node, remount_after, remount_from, remount_next, remount_summed}
 use Rattle.mount_counts.specs.Sets.{lowest, no_mounts, with_mount, without_lowest}

@@ -4,8 +4,9 @@ use Rattle.gate_schedules.proofs.Prelude.{None, Phase, PhaseFits, Remount, Remou
 use Rattle.gate_schedules.proofs.Prelude.{ap, arith, at_remount, cases_Bool, eqb_tells, false, give_up, has_flag, has_hold, has_mount, held_of}
 use Rattle.gate_schedules.proofs.Prelude.{if◌then◌else◌, inl, inr, leave_holds, let_go, marks_of, nat_lt, owns, past_mount, refl, remount_stage_role}
 use Rattle.gate_schedules.proofs.Prelude.{role_of, subst, suc, sym, view_with, wrap_add, ℕ, ◌+◌, ◌<◌, ◌==◌, ◌∙◌, ◌≡◌, ◌⊎◌}
-use Rattle.{freeze_laws.specs.stages.Roles.Remounting, std.proofs.Common.{bit_or, eq-eqb, ltb-false, ltb-true, ne_eqb}}
-use Rattle.{gate_world.specs.Remounts.{AllBelow, giving_role, loop_role, remount_role}, gated_tree.specs.Roles.Out as OffTree}
+use Rattle.std.proofs.Common.{bit_or, eq-eqb, ltb-false, ltb-true, ne_eqb}
+use Rattle.{freeze_laws.specs.stages.Roles.Remounting, gate_world.specs.Remounts.{AllBelow, giving_role, loop_role, remount_role}}
+use Rattle.gated_tree.specs.Roles.{Out as OffTree}
 use Rattle.mount_counts.proofs.laws.Bits.{or_hold, read_only_set}
 use Rattle.mount_counts.proofs.laws.MountLaws.{SeeksNone, is_left, is_skipped, sets_hold as mount_sets_hold, sums_on, sums_to_none, sums_to_some}
 use Rattle.mount_counts.{proofs.laws.Sets.{joins_here, joins_there}, specs.{Remounts.past_node, Roles.{Out, Summing, hold_bit}, Sets.with_mount}}

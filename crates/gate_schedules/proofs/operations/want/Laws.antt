@@ -1,7 +1,8 @@
 -- All that is proved of a want and of a drop.
 use Rattle.gate_schedules.proofs.Prelude.{Bool, Config, Fits, Fitting, MountPhase, Next, Op, Phase, Some, Want, World, after_step, ap, arith}
 use Rattle.gate_schedules.proofs.Prelude.{found_at, held_of, ltb-true, most_events, nat_lt, no_roles, refl, subst, true, want_after, ℕ, ◌∙◌, ◌∷◌, ◌≡◌}
-use Rattle.{gate_world.specs.refusals.Causes.asks, std.proofs.lemmas.Bool.and_parts}
+use Rattle.std.proofs.lemmas.Bool.{and_parts}
+use Rattle.gate_world.specs.refusals.Causes.{asks}
 use Rattle.gate_schedules.proofs.frames.{Frames.role_none, OperationLaws.{IsSmall, OpLaws, PhaseLaws, by_bool, word_among}, Snapshots.completes_none}
 use Rattle.gate_schedules.proofs.{mounts.Runs.mounts_run, operations.want.Causes.{next_asked, next_cause, want_cause_stays, want_own}}
 use Rattle.gate_schedules.proofs.operations.want.{Events.{drop_keeps, want_keeps}, Fits.{want_acts, want_goes, want_there}, Loads.want_here}

@@ -4,8 +4,8 @@ use Rattle.gate_schedules.proofs.Prelude.{Op, Phase, Reply, Some, StepKeeps, Syn
 use Rattle.gate_schedules.proofs.Prelude.{closed, down_read_after, false, found_at, held_after, held_of, holdings_of, level_in, ltb-true, map_next}
 use Rattle.gate_schedules.proofs.Prelude.{nat_lt, no_roles, not, phase_after, refl, role_of, sym, sync_role_of, true, true≢false, update, update_same}
 use Rattle.gate_schedules.proofs.Prelude.{want_after, ℕ, ◌&&◌, ◌<◌, ◌∙◌, ◌∷◌, ◌≡◌, ◌≤◌}
-use Rattle.{access_model.specs.Histories.levels_of, std.proofs.lemmas.Bool.and_parts}
-use Rattle.composite_ops.specs.write_access.Phases.{leaves_on, then_gives_back, then_wants}
+use Rattle.std.proofs.lemmas.Bool.{and_parts}
+use Rattle.{access_model.specs.Histories.levels_of, composite_ops.specs.write_access.Phases.{leaves_on, then_gives_back, then_wants}}
 use Rattle.gate_world.specs.{Fits.WriteFits, refusals.Causes.{asks, asks_level}}
 use Rattle.gate_schedules.proofs.frames.{Agreeing.none_agree, Frames.{count_none, role_on, sync_none}, OperationLaws.{OpLaws, PhaseLaws}}
 use Rattle.gate_schedules.proofs.frames.{SameRolesOffTree.update_twice, Snapshots.completes_none}

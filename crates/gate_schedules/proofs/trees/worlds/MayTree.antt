@@ -6,7 +6,8 @@ use Rattle.gate_schedules.proofs.Prelude.{World, ap, arith, at_mount, create_aft
 use Rattle.gate_schedules.proofs.Prelude.{held_at, held_of, holds_level, if◌then◌else◌, inl, inr, is_bare_at, mark_after, model_limits, move_after}
 use Rattle.gate_schedules.proofs.Prelude.{open_after, refl, remounts, remove_after, role_of, shown, stage_role_of, subst, total, total_at, total_none}
 use Rattle.gate_schedules.proofs.Prelude.{tree_bounds, tree_of, tree_role_of, tree_roles, true, word_of, ℕ, ◌<◌, ◌==◌, ◌≡◌, ◌≤◌}
-use Rattle.{access_model.specs.Actions.IsWriter, cpu_words.specs.gate_counts.Gates.{BarringHolds, admitted, unread}, std.proofs.lemmas.Bool.and_parts}
+use Rattle.std.proofs.lemmas.Bool.{and_parts}
+use Rattle.{access_model.specs.Actions.IsWriter, cpu_words.specs.gate_counts.Gates.{BarringHolds, admitted, unread}}
 use Rattle.freeze_laws.specs.stages.Roles.{passed_by}
 use Rattle.gate_world.specs.{Fits.TreeAccess, Operations.{is_faulter, is_writer, may_mark, some_mount}, Remounts.{loop_role, remount_role}}
 use Rattle.gate_world.specs.Roles.{remount_tree_role}

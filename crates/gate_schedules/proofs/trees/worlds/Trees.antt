@@ -5,7 +5,8 @@ use Rattle.gate_schedules.proofs.Prelude.{RemountFits, RemountStep, RoleHolds, S
 use Rattle.gate_schedules.proofs.Prelude.{UpWriteStep, View, Words, World, ap, arith, dirty_in, eqb_tells, false, freeze_stage_role, held_of, inl}
 use Rattle.gate_schedules.proofs.Prelude.{inr, is_bare_at, marks_of, nat_lt, node_shown, refl, remount_stage_role, stage_role_of, stage_roles, subst}
 use Rattle.gate_schedules.proofs.Prelude.{sym, total_none, tree_bounds, tree_of, tree_role_of, tree_roles, true, update, ℕ, ◌<◌, ◌≡◌, ◌≤◌}
-use Rattle.{access_model.specs.States.{IsDirectory, is_dirty}, freeze_laws.specs.stages.Roles.{MarksHold, clean_by}, std.proofs.lemmas.Bool.le-leb}
+use Rattle.std.proofs.lemmas.Bool.{le-leb}
+use Rattle.{access_model.specs.States.{IsDirectory, is_dirty}, freeze_laws.specs.stages.Roles.{MarksHold, clean_by}}
 use Rattle.freeze_levels.specs.declared.freezes.FreezeStep.TheVariants.{Closes}
 use Rattle.gate_world.specs.{Roles.{freeze_tree_role, place_of, remount_tree_role, reopening_role, thaw_stage_role, tree_stage_role}, Trees.is_sealed}
 use Rattle.gate_world.specs.declared.work.Phase.TheVariants.{Closes}

@@ -1,4 +1,5 @@
-use Rattle.{program_checks.specs.Claims.{HasBadClaim, race_lines}, std.proofs.Common.{IfSome, subst}}
+use Rattle.std.proofs.Common.{IfSome, subst}
+use Rattle.program_checks.specs.Claims.{HasBadClaim, race_lines}
 use Rattle.mntgate.proofs.outcomes.expect_claims.Goals as goal
 
 pub returns-in-Ok-None-clause-claims : goal.returns-in-Ok-None-clause-claims

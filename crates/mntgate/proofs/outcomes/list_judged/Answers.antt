@@ -1,4 +1,5 @@
-use Rattle.{schedule_lines.specs.declared.output.Output.Output, std.proofs.Common.{ap, ◌∙◌}}
+use Rattle.std.proofs.Common.{ap, ◌∙◌}
+use Rattle.schedule_lines.specs.declared.output.Output.{Output}
 use Rattle.mntgate.proofs.Listed.{own_lines, tells_as, verdicts_told}
 use Rattle.mntgate.proofs.outcomes.list_judged.Goals as goal
 

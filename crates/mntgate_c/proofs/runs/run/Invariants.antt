@@ -1,7 +1,7 @@
 -- So many steps more than the first were done, and the last told how the operation stands.
-use Rattle.{gate_steps.specs.call_events.Runs.{OpUnderWay, ProgressMatches}, std.proofs.Common.{Some, ◌≡◌}}
-use Rattle.{gate_transitions.specs.declared.steps.Progress.TheVariants.Idle, gate_world.specs.declared.{operations.Op.Op, work.Phase.Phase}}
-use Rattle.vfs_gates.specs.TaskStates.{IsIdle, SeatedTask}
+use Rattle.std.proofs.Common.{Some, ◌≡◌}
+use Rattle.{gate_steps.specs.call_events.Runs.{OpUnderWay, ProgressMatches}, gate_transitions.specs.declared.steps.Progress.TheVariants.Idle}
+use Rattle.{gate_world.specs.declared.{operations.Op.Op, work.Phase.Phase}, vfs_gates.specs.TaskStates.{IsIdle, SeatedTask}}
 use Rattle.mntgate_c.proofs.Running.{Ran}
 use Rattle.mntgate_c.proofs.runs.run.Given as goal
 

@@ -1,5 +1,5 @@
-use Rattle.{race_outcomes.specs.Briefly.line_of, std.proofs.{Common.{ap, arith, length, ◌<◌}, lemmas.Result.on_ok_weaker}}
-use Rattle.schedule_lines.proofs.Printed.{prints_both, prints_same}
+use Rattle.std.proofs.{Common.{ap, arith, length, ◌<◌}, lemmas.Result.on_ok_weaker}
+use Rattle.{race_outcomes.specs.Briefly.line_of, schedule_lines.proofs.Printed.{prints_both, prints_same}}
 use Rattle.outcome_forms.{proofs.Parts.{none_told, one_told}, specs.Told.{AsksNone, margin_of, mark_of}}
 use Rattle.outcome_forms.proofs.telling.tell_outcomes.Goals as goal
 

@@ -1,4 +1,5 @@
-use Rattle.{race_files.specs.Left.left_in, std.proofs.Common.{drop, take, true, ◌≡◌}}
+use Rattle.std.proofs.Common.{drop, take, true, ◌≡◌}
+use Rattle.race_files.specs.Left.{left_in}
 use Rattle.program_checks.specs.Said.{said_by}
 use Rattle.program_checks.proofs.said.read_said.Given as goal
 

@@ -1,6 +1,7 @@
 -- The first task has seen what it had seen; those that it has met have met it, and the others are as they were.
-use Rattle.{gate_steps.specs.call_events.Grown.HasSeen, std.proofs.Common.{All, List, get_or, ℕ, ◌<◌, ◌≡◌, ◌≤◌}}
-use Rattle.{gate_world.specs.declared.entries.Entry.Entry, vfs_gates.specs.TaskStates.{IsFrom, SeatedTask}}
+use Rattle.std.proofs.Common.{All, List, get_or, ℕ, ◌<◌, ◌≡◌, ◌≤◌}
+use Rattle.{gate_steps.specs.call_events.Grown.HasSeen, gate_world.specs.declared.entries.Entry.Entry}
+use Rattle.vfs_gates.specs.TaskStates.{IsFrom, SeatedTask}
 use Rattle.program_replay.specs.Standing.{HasMet, HasOnlySeen}
 use Rattle.program_replay.proofs.gates_driver.meet_each.Given as goal
 

@@ -1,5 +1,6 @@
 -- The first task and those that were split off come from the gates, which have the numbers so far in their order; the first has the others to give.
-use Rattle.{std.proofs.Common.{All, vec_len, ◌+◌, ◌≡◌}, vfs_gates.specs.{Splitting.{AreNumbered, Gives}, TaskStates.IsFrom}}
+use Rattle.std.proofs.Common.{All, vec_len, ◌+◌, ◌≡◌}
+use Rattle.vfs_gates.specs.{Splitting.{AreNumbered, Gives}, TaskStates.IsFrom}
 use Rattle.program_replay.specs.Shown.{IsNew}
 use Rattle.program_replay.proofs.gates_driver.split_all.Given as goal
 

@@ -1,4 +1,5 @@
-use Rattle.{exploration.proofs.Lists.err_from, std.proofs.Common.{None, Some, inl, inr, ◌⊎◌}, transcripts.specs.Transcript.ReplayState}
+use Rattle.std.proofs.Common.{None, Some, inl, inr, ◌⊎◌}
+use Rattle.{exploration.proofs.Lists.err_from, transcripts.specs.Transcript.ReplayState}
 use Rattle.race_files.{proofs.FirstFaults.fault_weaker, specs.FirstFaults.{FailsBeforeRace, FailsFromRace, IsFirstFault}}
 use Rattle.race_files.specs.{FirstFaults.{IsFirstFault.{BeforeRace, FromRace}, IsMemory}, Left.{BeginRace, Left, left_in}, SettingUp.SetsUp}
 use Rattle.race_files.specs.declared.faults.RaceFault.{RaceFault}

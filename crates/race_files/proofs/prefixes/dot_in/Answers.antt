@@ -1,4 +1,5 @@
-use Rattle.{schedule_lines.proofs.Positions.nowhere_is_end, std.proofs.Common.{arith, sym}}
+use Rattle.std.proofs.Common.{arith, sym}
+use Rattle.schedule_lines.proofs.Positions.{nowhere_is_end}
 use Rattle.race_files.specs.Prefixes.{is_dot}
 use Rattle.race_files.proofs.prefixes.dot_in.Goals as goal
 

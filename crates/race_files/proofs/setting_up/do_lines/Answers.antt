@@ -1,5 +1,5 @@
-use Rattle.{exploration.proofs.Lists.err_from, std.proofs.Common.{Err, IfSome, None, Ok, Some, ap, false, inr, refl, subst, sym, ◌∙◌, ◌∷◌, ◌≡◌}}
-use Rattle.schedule_text.specs.{Parsing.parsed, declared.commands.Line.TheVariants.Request as RequestLine}
+use Rattle.std.proofs.Common.{Err, IfSome, None, Ok, Some, ap, false, inr, refl, subst, sym, ◌∙◌, ◌∷◌, ◌≡◌}
+use Rattle.{exploration.proofs.Lists.err_from, schedule_text.specs.{Parsing.parsed, declared.commands.Line.TheVariants.Request as RequestLine}}
 use Rattle.transcripts.specs.Transcript.{ReplayState, request_outcome}
 use Rattle.race_files.proofs.{FirstFaults.{at_end, no_request_line, no_word}, Observed.{before_others, err_is, none_shown, one_shown, unshown}}
 use Rattle.race_files.proofs.{Reading.{all_left, one_less}, SettingUp.{no_request, none_yet, one_more, request_done}}

@@ -1,4 +1,5 @@
-use Rattle.{gate_core.specs.Drivers.CoreShows, std.proofs.Common.{Some, length, ◌≡◌}, transcripts.specs.{Sessions.ShowsPlay, Transcript.ReplayState}}
+use Rattle.std.proofs.Common.{Some, length, ◌≡◌}
+use Rattle.{gate_core.specs.Drivers.CoreShows, transcripts.specs.{Sessions.ShowsPlay, Transcript.ReplayState}}
 use Rattle.race_files.specs.{Left.{AreLeftOf, left_in, line_count}, Observed.ShowsLines, SettingUp.SetsUp}
 use Rattle.race_files.proofs.setting_up.do_lines.Given as goal
 

@@ -1,6 +1,6 @@
 -- lines that are no configuration make no play, and none of them is `race`
-use Rattle.{exploration.proofs.Lists.err_from, std.proofs.Common.{IfSome, None, Ok, Some, ap, refl, subst, sym, ◌∙◌, ◌∷◌, ◌≡◌}}
-use Rattle.{schedule_text.specs.Parsing.parsed, transcripts.specs.Transcript.opening_play}
+use Rattle.std.proofs.Common.{IfSome, None, Ok, Some, ap, refl, subst, sym, ◌∙◌, ◌∷◌, ◌≡◌}
+use Rattle.{exploration.proofs.Lists.err_from, schedule_text.specs.Parsing.parsed, transcripts.specs.Transcript.opening_play}
 use Rattle.race_files.proofs.{FirstFaults.{at_end, no_line, not_opened}, Reading.{all_left, one_less}, SettingUp.{config_opens, no_config, none_yet}}
 use Rattle.race_files.{proofs.SettingUp.one_more, specs.{Left.{behind, left_in}, declared.faults.RaceFault.TheVariants.Schedule}}
 use Rattle.race_files.proofs.setting_up.open.Goals as goal

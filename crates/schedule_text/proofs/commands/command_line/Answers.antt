@@ -1,4 +1,5 @@
-use Rattle.{schedule_lines.specs.Words.{first_word, word_count}, std.proofs.Common.{ap, length, rules, sym, ◌+◌, ◌∙◌, ◌≡◌}}
+use Rattle.std.proofs.Common.{ap, length, rules, sym, ◌+◌, ◌∙◌, ◌≡◌}
+use Rattle.schedule_lines.specs.Words.{first_word, word_count}
 use Rattle.schedule_text.{proofs.Counting.{is_more, is_one_word, one_word_more}, specs.Parsing.command_line}
 use Rattle.schedule_text.proofs.commands.command_line.Goals as goal
 

@@ -1,4 +1,5 @@
-use Rattle.{schedule_lines.specs.Words.word_count, std.proofs.Common.{ap, arith, length, rules, sym, ◌+◌, ◌∙◌}}
+use Rattle.std.proofs.Common.{ap, arith, length, rules, sym, ◌+◌, ◌∙◌}
+use Rattle.schedule_lines.specs.Words.{word_count}
 use Rattle.schedule_text.proofs.Counting.{few_words, one_word, one_word_more}
 use Rattle.schedule_text.proofs.commands.words_of.Goals as goal
 

@@ -1,6 +1,6 @@
 -- the blocks of the nodes below this one, each less than 2 ^ 32
-use Rattle.{access_model.specs.States.size_of, finite_sums.specs.Sums.total, std.proofs.Common.{slice_index, ◌*◌, ◌≡◌, ◌≤◌}}
-use Rattle.node_words.specs.Nodes.{node_shown}
+use Rattle.std.proofs.Common.{slice_index, ◌*◌, ◌≡◌, ◌≤◌}
+use Rattle.{access_model.specs.States.size_of, finite_sums.specs.Sums.total, node_words.specs.Nodes.node_shown}
 use Rattle.gated_tree.proofs.trees.Tree.blocks.Given as goal
 
 abbrev pub invariant-loop-node : goal.invariant-loop-node

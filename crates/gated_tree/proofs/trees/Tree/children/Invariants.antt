@@ -1,5 +1,6 @@
 -- the children among the nodes below this one
-use Rattle.{finite_sums.specs.Sums.total, node_words.specs.Nodes.node_shown, std.proofs.Common.{slice_index, ◌≡◌, ◌≤◌}}
+use Rattle.std.proofs.Common.{slice_index, ◌≡◌, ◌≤◌}
+use Rattle.{finite_sums.specs.Sums.total, node_words.specs.Nodes.node_shown}
 use Rattle.gated_tree.specs.Trees.{is_child}
 use Rattle.gated_tree.proofs.trees.Tree.children.Given as goal
 

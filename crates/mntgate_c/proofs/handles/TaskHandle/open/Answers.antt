@@ -1,4 +1,5 @@
-use Rattle.{std.proofs.Common.{subst, sym}, vfs_gates.specs.{Ended.HasOpeningWords, TaskStates.SeatedTask}}
+use Rattle.std.proofs.Common.{subst, sym}
+use Rattle.vfs_gates.specs.{Ended.HasOpeningWords, TaskStates.SeatedTask}
 use Rattle.mntgate_c.proofs.handles.TaskHandle.open.Goals as goal
 
 -- the handle has the task of the block

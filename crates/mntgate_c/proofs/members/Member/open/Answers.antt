@@ -1,5 +1,5 @@
-use Rattle.{gate_world.specs.declared.config.Config.Config, std.proofs.Common.{ap, subst, sym}}
-use Rattle.vfs_gates.specs.{Ended.HasOpeningWords, TaskStates.SeatedTask}
+use Rattle.std.proofs.Common.{ap, subst, sym}
+use Rattle.{gate_world.specs.declared.config.Config.Config, vfs_gates.specs.{Ended.HasOpeningWords, TaskStates.SeatedTask}}
 use Rattle.mntgate_c.proofs.Results.{if_ok_then}
 use Rattle.mntgate_c.proofs.members.Member.open.Goals as goal
 

@@ -1,6 +1,6 @@
 -- What was split off goes back where there is no memory for it.
-use Rattle.{access_model.specs.declared.errors.GateError.TheVariants.NoMemory, std.proofs.{Common.{subst, sym}, lemmas.Result.err_from_is_err_and}}
-use Rattle.vfs_gates.specs.{Held.Rests, TaskStates.SeatedTask}
+use Rattle.std.proofs.{Common.{subst, sym}, lemmas.Result.err_from_is_err_and}
+use Rattle.{access_model.specs.declared.errors.GateError.TheVariants.NoMemory, vfs_gates.specs.{Held.Rests, TaskStates.SeatedTask}}
 use Rattle.mntgate_c.{proofs.{Results.if_err_then, Splitting.{none_for_it, not_split}}, specs.Openings.SplitIsRefused}
 use Rattle.mntgate_c.proofs.members.Member.split.Goals as goal
 

@@ -1,4 +1,5 @@
-use Rattle.{access_model.specs.States.is_dirty, std.proofs.Common.{false, ℕ, ◌<◌, ◌≡◌}}
+use Rattle.std.proofs.Common.{false, ℕ, ◌<◌, ◌≡◌}
+use Rattle.access_model.specs.States.{is_dirty}
 use Rattle.model_state.specs.Shown.{tree_of}
 use Rattle.model_state.proofs.model.Model.is_clean.Given as goal
 

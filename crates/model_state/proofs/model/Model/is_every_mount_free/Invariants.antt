@@ -1,4 +1,5 @@
-use Rattle.{access_model.specs.{States.NobodyHolds, declared.actions.Gate.TheVariants.Mount}, std.proofs.Common.{ℕ, ◌<◌}}
+use Rattle.std.proofs.Common.{ℕ, ◌<◌}
+use Rattle.access_model.specs.{States.NobodyHolds, declared.actions.Gate.TheVariants.Mount}
 use Rattle.model_state.specs.Shown.{limits_of, state_of}
 use Rattle.model_state.proofs.model.Model.is_every_mount_free.Given as goal
 

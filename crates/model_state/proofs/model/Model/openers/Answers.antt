@@ -1,5 +1,6 @@
 -- the loop has counted all tasks of the list
-use Rattle.{access_model.specs.States.one_if, finite_sums.specs.Sums.total, std.proofs.Common.{ap, arith, length, ◌∙◌, ◌≡◌, ◌≤◌}}
+use Rattle.std.proofs.Common.{ap, arith, length, ◌∙◌, ◌≡◌, ◌≤◌}
+use Rattle.{access_model.specs.States.one_if, finite_sums.specs.Sums.total}
 use Rattle.model_state.{proofs.Openers.openers_in, specs.Shown.{bounded_state_of, opens_of}}
 use Rattle.model_state.proofs.model.Model.openers.Goals as goal
 

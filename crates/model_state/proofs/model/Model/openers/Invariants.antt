@@ -1,5 +1,6 @@
 -- those of the tasks below this one that have the file open
-use Rattle.{access_model.specs.States.one_if, finite_sums.specs.Sums.total, std.proofs.Common.{◌≡◌, ◌≤◌}}
+use Rattle.std.proofs.Common.{◌≡◌, ◌≤◌}
+use Rattle.{access_model.specs.States.one_if, finite_sums.specs.Sums.total}
 use Rattle.model_state.specs.Shown.{opens_of}
 use Rattle.model_state.proofs.model.Model.openers.Given as goal
 

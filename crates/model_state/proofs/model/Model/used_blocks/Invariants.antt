@@ -1,5 +1,6 @@
 -- the blocks of the nodes below this one, each less than 2 ^ 32
-use Rattle.{access_model.specs.States.size_of, finite_sums.specs.Sums.total, std.proofs.Common.{◌*◌, ◌≡◌, ◌≤◌}}
+use Rattle.std.proofs.Common.{◌*◌, ◌≡◌, ◌≤◌}
+use Rattle.{access_model.specs.States.size_of, finite_sums.specs.Sums.total}
 use Rattle.model_state.specs.Shown.{tree_of}
 use Rattle.model_state.proofs.model.Model.used_blocks.Given as goal
 

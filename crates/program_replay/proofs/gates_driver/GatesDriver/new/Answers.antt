@@ -1,5 +1,6 @@
 -- The first task has all numbers but its own to give, and none has done anything.
-use Rattle.{std.proofs.Common.{ap, arith, length, refl, ◌+◌, ◌∙◌, ◌≡◌}, vfs_gates.{proofs.Splitting.gives_all, specs.TaskStates.SeatedTask}}
+use Rattle.std.proofs.Common.{ap, arith, length, refl, ◌+◌, ◌∙◌, ◌≡◌}
+use Rattle.vfs_gates.{proofs.Splitting.gives_all, specs.TaskStates.SeatedTask}
 use Rattle.program_replay.proofs.Opening.{first_new, opening_shown}
 use Rattle.program_replay.proofs.gates_driver.GatesDriver.new.Goals as goal
 

@@ -1,6 +1,6 @@
 -- What a task asks is what its phase asks in the state.
-use Rattle.{gate_transitions.specs.Answers.{asked_by, wanted_hook}, std.proofs.Common.{List, ap, arith, get_or, subst, sym, ◌-◌, ◌<◌, ◌∙◌, ◌≡◌}}
-use Rattle.vfs_gates.specs.TaskStates.{SeatedTask}
+use Rattle.std.proofs.Common.{List, ap, arith, get_or, subst, sym, ◌-◌, ◌<◌, ◌∙◌, ◌≡◌}
+use Rattle.{gate_transitions.specs.Answers.{asked_by, wanted_hook}, vfs_gates.specs.TaskStates.SeatedTask}
 use Rattle.program_replay.proofs.Driving.{later_task, wants}
 use Rattle.program_replay.proofs.gates_driver.GatesDriverDriver.wants_hook.Goals as goal
 

@@ -1,5 +1,5 @@
-use Rattle.{exploration.proofs.Lists.err_from, std.proofs.Common.{IfSome, Ok, ap, inl, refl, subst, sym, ◌∙◌, ◌∷◌, ◌≡◌}}
-use Rattle.transcripts.proofs.Opening.{answer_mapped}
+use Rattle.std.proofs.Common.{IfSome, Ok, ap, inl, refl, subst, sym, ◌∙◌, ◌∷◌, ◌≡◌}
+use Rattle.{exploration.proofs.Lists.err_from, transcripts.proofs.Opening.answer_mapped}
 use Rattle.race_files.{proofs.Reading.{at_end, at_line, end_fails, line_fails, none_called, one_called}, specs.Calls.{calls_of, no_calls}}
 use Rattle.race_files.specs.{Left.{Left, behind, left_in}, declared.faults.RaceFault.TheVariants.Schedule}
 use Rattle.race_files.proofs.calls.Calls.read.Goals as goal

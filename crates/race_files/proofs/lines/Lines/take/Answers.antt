@@ -1,4 +1,5 @@
-use Rattle.{schedule_lines.specs.declared.faults.Fault.TheVariants.CutOff, std.proofs.Common.{ap, refl, sym, ◌+◌, ◌-◌, ◌∙◌}}
+use Rattle.std.proofs.Common.{ap, refl, sym, ◌+◌, ◌-◌, ◌∙◌}
+use Rattle.schedule_lines.specs.declared.faults.Fault.TheVariants.{CutOff}
 use Rattle.race_files.proofs.Left.{first_of, front_behind, no_first, none_behind, of_front, one_taken, part_lines}
 use Rattle.race_files.specs.Left.{behind, left_in, lines_in}
 use Rattle.race_files.proofs.lines.Lines.take.Goals as goal

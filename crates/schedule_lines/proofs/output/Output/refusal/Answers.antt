@@ -1,4 +1,5 @@
-use Rattle.{access_model.specs.declared.errors.GateError.{GateError, TheVariants.Hook}, std.proofs.Common.{codes, decimal, ℕ, ◌++◌, ◌≡◌}}
+use Rattle.std.proofs.Common.{codes, decimal, ℕ, ◌++◌, ◌≡◌}
+use Rattle.access_model.specs.declared.errors.GateError.{GateError, TheVariants.Hook}
 use Rattle.schedule_lines.specs.Printing.{refusal_text}
 use Rattle.schedule_lines.proofs.output.Output.refusal.Goals as goal
 

@@ -1,5 +1,6 @@
 -- closed gates have no other number
-use Rattle.{access_model.specs.declared.actions.Holder.TheVariants.User, std.proofs.Common.ap, vfs_gates.specs.TaskStates.{SeatedTask, own_number}}
+use Rattle.std.proofs.Common.{ap}
+use Rattle.{access_model.specs.declared.actions.Holder.TheVariants.User, vfs_gates.specs.TaskStates.{SeatedTask, own_number}}
 use Rattle.test_gates.proofs.Alone.{frozen_still_alone, not_invalid_alone}
 use Rattle.test_gates.proofs.tests.alone.copy_alone.Goals as goal
 

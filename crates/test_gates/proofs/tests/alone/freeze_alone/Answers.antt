@@ -1,6 +1,6 @@
 -- the task has done nothing before, and closed gates have no other number
-use Rattle.{access_model.specs.declared.actions.Holder.TheVariants.User, std.proofs.Common.ap}
-use Rattle.vfs_gates.specs.{Held.own_actions, TaskStates.{SeatedTask, own_number}}
+use Rattle.std.proofs.Common.{ap}
+use Rattle.{access_model.specs.declared.actions.Holder.TheVariants.User, vfs_gates.specs.{Held.own_actions, TaskStates.{SeatedTask, own_number}}}
 use Rattle.test_gates.proofs.Alone.{not_busy_alone}
 use Rattle.test_gates.proofs.tests.alone.freeze_alone.Goals as goal
 

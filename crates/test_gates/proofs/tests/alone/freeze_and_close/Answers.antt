@@ -1,6 +1,6 @@
 -- closed gates have no other number, so nobody else has thawed
-use Rattle.{access_model.specs.declared.actions.Holder.TheVariants.User, std.proofs.{Common.ap, lemmas.Result.IfOk-weaker}}
-use Rattle.vfs_gates.specs.TaskStates.{SeatedTask, own_number}
+use Rattle.std.proofs.{Common.ap, lemmas.Result.IfOk-weaker}
+use Rattle.{access_model.specs.declared.actions.Holder.TheVariants.User, vfs_gates.specs.TaskStates.{SeatedTask, own_number}}
 use Rattle.test_gates.proofs.Alone.{left_frozen_alone}
 use Rattle.test_gates.proofs.tests.alone.freeze_and_close.Goals as goal
 

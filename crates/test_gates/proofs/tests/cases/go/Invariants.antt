@@ -1,4 +1,5 @@
-use Rattle.{std.proofs.Common.IfSome, vfs_gates.specs.TaskStates.IsFrom}
+use Rattle.std.proofs.Common.{IfSome}
+use Rattle.vfs_gates.specs.TaskStates.{IsFrom}
 use Rattle.test_gates.proofs.tests.cases.go.Given as goal
 
 abbrev pub invariant-loop-line : goal.invariant-loop-line

@@ -1,4 +1,5 @@
-use Rattle.{std.proofs.Common.All, vfs_gates.specs.TaskStates.IsFrom}
+use Rattle.std.proofs.Common.{All}
+use Rattle.vfs_gates.specs.TaskStates.{IsFrom}
 use Rattle.test_gates.proofs.tests.cases.join_rest.Given as goal
 
 abbrev pub invariant-loop-other : goal.invariant-loop-other

@@ -1,4 +1,5 @@
-use Rattle.{std.proofs.Common.IfSome, vfs_gates.specs.TaskStates.IsFrom}
+use Rattle.std.proofs.Common.{IfSome}
+use Rattle.vfs_gates.specs.TaskStates.{IsFrom}
 use Rattle.test_gates.proofs.tests.cases.split.Given as goal
 
 abbrev pub invariant-loop-other : goal.invariant-loop-other

@@ -1,6 +1,6 @@
 -- the last task has seen what both had
-use Rattle.{gate_world.specs.Worlds.World, std.proofs.Common.subst}
-use Rattle.vfs_gates.{proofs.closed_gates.Closing.left_after, specs.{Ended.IsLeftAfter, TaskStates.SeatedTask}}
+use Rattle.std.proofs.Common.{subst}
+use Rattle.{gate_world.specs.Worlds.World, vfs_gates.{proofs.closed_gates.Closing.left_after, specs.{Ended.IsLeftAfter, TaskStates.SeatedTask}}}
 use Rattle.test_gates.proofs.tests.in_time.close_after_both.Goals as goal
 
 pub returns-in-Ok : goal.returns-in-Ok

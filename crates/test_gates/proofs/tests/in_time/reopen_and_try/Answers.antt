@@ -1,5 +1,6 @@
 -- the cause lies behind the change
-use Rattle.{std.proofs.Common.{false, true}, vfs_gates.specs.Op.TheVariants.{ChangeMount, Want}}
+use Rattle.std.proofs.Common.{false, true}
+use Rattle.vfs_gates.specs.Op.TheVariants.{ChangeMount, Want}
 use Rattle.test_gates.proofs.InTime.{refused_since}
 use Rattle.test_gates.proofs.tests.in_time.reopen_and_try.Goals as goal
 

@@ -1,5 +1,6 @@
 -- both are laws of the one call
-use Rattle.{std.proofs.Common.true, vfs_gates.specs.Op.TheVariants.ChangeMount}
+use Rattle.std.proofs.Common.{true}
+use Rattle.vfs_gates.specs.Op.TheVariants.{ChangeMount}
 use Rattle.test_gates.proofs.InTime.{finds_it_so, takes_effect}
 use Rattle.test_gates.proofs.tests.in_time.shut.Goals as goal
 

@@ -1,5 +1,6 @@
 -- the backup meets both tasks that may have the number
-use Rattle.{gate_steps.specs.Seating.HaveHistory, gate_world.specs.declared.config.Config.Config, std.proofs.Common.{subst, sym}}
+use Rattle.std.proofs.Common.{subst, sym}
+use Rattle.{gate_steps.specs.Seating.HaveHistory, gate_world.specs.declared.config.Config.Config}
 use Rattle.vfs_gates.{proofs.{Returning.was_done, several_tasks.Beside.write_held}, specs.{Op.TheVariants.WantWrite, TaskStates.SeatedTask}}
 use Rattle.test_gates.proofs.Splits.{split_refuses, took_number}
 use Rattle.test_gates.proofs.tests.meetings.remount_while_the_holder_splits.Goals as goal

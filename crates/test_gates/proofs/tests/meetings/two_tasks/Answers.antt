@@ -1,5 +1,6 @@
 -- the first task, of which the other was split, is of the gates still
-use Rattle.{std.proofs.Common.{ap, sym, ◌∙◌}, vfs_gates.specs.Rounds.SeatedTask}
+use Rattle.std.proofs.Common.{ap, sym, ◌∙◌}
+use Rattle.vfs_gates.specs.Rounds.{SeatedTask}
 use Rattle.test_gates.proofs.tests.meetings.two_tasks.Goals as goal
 
 pub returns : goal.returns

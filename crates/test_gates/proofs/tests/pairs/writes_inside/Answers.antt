@@ -1,5 +1,6 @@
 -- A create takes nothing, so it leaves the task as it was.
-use Rattle.{access_model.specs.declared.actions.Kind.TheVariants.File, std.proofs.Common.{of_calls, refl, rules, subst, sym}}
+use Rattle.std.proofs.Common.{of_calls, refl, rules, subst, sym}
+use Rattle.access_model.specs.declared.actions.Kind.TheVariants.{File}
 use Rattle.vfs_gates.{proofs.Holding.keeps, specs.{Held.IsAsBefore, Op.TheVariants.Create, Runs.{Replies, node_of}, TaskStates.IsIdle}}
 use Rattle.test_gates.proofs.tests.pairs.writes_inside.Goals as goal
 

@@ -1,8 +1,8 @@
 -- it tells of the reply the node that it took
 use Rattle.vfs_gates.proofs.Prelude.{Config, Err, GateError, IsHonestAnswer, List, None, Ok, Option, Replies, Reply, Result, SeatedTask, Some, Traced}
 use Rattle.vfs_gates.proofs.Prelude.{refl, refusal_at, subst, sym, the_reply, told_as, ℕ, ◌≡◌}
-use Rattle.{access_model.specs.declared.actions.Kind.Kind, std.proofs.Common.IfOk}
-use Rattle.gate_steps.{proofs.call_events.Running.was_told, specs.call_events.Runs.node_of}
+use Rattle.std.proofs.Common.{IfOk}
+use Rattle.{access_model.specs.declared.actions.Kind.Kind, gate_steps.{proofs.call_events.Running.was_told, specs.call_events.Runs.node_of}}
 use Rattle.gate_world.specs.{Operations.IsNodeReply, declared.operations.Op.TheVariants.Create}
 use Rattle.vfs_gates.proofs.task.Task.create.Goals as goal
 

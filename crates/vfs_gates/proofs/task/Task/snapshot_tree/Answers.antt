@@ -1,6 +1,7 @@
 -- A snapshot that was done has taken a tree, sound and clean, and that is the one that its task shows.
 use Rattle.vfs_gates.proofs.Prelude.{None, Option, Some, TreeWords, ap, option_map, refl, subst, sym, true, ◌∙◌, ◌≡◌}
-use Rattle.{gate_world.specs.declared.views.Snapshot.Snapshot, std.proofs.Common.Bor}
+use Rattle.std.proofs.Common.{Bor}
+use Rattle.gate_world.specs.declared.views.Snapshot.{Snapshot}
 use Rattle.gated_tree.specs.{Trees.{LoadedClean, LoadedSound, words_of}, declared.trees.Tree.Tree}
 use Rattle.vfs_gates.proofs.Taking.{HasWhole, took_whole}
 use Rattle.vfs_gates.proofs.task.Task.snapshot_tree.Goals as goal

@@ -1,6 +1,7 @@
 -- the step of its kind is the step of the operation
 use Rattle.vfs_gates.proofs.Prelude.{IsWithin, SeatedTask, ap, refl, subst, sym, ◌∙◌}
-use Rattle.{gate_steps.proofs.call_events.Running.told_then, std.proofs.lemmas.Option.none-some}
+use Rattle.std.proofs.lemmas.Option.{none-some}
+use Rattle.gate_steps.proofs.call_events.Running.{told_then}
 use Rattle.vfs_gates.proofs.task.Task.step.Goals as goal
 
 pub step_there-requires-clause-at : goal.step_there-requires-clause-at
