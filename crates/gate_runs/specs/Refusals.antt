@@ -2,7 +2,7 @@
 use Rattle.std.specs.Prelude.{Err, None, true, ℕ, ◌+◌, ◌<◌, ◌≡◌, ◌⊎◌}
 use Rattle.access_model.specs.{Holders.held_by, declared.{actions.{Holder.TheVariants.User, Kind.TheVariants.File}, errors.GateError.GateError}}
 use Rattle.access_model.specs.declared.errors.GateError.TheVariants.{Again, Busy, Invalid, IsDir, NoEntry, NoMemory, NoSpace}
-use Rattle.gate_world.specs.declared.operations.Op.{Op, TheVariants.{Create, Freeze, Grow, WantWrite}}
+use Rattle.gate_world.specs.declared.operations.Op.{Op, TheVariants.{Create, DropWrite, Freeze, Grow, WantWrite}}
 use Rattle.run_plans.specs.{Plans.{processor_of, run_config}, declared.counts.Writes.Writes}
 use Rattle.vfs_gates.specs.{Frozen.{MayFreeze, NeedsFreeze, holders_of}, Grown.StaySeen, Held.{IsAsBefore, Rests, own_actions}, Runs.Called}
 use Rattle.vfs_gates.specs.{Splitting.{Gives, HasBegun}, TaskStates.{IsFrom, SeatedTask, own_number, refusal_at}, declared.Gates.Gates}
@@ -61,6 +61,14 @@ pub record GrowthRefused (gates : Gates) (file : ℕ) (start : SeatedTask) (refu
   pub was : WasRefused gates (own_number start.items) (Grow file 1) refusal
   pub tries : ℕ
   pub tried : Repeats (λ k. IsRefused (Grow file 1) Again) tries start was.first
+
+-- A task stands as its last calls left it: the growth of this file was refused so, and then its write access was given back.
+pub record LeftByRefusal (file : ℕ) (refusal : GateError) (now : SeatedTask) : Type 0 where
+  pub before : SeatedTask
+  pub refused : SeatedTask
+  pub was : IsRefused (Grow file 1) refusal before refused
+  pub cpu : ℕ
+  pub gave : Does (DropWrite 0 cpu) refused now
 
 -- a call of a watch of which nothing is said
 abbrev pub any_call : SeatedTask → ℕ → Unit {0} → Unit {0} → Type 0

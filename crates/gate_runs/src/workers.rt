@@ -7,8 +7,8 @@ ghost use Rattle.gated_tree.specs.Trees.{LoadedClean, LoadedSound};
 ghost use Rattle.gate_runs.specs.Counts.{CountsRounds, blocks_of, counted, no_copies, no_remounts, no_writes, with_waits};
 ghost use Rattle.gate_runs.specs.Keeping.{FreezesNothing, KeepsNumbers};
 ghost use Rattle.gate_runs.specs.Patience.{TriedToFreeze};
-ghost use Rattle.gate_runs.specs.Refusals.{CreateRefused, FoundOthers, GrowthRefused, HasWriteAccess, WriterRefused};
-ghost use Rattle.gate_runs.specs.Rounds.{BackupRound, CallsBack, Closes, CreatesFiles, Does, RemountRound, Repeats, Retries, Takes, Tries, WriterRound};
+ghost use Rattle.gate_runs.specs.Refusals.{CreateRefused, FoundOthers, GrowthRefused, HasWriteAccess, LeftByRefusal, WriterRefused};
+ghost use Rattle.gate_runs.specs.Rounds.{BackupRound, CallsBack, Closes, CreatesFiles, Does, IsRefused, RemountRound, Repeats, Retries, Takes, Tries, WriterRound};
 ghost use Rattle.gate_world.specs.declared.operations.Op.TheVariants.{Grow, Snapshot as SnapshotOp};
 ghost use Rattle.gate_world.specs.declared.views.Snapshot.{Snapshot};
 ghost use Rattle.run_plans.specs.Plans.{run_config};
@@ -16,7 +16,7 @@ ghost use Rattle.vfs_gates.specs.Frozen.{MayFreeze};
 ghost use Rattle.vfs_gates.specs.Held.{Rests, own_actions};
 ghost use Rattle.vfs_gates.specs.Runs.{Called};
 ghost use Rattle.vfs_gates.specs.Splitting.{Gives, HasBegun};
-ghost use Rattle.vfs_gates.specs.TaskStates.{IsFrom, own_view};
+ghost use Rattle.vfs_gates.specs.TaskStates.{IsFrom, SeatedTask, own_view};
 
 use crate::observers::NotedObserver;
 use crate::patience::Patience;
@@ -106,6 +106,7 @@ fn grow<R: Wait>(rt: &R, gates: &Gates, task: &mut Task, file: u8) -> Result<u64
     ensures freezes { FreezesNothing task.old task.new }
     ensures grew { IfOk result (λ raced. (grew : Retries (Grow file 1) Again task.old task.new) × (raced ≡ counted grew.0)) }
     ensures refused { IfErr result (GrowthRefused gates.now file task.old) }
+    ensures last { IfErr result (λ refusal. (before : SeatedTask) × IsRefused (Grow file 1) refusal before task.new) }
 {
     let mut raced = 0u64;
     for _ in rt.forever() {
@@ -123,7 +124,8 @@ fn grow<R: Wait>(rt: &R, gates: &Gates, task: &mut Task, file: u8) -> Result<u64
 ///
 /// # Errors
 ///
-/// NoEntry, IsDir or NoSpace of the growth that ends it (`WriterRefused`). The watch was called in that round too, and the access was given back.
+/// NoEntry, IsDir or NoSpace of the growth that ends it (`WriterRefused`). The watch was called in that round too, and the access was given back: so the
+/// task stands as that growth and the return left it (`LeftByRefusal`).
 pub fn write<R: Wait, W: NotedObserver>(
     rt: &R,
     gates: &Gates,
@@ -144,6 +146,7 @@ pub fn write<R: Wait, W: NotedObserver>(
     ensures rounds { IfOk result (λ writes. Repeats (WriterRound (W.meets watch.now) plan.processors writer) plan.rounds
         (task.old, notes.old, no_writes) (task.new, notes.new, writes)) }
     ensures refused { IfErr result (WriterRefused gates.now plan.tasks plan.processors plan.rounds) }
+    ensures last { IfErr result (λ refusal. LeftByRefusal (writer + 1) refusal task.new) }
 {
     let mut writes = Writes::none();
     for round in 0..plan.rounds() {

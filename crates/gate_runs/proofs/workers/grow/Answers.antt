@@ -54,6 +54,9 @@ returns-in-Err-clause-refused g c =
       tried = before.3;
     }
 
+pub returns-in-Err-clause-last : goal.returns-in-Err-clause-last
+returns-in-Err-clause-last g c = (c.loop.task, c.in-Err.ensures)
+
 -- whatever it answers it freezes and thaws nothing
 pub returns-in-Ok-clause-freezes : goal.returns-in-Ok-clause-freezes
 returns-in-Ok-clause-freezes g c =

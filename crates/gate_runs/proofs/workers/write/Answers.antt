@@ -4,7 +4,7 @@ use Rattle.gate_runs.proofs.Prelude.{WriterRound, ap, arith, counted, err_from_i
 use Rattle.std.proofs.{Common.◌%◌, lemmas.Nat.mod_below}
 use Rattle.vfs_gates.proofs.CallingBack.{none_err}
 use Rattle.gate_runs.proofs.{Answering.gives_back, Keeping.{freezes_none_on, freezes_nothing, takes_freeze_none, writes_freeze_none}}
-use Rattle.gate_runs.{proofs.Repeating.{one_more, rounds_of_any}, specs.{Counts.no_writes, Rounds.Takes}}
+use Rattle.gate_runs.{proofs.Repeating.{one_more, rounds_of_any}, specs.{Counts.no_writes, Refusals.LeftByRefusal, Rounds.Takes}}
 use Rattle.gate_runs.proofs.workers.write.Goals as goal
 
 -- write access is given back without a refusal, on a processor that there is
@@ -129,6 +129,28 @@ returns-in_err-grown-clause-refused g c =
       took = subst (λ cpu. Takes cpu (c.loop-round.task, c.loop-round.writes.waits) (c.want_write.new.task, c.in_ok-denied.waits))
           c.processor-cpu.ensures c.in_ok-denied.ensures.took.0;
       grow = c.in_err-grown.ensures.refused;
+    } in
+    rw (p.1, p.2) its
+
+pub returns-in_err-denied-clause-last : goal.returns-in_err-denied-clause-last
+returns-in_err-denied-clause-last g c = absurd c.in_err-denied.ensures.granted
+
+pub returns-in_err-drop_write-clause-last : goal.returns-in_err-drop_write-clause-last
+returns-in_err-drop_write-clause-last g c = absurd (none_err _ (given_back c.processor.result c.args.gates.now.words.config c.grow-grown.new.task c.drop_write.new.self (Err c.in_err-drop_write.field-0.0)
+    (on_processor (c.args.writer + (c.loop-round.round + 1)) c.args.plan.processors c.processor.result c.args.gates.now.words.config
+    (ap (λ (d : Config). d.processors) c.requires.planned) c.args.plan.within.processors_from c.processor.ensures)
+    c.grow-grown.ensures.from.1 c.grow-grown.ensures.inside c.in_err-drop_write.ensures).0)
+
+-- its last calls were the refused growth and the return
+pub returns-in_err-grown-clause-last : goal.returns-in_err-grown-clause-last
+returns-in_err-grown-clause-last g c =
+    let p = err_from_is_err_and c.from_residual-in_err-grown.result c.from_residual-in_err-grown.ensures.1 in
+    let its : LeftByRefusal (c.args.writer + 1) c.in_err-grown.field-0.0 c.drop_write.new.self = record {
+      before = c.in_err-grown.ensures.last.0;
+      refused = c.grow-grown.new.task;
+      was = c.in_err-grown.ensures.last.1;
+      cpu = c.processor.result;
+      gave = c.in_ok-drop_write.ensures;
     } in
     rw (p.1, p.2) its
 
