@@ -7,9 +7,10 @@ PROGRAM, or bin/mntgate, plays each execution (`replay --json`) and judges the h
 freezes and thaws, remounts, changes the mount and runs callbacks, one call in three; the others
 take an access and give it back. Who moves is drawn; a return is recorded up to three moves after
 the last step, and the next call begins up to four moves later. A replay takes 1,048,576 lines,
-which are two a move: 30,000 calls of 3 tasks are about as many as it can play. Prints a row for
-each number of CALLS: the calls and states, seconds of processor time, and megabytes at most. With
---keep the histories stay in DIR."""
+which are two a move. So after 20,000 calls each task gives back what it has, and task 0 makes the
+mount and the file system writable and runs the callbacks. All is then as it was at the beginning,
+and a new replay goes on. Prints a row for each number of CALLS: the calls and states, seconds of
+processor time, and megabytes at most. With --keep the histories stay in DIR."""
 
 import argparse
 import json
@@ -36,6 +37,7 @@ ADMINISTERS = (
 )
 LATEST, LONGEST = 3, 4
 LIMIT = 4_000_000_000
+PART = 20_000
 
 
 class Player:
@@ -48,12 +50,13 @@ class Player:
         self.process.stdin.write(f"config {tasks} 1 1 2 8\n")
 
     def answer(self, line):
-        """What a call has answered by this line, as a history says it; None if it goes on."""
+        """What a call has answered by this line, as a history says it; None if it goes on. Where
+        the model forbids the action of a wrong step, that is told beside, and the step is done."""
         self.process.stdin.write(f"{line}\nwords\n")
         self.process.stdin.flush()
         answer = None
         while (record := json.loads(self.process.stdout.readline()))["record"] != "words":
-            if record["record"] == "answer":
+            if record["record"] == "answer" and record["answer"] != "forbidden":
                 answer = record
         if answer is None or answer["answer"] == "waiting":
             return None
@@ -89,8 +92,37 @@ class Task:
 def draw(program, tasks, calls, dice, most=None):
     """The lines of a history with so many calls. After so many draws at most it ends as it is, if
     that is said: calls may be under way then."""
-    player, movers = Player(program, tasks), [Task(number) for number in range(tasks)]
-    lines, begun, drawn = [f"config {tasks} 1 1 2 8", "history"], 0, 0
+    lines, left = [f"config {tasks} 1 1 2 8", "history"], calls
+    while left:
+        player = Player(program, tasks)
+        part = min(left, PART)
+        lines += draw_part(player, tasks, part, dice, most)
+        left -= part
+        if left:
+            lines += begin_anew(player)
+        player.process.stdin.close()
+        player.process.wait()
+    return lines
+
+
+def begin_anew(player):
+    """What task 0 does alone, so that the next replay begins where this one ends."""
+    lines = []
+    for call in ("remount rw", "change 0 rw", "callback 1", "callback 2", "callback 3"):
+        answer = None
+        while answer in (None, "ok ran"):
+            lines.append(f"0 {call}")
+            answer = player.answer(lines[-1])
+            while answer is None:
+                answer = player.answer("0 step")
+            lines.append(f"0 {answer}")
+    return lines
+
+
+def draw_part(player, tasks, calls, dice, most):
+    """The lines of so many calls, behind which no task has anything to give back."""
+    movers = [Task(number) for number in range(tasks)]
+    lines, begun, drawn = [], 0, 0
     while begun < calls or any(task.call or task.owes for task in movers):
         if drawn == most:
             break
@@ -112,8 +144,6 @@ def draw(program, tasks, calls, dice, most=None):
             lines.append(f"{task.number} {task.answer}")
             task.returned()
             task.call, task.wait = None, dice.randrange(LONGEST + 1)
-    player.process.stdin.close()
-    player.process.wait()
     return lines
 
 
