@@ -267,7 +267,9 @@ impl<D: Driver> Session<D> {
         })
     }
 
-    /// What the hook answers that the next step of a task asks, where one may fail and all others answer Ok.
+    /// What the hook answers that the next step of a task asks, where one may fail and all others answer Ok. In line, since a run asks before
+    /// each step, and in most runs none may fail.
+    #[inline(always)]
     pub fn hook_answer(&self, task: u8, failure: Option<HookFailure>) -> Result<(), u16>
         ensures { (p : ReplayState) → ShowsPlay D.shows self.now p → result ≡ hook_answer p task failure }
     {
