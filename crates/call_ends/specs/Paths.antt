@@ -1,8 +1,8 @@
 -- What comes next of operations whose usual steps are done in a line.
 use Rattle.std.specs.Prelude.{Bool, Ok, false, true, ℕ}
 use Rattle.access_model.specs.{Replies.map_next, declared.replies.{Next.{Next, TheVariants.Done}, Reply.TheVariants.Unit as UnitReply}}
-use Rattle.composite_ops.specs.declared.{file_closes.phases.ClosePhase.ClosePhase, write_access.phases.WritePhase.{TheVariants.Takes, WritePhase}}
-use Rattle.gate_world.specs.declared.work.Phase.{Phase, TheVariants.{Closes, DownReads, Mounts, Writes}}
+use Rattle.composite_ops.specs.declared.write_access.phases.WritePhase.{TheVariants.Takes, WritePhase}
+use Rattle.gate_world.specs.declared.work.Phase.{Phase, TheVariants.{DownReads, Mounts, Writes}}
 use Rattle.mount_counts.specs.declared.phases.{Change.Change, MountPhase.TheVariants.{Change as Changes, Want as Wants}, Want.Want}
 use Rattle.percpu_rwsem.specs.declared.readers.{DownRead.DownRead, DownReadStep.DownReadStep}
 
@@ -17,10 +17,6 @@ of_change next = map_next (λ change. Mounts (Changes change)) next
 -- the same of a taking or a return of write access
 abbrev pub of_write : Next WritePhase → Next Phase
 of_write next = map_next Writes next
-
--- the same of a close of a file
-abbrev pub of_close : Next ClosePhase → Next Phase
-of_close next = map_next Closes next
 
 -- the same of a start at a level
 abbrev pub of_read : Next DownRead → Next Phase

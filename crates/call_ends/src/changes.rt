@@ -7,9 +7,10 @@ ghost use Rattle.mount_counts.specs.declared.phases.MountPhase.TheVariants.{Chan
 ghost use Rattle.gate_steps.specs.call_events.Led.{Led, Stands};
 ghost use Rattle.call_ends.specs.Paths.{of_change};
 
-use crate::lines::{Checkpointed, step_if_at};
+use crate::lines::{Checkpointed, LinedOp, step_if_at};
 use access_model::Next;
-use gate_steps::call_events::{GateWords, GhostSeat, step_once};
+use freeze_levels::HookCall;
+use gate_steps::call_events::{GateWords, GhostSeat, TimedHooks, step_once};
 use gate_world::{Accesses, Op};
 use mount_counts::{Change, ChangeStep};
 
@@ -99,20 +100,26 @@ fn end_change(
     step_if_at(gates, seat, accesses, next, ChangePlace::Releases)
 }
 
-/// Does the first step of a change, and those that stand in a line with it.
-#[inline(always)]
-pub(crate) fn change_in_line(
-    gates: &GateWords,
-    seat: &mut GhostSeat,
-    accesses: &mut Accesses,
-    op: Op,
-    change: Change,
-) -> Next<Change>
-    requires { Stands gates.now (Some op) (Go (Mounts (Changes change))) accesses.old seat.old }
-    ensures { Led gates.now (Some op) (Go (Mounts (Changes change))) accesses.old seat.old (of_change result) accesses.new seat.new }
-{
-    let processors = change.processors;
-    let next = begin_change(gates, seat, accesses, op, change);
-    let next = add_counts(gates, seat, accesses, next, processors);
-    end_change(gates, seat, accesses, next)
+impl LinedOp for Change {
+    #[inline(always)]
+    fn asks(&self) -> Option<HookCall> {
+        None
+    }
+
+    /// Does the first step of a change, and those that stand in a line with it.
+    #[inline(always)]
+    fn begin_in_line<H: TimedHooks>(
+        self,
+        gates: &GateWords,
+        seat: &mut GhostSeat,
+        accesses: &mut Accesses,
+        op: Op,
+        hooks: &mut H,
+    ) -> Next<Change> {
+        let _hooks = &*hooks;
+        let processors = self.processors;
+        let next = begin_change(gates, seat, accesses, op, self);
+        let next = add_counts(gates, seat, accesses, next, processors);
+        end_change(gates, seat, accesses, next)
+    }
 }

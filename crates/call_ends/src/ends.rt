@@ -10,7 +10,8 @@ ghost use Rattle.gate_steps.specs.call_events.Runs.{Called, OpUnderWay, IsTrying
 ghost use Rattle.gate_steps.specs.call_events.Asking.{CalledAsking, OpUnderWayAsking, OpAfterStepAsking};
 
 use crate::backoff::Backoff;
-use crate::operations::{LinedOp, go_on_in_line, step_asking};
+use crate::lines::LinedOp;
+use crate::operations::{go_on_in_line, step_asking};
 use access_model::{GateError, Next, Reply};
 use gate_steps::call_events::{GateWords, GhostSeat, StepResult, TimedHooks, do_event};
 use gate_transitions::PendingOp;

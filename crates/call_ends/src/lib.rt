@@ -21,4 +21,4 @@ mod writes;
 
 pub use backoff::Backoff;
 pub use ends::{run_to_reply, wait_for_reply};
-pub use operations::LinedOp;
+pub use lines::LinedOp;

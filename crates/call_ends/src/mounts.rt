@@ -1,15 +1,13 @@
 //! A want of an access at a mount, in a line.
 
-ghost use Rattle.std.specs.Prelude.{Some, None};
-ghost use Rattle.access_model.specs.declared.replies.Next.TheVariants.{Go};
-ghost use Rattle.gate_world.specs.declared.work.Phase.TheVariants.{Mounts};
-ghost use Rattle.mount_counts.specs.declared.phases.MountPhase.TheVariants.{Want as Wants};
+ghost use Rattle.std.specs.Prelude.{None};
 ghost use Rattle.gate_steps.specs.call_events.Led.{Led, Stands};
 ghost use Rattle.call_ends.specs.Paths.{of_want};
 
-use crate::lines::{Checkpointed, step_if_at};
+use crate::lines::{Checkpointed, LinedOp, step_if_at};
 use access_model::Next;
-use gate_steps::call_events::{GateWords, GhostSeat, step_once};
+use freeze_levels::HookCall;
+use gate_steps::call_events::{GateWords, GhostSeat, TimedHooks, step_once};
 use gate_world::{Accesses, Op};
 use mount_counts::{Want, WantStep};
 
@@ -39,19 +37,25 @@ fn ask_in_line(
     step_if_at(gates, seat, accesses, next, WantStep::LoadsSuperblock)
 }
 
-/// Does the first step of a want, and those that stand in a line with it.
-#[inline(always)]
-pub(crate) fn want_in_line(
-    gates: &GateWords,
-    seat: &mut GhostSeat,
-    accesses: &mut Accesses,
-    op: Op,
-    want: Want,
-) -> Next<Want>
-    requires { Stands gates.now (Some op) (Go (Mounts (Wants want))) accesses.old seat.old }
-    ensures { Led gates.now (Some op) (Go (Mounts (Wants want))) accesses.old seat.old (of_want result) accesses.new seat.new }
-{
-    let next = step_once(gates, seat, accesses, Some(op), want, Ok(()));
-    let next = step_if_at(gates, seat, accesses, next, WantStep::LoadsHold);
-    ask_in_line(gates, seat, accesses, next)
+impl LinedOp for Want {
+    #[inline(always)]
+    fn asks(&self) -> Option<HookCall> {
+        None
+    }
+
+    /// Does the first step of a want, and those that stand in a line with it.
+    #[inline(always)]
+    fn begin_in_line<H: TimedHooks>(
+        self,
+        gates: &GateWords,
+        seat: &mut GhostSeat,
+        accesses: &mut Accesses,
+        op: Op,
+        hooks: &mut H,
+    ) -> Next<Want> {
+        let _hooks = &*hooks;
+        let next = step_once(gates, seat, accesses, Some(op), self, Ok(()));
+        let next = step_if_at(gates, seat, accesses, next, WantStep::LoadsHold);
+        ask_in_line(gates, seat, accesses, next)
+    }
 }

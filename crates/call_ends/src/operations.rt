@@ -1,6 +1,7 @@
-//! Operations under way, and which of their steps stand in lines.
+//! One step of an operation outside its line; which steps of a freeze, a thaw, a remount and a
+//! callback stand in lines; and the operations of which none does.
 
-ghost use Rattle.std.specs.Prelude.{◌≡◌, Some, None};
+ghost use Rattle.std.specs.Prelude.{None};
 ghost use Rattle.access_model.specs.Replies.{map_next};
 ghost use Rattle.access_model.specs.declared.replies.Next.TheVariants.{Go};
 ghost use Rattle.gate_world.specs.declared.work.Phase.TheVariants.{Callbacks, Freezes, Remounts, Thaws};
@@ -11,69 +12,17 @@ ghost use Rattle.call_ends.specs.Remounting.{of_remount};
 ghost use Rattle.call_ends.specs.Reopenings.{of_thaw};
 
 use crate::callbacks::{callback_first, run_callback};
-use crate::changes::change_in_line;
-use crate::closes::close_in_line;
 use crate::freeze_lines::{close_second, end_freeze, freeze_first, freeze_locked, go_on_level};
-use crate::levels::start_in_line;
-use crate::mounts::want_in_line;
+use crate::lines::LinedOp;
 use crate::remount_lines::{remount_first, remount_locked};
 use crate::thaw_lines::{reopen_all, thaw_first, thaw_locked};
-use crate::writes::write_in_line;
 use access_model::{Next, Reply};
-use composite_ops::{ClosePhase, WritePhase};
 use freeze_levels::{Freeze, FreezeStep, HookCall, Thaw, ThawStep};
 use gate_steps::call_events::{GateWords, GhostSeat, TimedHooks, step_once};
 use gate_transitions::PendingOp;
 use gate_world::{Accesses, Op};
-use mount_counts::{Change, MountPhase, Remount, RemountStep, Want};
-use percpu_rwsem::{Callback, CallbackStep, DownRead, DownWrite, UpRead};
-
-/// An operation under way, in a form of its own, some of whose steps stand in lines. A step that stands in none is done by a loop (`ends`).
-pub trait LinedOp: PendingOp {
-    ghost use Rattle.std.specs.Prelude.{◌≡◌, Some, None};
-    ghost use Rattle.access_model.specs.Replies.{map_next};
-    ghost use Rattle.access_model.specs.declared.replies.Next.TheVariants.{Go};
-    ghost use Rattle.gate_steps.specs.call_events.Asking.{call_at};
-    ghost use Rattle.gate_steps.specs.call_events.Led.{LedAsking, Stands};
-
-    /// The hook whose answer the next step reads, with what it is asked.
-    fn asks(&self) -> Option<HookCall>
-        ensures { result ≡ call_at (Self.as_phase self.now) };
-
-    /// Does the first step of the operation and those that stand in a line with it, up to what stands in their way. Each hook is asked right
-    /// before the step that reads its answer. What comes after the last step.
-    fn begin_in_line<H: TimedHooks>(
-        self,
-        gates: &GateWords,
-        seat: &mut GhostSeat,
-        accesses: &mut Accesses,
-        op: Op,
-        hooks: &mut H,
-    ) -> Next<Self>
-        requires { Stands gates.now (Some op) (Go (Self.as_phase self)) accesses.old seat.old }
-        ensures { LedAsking H.answers gates.now (Some op) (Go (Self.as_phase self)) accesses.old seat.old hooks.old
-            (map_next Self.as_phase result) accesses.new seat.new hooks.new };
-
-    /// Does the steps that come next and stand in a line, up to what stands in their way; none where the operation stands at none of these.
-    #[inline(always)]
-    fn run_fast_path<H: TimedHooks>(
-        self,
-        gates: &GateWords,
-        seat: &mut GhostSeat,
-        accesses: &mut Accesses,
-        hooks: &mut H,
-    ) -> Next<Self>
-        requires { Stands gates.now None (Go (Self.as_phase self)) accesses.old seat.old }
-        ensures { LedAsking H.answers gates.now None (Go (Self.as_phase self)) accesses.old seat.old hooks.old (map_next Self.as_phase result)
-            accesses.new seat.new hooks.new }
-    {
-        let _gates = gates;
-        let _seat = &*seat;
-        let _accesses = &*accesses;
-        let _hooks = &*hooks;
-        Next::Go(self)
-    }
-}
+use mount_counts::{MountPhase, Remount, RemountStep};
+use percpu_rwsem::{Callback, CallbackStep, DownWrite, UpRead};
 
 /// Does the next step of an operation. What comes after it. Where it reads what a hook answers, that hook is asked right before it.
 #[inline(always)]
@@ -115,86 +64,6 @@ pub(crate) fn go_on_in_line<P: LinedOp, H: TimedHooks>(
     }
 }
 
-impl LinedOp for Want {
-    #[inline(always)]
-    fn asks(&self) -> Option<HookCall> {
-        None
-    }
-
-    #[inline(always)]
-    fn begin_in_line<H: TimedHooks>(
-        self,
-        gates: &GateWords,
-        seat: &mut GhostSeat,
-        accesses: &mut Accesses,
-        op: Op,
-        hooks: &mut H,
-    ) -> Next<Want> {
-        let _hooks = &*hooks;
-        want_in_line(gates, seat, accesses, op, self)
-    }
-}
-
-impl LinedOp for DownRead {
-    #[inline(always)]
-    fn asks(&self) -> Option<HookCall> {
-        None
-    }
-
-    #[inline(always)]
-    fn begin_in_line<H: TimedHooks>(
-        self,
-        gates: &GateWords,
-        seat: &mut GhostSeat,
-        accesses: &mut Accesses,
-        op: Op,
-        hooks: &mut H,
-    ) -> Next<DownRead> {
-        let _hooks = &*hooks;
-        start_in_line(gates, seat, accesses, op, self)
-    }
-}
-
-impl LinedOp for WritePhase {
-    #[inline(always)]
-    fn asks(&self) -> Option<HookCall> {
-        None
-    }
-
-    #[inline(always)]
-    fn begin_in_line<H: TimedHooks>(
-        self,
-        gates: &GateWords,
-        seat: &mut GhostSeat,
-        accesses: &mut Accesses,
-        op: Op,
-        hooks: &mut H,
-    ) -> Next<WritePhase> {
-        let _hooks = &*hooks;
-        write_in_line(gates, seat, accesses, op, self)
-    }
-}
-
-impl LinedOp for Change {
-    #[inline(always)]
-    fn asks(&self) -> Option<HookCall> {
-        None
-    }
-
-    #[inline(always)]
-    fn begin_in_line<H: TimedHooks>(
-        self,
-        gates: &GateWords,
-        seat: &mut GhostSeat,
-        accesses: &mut Accesses,
-        op: Op,
-        hooks: &mut H,
-    ) -> Next<Change> {
-        let _hooks = &*hooks;
-        change_in_line(gates, seat, accesses, op, self)
-    }
-}
-
 impl LinedOp for MountPhase {
     #[inline(always)]
     fn asks(&self) -> Option<HookCall> {
@@ -232,26 +101,6 @@ impl LinedOp for UpRead {
     ) -> Next<UpRead> {
         let _hooks = &*hooks;
         step_once(gates, seat, accesses, Some(op), self, Ok(()))
-    }
-}
-
-impl LinedOp for ClosePhase {
-    #[inline(always)]
-    fn asks(&self) -> Option<HookCall> {
-        None
-    }
-
-    #[inline(always)]
-    fn begin_in_line<H: TimedHooks>(
-        self,
-        gates: &GateWords,
-        seat: &mut GhostSeat,
-        accesses: &mut Accesses,
-        op: Op,
-        hooks: &mut H,
-    ) -> Next<ClosePhase> {
-        let _hooks = &*hooks;
-        close_in_line(gates, seat, accesses, op, self)
     }
 }
 

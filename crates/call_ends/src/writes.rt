@@ -6,16 +6,17 @@ ghost use Rattle.access_model.specs.declared.replies.Reply.TheVariants.{Unit as 
 ghost use Rattle.gate_world.specs.declared.operations.Op.TheVariants.{WantWrite};
 ghost use Rattle.gate_world.specs.declared.work.Phase.TheVariants.{Writes};
 ghost use Rattle.gate_steps.specs.call_events.Led.{Led, Stands};
-ghost use Rattle.composite_ops.specs.declared.write_access.phases.WritePhase.TheVariants.{Drops, Takes};
+ghost use Rattle.composite_ops.specs.declared.write_access.phases.WritePhase.TheVariants.{Drops};
 ghost use Rattle.composite_ops.specs.write_access.Phases.{after};
 ghost use Rattle.percpu_rwsem.specs.declared.readers.DownReadStep.TheVariants.{EntersSection, LoadsSync};
 ghost use Rattle.call_ends.specs.Paths.{done_or, of_write, taking_at};
 
-use crate::lines::{Checkpointed, step_if_at};
+use crate::lines::{Checkpointed, LinedOp, step_if_at};
 use access_model::{Next, Reply};
 use composite_ops::WritePhase;
 use cpu_words::{Touch, WordName};
-use gate_steps::call_events::{GateWords, GhostSeat, find, find_first, step_once};
+use freeze_levels::HookCall;
+use gate_steps::call_events::{GateWords, GhostSeat, TimedHooks, find, find_first, step_once};
 use gate_world::{Accesses, Op};
 use mount_counts::WantStep;
 use percpu_rwsem::{DownRead, DownReadStep};
@@ -162,7 +163,7 @@ fn give_in_line(
 
 /// Does the first step of a taking or a return of write access, and those that stand in a line with it.
 #[inline(always)]
-pub(crate) fn write_in_line(
+fn write_in_line(
     gates: &GateWords,
     seat: &mut GhostSeat,
     accesses: &mut Accesses,
@@ -183,5 +184,25 @@ pub(crate) fn write_in_line(
         }
         WritePhase::Drops { mount, cpu } => give_in_line(gates, seat, accesses, op, mount, cpu),
         _ => unreachable!(),
+    }
+}
+
+impl LinedOp for WritePhase {
+    #[inline(always)]
+    fn asks(&self) -> Option<HookCall> {
+        None
+    }
+
+    #[inline(always)]
+    fn begin_in_line<H: TimedHooks>(
+        self,
+        gates: &GateWords,
+        seat: &mut GhostSeat,
+        accesses: &mut Accesses,
+        op: Op,
+        hooks: &mut H,
+    ) -> Next<WritePhase> {
+        let _hooks = &*hooks;
+        write_in_line(gates, seat, accesses, op, self)
     }
 }
