@@ -11,7 +11,7 @@ use denote.{Steps.{heard, nothing}, Triple.{Entry.alive, Walked.{Goes-dropped, S
 use mathlib.Core.Bool.{Bool, true}
 use mir.{Raw.raw as bare, Val.{Val, vptr}}
 use prog.Wp.{WpFn}
-use types.{ByLocal.{alloc_all, free_all, get, get_in, look_at, pass_all, sets}, Kit.{!, by, fjoin, fsplit, keep, move, qed, raw, rewrite, split}}
+use types.{ByLocal.{alloc_all, free_all, get, get_in, look_at, pass_all, sets}, Kit.{ !, by, fjoin, fsplit, keep, move, qed, raw, rewrite, split}}
 use types.{Kit.{suffices, use0, ‵, ◌$◌, ◌∵◌, ◌⊛◌}, Logic.sem, Part.{agg, sub, whole}, Run.{and_then, enter, fld, no_more, of_opd, returns, stop}}
 use Rattle.std_heap.specs.contracts.Global as global
 use Rattle.std_heap.proofs.Global.TheLaws as heap_laws

@@ -11,7 +11,7 @@ use denote.{Steps.{heard, nothing, opens}, Triple.Walked.{Goes-spent_ref, Stays,
 use mathlib.Core.Bool.{Bool, true}
 use mir.{Raw.raw as bare, Syntax.named, Val.{Val, vptr}}
 use seplogic.Ra.Ura.{Ura}
-use types.{ByLocal.{alloc_all, env, free_all, get, look_at, pass_all, sets, sets_last, through}, Kit.{!, at_ret, await, done, fjoin, fpack, frame}}
+use types.{ByLocal.{alloc_all, env, free_all, get, look_at, pass_all, sets, sets_last, through}, Kit.{ !, at_ret, await, done, fjoin, fpack, frame}}
 use types.Kit.{fsplit, fsplit3, group, join, keep, later, move, pick, qed, raw, rewrite, some, split, suffices, use1, ‵, ◌$◌, ◌∵◌, ◌⊛◌}
 use types.{Logic.{Logic, sem}, Part.{look_in, sub, whole}, Run.{addr, blocks, enter, exec, first, fld, load, of_opd, returns, stop}}
 use Rattle.mntgate_c.specs.contracts.members.Member as task
