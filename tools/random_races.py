@@ -4,13 +4,13 @@ those that it finds in full.
 
     tools/random_races.py [--races N] [--seed N] [--limit STATES] [PROGRAM]
 
-Both searches have to find the same outcomes, and the reduced one may visit no more states. The
-execution that is saved for an outcome is replayed, and has to answer what the outcome says. Some
-calls come after one of a line before: an outcome in which nobody waits has to be one of the same
-race without that order, too. A race that has more states than the limit counts for nothing, and
-another one is taken. With no PROGRAM it
-is crates/mntgate/out/mntgate, and there are 300 races. Prints how many agree, and how many states
-were visited; or the first race that doesn't agree, and what differs: the exit status is 1 then."""
+Both searches have to find the same outcomes and the same ends, and the reduced one may visit no
+more states. The execution that is saved for an outcome is replayed, and has to answer what the
+outcome says. Some calls come after one of a line before: an outcome in which nobody waits has to be
+one of the same race without that order, too. A race that has more states than the limit counts for
+nothing, and another one is taken. With no PROGRAM it is crates/mntgate/out/mntgate, and there are
+300 races. Prints how many agree, and how many states were visited; or the first race that doesn't
+agree, and what differs: the exit status is 1 then."""
 
 import argparse
 import concurrent.futures
@@ -93,8 +93,8 @@ def random_race(seed):
 
 
 def outcomes(program, limit, race, *words):
-    """How many states a search visits, and the outcomes; None where there are more states than the
-    limit."""
+    """How many states a search visits, and the outcomes, or the ends; None where there are more
+    states than the limit."""
     ran = subprocess.run(
         [program, "outcomes", "--limit", str(limit), *words],
         input=race,
@@ -105,7 +105,7 @@ def outcomes(program, limit, race, *words):
     head, *lines = ran.stdout.splitlines() or [""]
     if head.startswith("more than"):
         return None
-    if ran.returncode or not head.endswith(("outcome", "outcomes")):
+    if ran.returncode or not head.endswith(("outcome", "outcomes", "end", "ends")):
         sys.exit(f"random_races.py: no outcomes of\n{race}{ran.stdout}{ran.stderr}")
     return int(head.split()[0]), lines
 
@@ -171,6 +171,10 @@ def compare(program, limit, seed):
     reduced = outcomes(program, limit, race)
     if reduced is None or reduced[0] > full[0] or reduced[1] != full[1]:
         return full[0], 0, f"{race}in full: {full}\nreduced: {reduced}"
+    ends = outcomes(program, limit, race, "--ends", "--no-reduction")
+    led = outcomes(program, limit, race, "--ends")
+    if led is None or led[0] != reduced[0] or led[1] != ends[1]:
+        return full[0], 0, f"{race}ends in full: {ends}\nreduced: {led}"
     wrong = wrong_executions(program, limit, race, reduced[1]) or wrong_orders(
         program, limit, race, reduced[1]
     )

@@ -329,7 +329,7 @@ fn list_race<W: Observer>(
     let (plan, details) = (plan_of(asked), details_of(asked));
     let shape = match asked.form {
         OutcomeForm::Text if asked.ends => {
-            return tell_ends(source, &core, plan.limit, details, watch, told);
+            return tell_ends(source, &core, plan, details, watch, told);
         }
         OutcomeForm::Text => return tell(source, core, plan, details, watch, told),
         OutcomeForm::Json => Shape::Records,

@@ -66,7 +66,7 @@ pub fn show_outcomes<W: Observer>(
 {
     let has_models = exhibit.details.model && !exhibit.ends;
     let finals = if has_models {
-        Finals::find(source, &core, plan.limit, watch)?
+        Finals::find(source, &core, plan, watch)?
     } else {
         Finals::unknown(source)
     };
@@ -91,7 +91,7 @@ fn listed<W: Observer>(
     ensures within { IfOk result (λ listing. All (λ outcome. outcome.end < length listing.all.found.states) listing.outcomes.items) }
 {
     if ends {
-        return list_ends(source, &core, plan.limit, watch);
+        return list_ends(source, &core, plan, watch);
     }
     list(source.alloc, &source.calls.race, core, plan, watch)
 }

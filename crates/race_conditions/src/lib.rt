@@ -24,6 +24,6 @@ pub use claims::{Claim, ClaimKind};
 pub use conditions::{CallAnswer, Condition, Fact, NodeFact};
 pub use faults::{ConditionFault, Expected, Unexpected};
 pub use parsing::{Names, parse};
-pub use searching::{open_marks, race_ends};
+pub use searching::{open_marks, race_ends, race_ends_led};
 pub use verdicts::{Verdict, judge};
 pub use views::StateView;
