@@ -1,11 +1,10 @@
 -- A line by which a task begins a call.
-use Rattle.std.proofs.Common.{◌≡◌, ◌∙◌, sym, ap, ℕ, Bool, true, false, List, length, Option, Some, Result, Ok, Err, inl, inr, is_some}
-use Rattle.std.specs.{Prelude.{if◌then◌else◌}, Result.{OnOk}}
+use Rattle.std.proofs.Common.{Bool, Err, List, Ok, Option, Result, Some, ap, false, if◌then◌else◌, inl, inr, is_some, length, sym, true, ℕ, ◌∙◌, ◌≡◌}
+use Rattle.std.specs.Result.{OnOk}
 use Rattle.histories.specs.declared.markers.Marker.TheVariants.{Begins}
-use Rattle.race_files.specs.{Left.{calls_left, lines_in}, declared.faults.RaceFault.TheVariants.{UnderWay}}
-use Rattle.races.specs.declared.calls.Call.{Call}
-use Rattle.history_files.specs.{Faults.{IsToldOrMemory}, Operations.{operation_lines}, Records.{Reading, begun_at, row_among, row_of, with_begin, with_marker}}
-use Rattle.history_files.specs.declared.faults.HistoryFault.{HistoryFault, TheVariants.{Race}}
+use Rattle.{race_files.specs.{Left.{calls_left, lines_in}, declared.faults.RaceFault.TheVariants.UnderWay}, races.specs.declared.calls.Call.Call}
+use Rattle.history_files.specs.{Faults.IsToldOrMemory, Operations.operation_lines, Records.{Reading, begun_at, row_among, row_of, with_begin}}
+use Rattle.history_files.specs.{Records.with_marker, declared.faults.HistoryFault.{HistoryFault, TheVariants.Race}}
 
 -- its operations, read in their lines
 row_told : (tasks task : ℕ) (line lines : List ℕ) (row : Result (List (Option Call)) HistoryFault) → lines ≡ operation_lines line →

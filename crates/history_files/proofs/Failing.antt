@@ -1,8 +1,6 @@
 -- Operations in which a hook fails, one by one.
-use Rattle.std.proofs.Common.{zero, suc, ◌≡◌, ℕ, ◌+◌, ◌-◌, ◌<◌, ◌≤◌, List, Option, None, ap, arith}
-use Rattle.std.specs.Prelude.{slice_index_or, slice_set}
-use Rattle.races.specs.declared.calls.Call.{Call}
-use Rattle.schedule_text.specs.declared.commands.HookFailure.{HookFailure}
+use Rattle.std.proofs.Common.{List, None, Option, ap, arith, slice_index_or, slice_set, suc, zero, ℕ, ◌+◌, ◌-◌, ◌<◌, ◌≡◌, ◌≤◌}
+use Rattle.{races.specs.declared.calls.Call.Call, schedule_text.specs.declared.commands.HookFailure.HookFailure}
 use Rattle.history_files.specs.Records.{failing_from, with_failure}
 
 pub one_failing : (all turn : ℕ) (failure : HookFailure) (row : List (Option Call)) → turn < all →

@@ -1,14 +1,11 @@
 -- No execution has more markers than there are.
-use Rattle.std.proofs.Common.{◌≡◌, ℕ, ◌+◌, ◌≤◌, Bool, true, false, Option, Some, None, List, [], ◌∷◌, length, slice_get, refl, ap, subst, arith}
-use Rattle.std.proofs.lemmas.Option.{slice_get_within}
-use Rattle.std.specs.{Prelude.{nat_lt, if◌then◌else◌}, Option.{option_map, option_and_then}}
-use Rattle.exploration.proofs.Pulled.{first_move, nowhere}
-use Rattle.exploration.specs.Schedules.{LeadsTo}
-use Rattle.gate_world.specs.{declared.config.Config.{Config}, Worlds.{World}}
-use Rattle.races.specs.declared.calls.Call.{Call}
-use Rattle.races.specs.Races.{RaceStateIn, move_of_world}
-use Rattle.histories.specs.declared.markers.Marker.{Marker}
-use Rattle.histories.specs.{Executions.{Has, IsAdmitted, beginning}, Histories.{HistoryStateIn, after_marker, marked, may_come, next_by, task_of, under_way}}
+use Rattle.std.proofs.Common.{Bool, List, None, Option, Some, [], ap, arith, false, if◌then◌else◌, length, nat_lt, refl, slice_get, subst, true, ℕ}
+use Rattle.std.{proofs.{Common.{◌+◌, ◌∷◌, ◌≡◌, ◌≤◌}, lemmas.Option.slice_get_within}, specs.Option.{option_and_then, option_map}}
+use Rattle.exploration.{proofs.Pulled.{first_move, nowhere}, specs.Schedules.LeadsTo}
+use Rattle.gate_world.specs.{Worlds.World, declared.config.Config.Config}
+use Rattle.histories.specs.Executions.{Has, IsAdmitted, beginning}
+use Rattle.histories.specs.{Histories.{HistoryStateIn, after_marker, marked, may_come, next_by, task_of, under_way}, declared.markers.Marker.Marker}
+use Rattle.races.specs.{Races.{RaceStateIn, move_of_world}, declared.calls.Call.Call}
 
 module _ {M : Type 0} (next : List (List (Option Call)) → RaceStateIn M → ℕ → Option (RaceStateIn M)) (tasks : ℕ) (markers : List Marker) where
   one_move : (s t : HistoryStateIn M) (m : ℕ) → next_by next tasks markers s m ≡ Some t → s.passed ≤ length markers → t.passed ≤ length markers

@@ -1,9 +1,8 @@
 -- Where the line `history` stands, line by line.
-use Rattle.std.proofs.Common.{zero, suc, ◌≡◌, ℕ, ◌+◌, ◌-◌, ◌<◌, ◌≤◌, true, false, List, take, drop, length, length-drop, Option, Some, None, refl, ap, ◌∙◌, arith}
-use Rattle.std.proofs.lemmas.List.{take_all}
-use Rattle.std.specs.Prelude.{codes, bytes_eq, if◌then◌else◌}
-use Rattle.schedule_lines.specs.{Lines.{front_of}, declared.lines.Front.{Front, TheVariants.{Line, TooLong, Part}}}
-use Rattle.history_files.specs.{Files.{history_from}, declared.files.HistoryPlace.{HistoryPlace}}
+use Rattle.std.proofs.Common.{List, None, Option, Some, ap, arith, bytes_eq, codes, drop, false, if◌then◌else◌, length, length-drop, refl, suc, take}
+use Rattle.std.proofs.{Common.{true, zero, ℕ, ◌+◌, ◌-◌, ◌<◌, ◌∙◌, ◌≡◌, ◌≤◌}, lemmas.List.take_all}
+use Rattle.schedule_lines.specs.{Lines.front_of, declared.lines.Front.{Front, TheVariants.{Line, Part, TooLong}}}
+use Rattle.history_files.specs.{Files.history_from, declared.files.HistoryPlace.HistoryPlace}
 
 -- all bytes from a place on
 pub whole_rest : (at : ℕ) (bytes : List ℕ) → take (length bytes - at) (drop at bytes) ≡ drop at bytes

@@ -1,10 +1,8 @@
 -- What the search has found of a history's markers.
-use Rattle.std.proofs.Common.{◌≡◌, ℕ, ◌<◌, ◌≤◌, List, length, subst}
-use Rattle.gate_core.specs.Memory.{Memory, Represents}
-use Rattle.gate_world.specs.Worlds.{World}
-use Rattle.histories.specs.{Executions.{Has, HasMost}, declared.markers.Marker.{Marker}}
-use Rattle.history_files.proofs.Few.{admitted}
-use Rattle.history_files.specs.Verdicts.{IsImpossible, IsPossible}
+use Rattle.std.proofs.Common.{List, length, subst, ℕ, ◌<◌, ◌≡◌, ◌≤◌}
+use Rattle.{gate_core.specs.Memory.{Memory, Represents}, gate_world.specs.Worlds.World}
+use Rattle.histories.specs.{Executions.{Has, HasMost}, declared.markers.Marker.Marker}
+use Rattle.history_files.{proofs.Few.admitted, specs.Verdicts.{IsImpossible, IsPossible}}
 
 module _ (core : Memory) (judged markers : List Marker) (same : judged ≡ markers) (passed : ℕ) where
   -- some execution has as many markers as there are

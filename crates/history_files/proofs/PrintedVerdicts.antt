@@ -1,10 +1,7 @@
 -- What is printed of the history in a text.
-use Rattle.std.proofs.Common.{◌⊎◌, inl, inr, ℕ, ◌<◌, ◌≤◌, List, ◌++◌}
-use Rattle.std.proofs.lemmas.Bool.{cases_lt}
-use Rattle.std.specs.Prelude.{codes, decimal, slice_index_or}
-use Rattle.history_files.specs.Verdicts.{HasPossible, IsImpossibleAt, TellsVerdict}
-use Rattle.history_files.specs.Verdicts.TellsVerdict.{Impossible, Possible}
-use Rattle.schedule_lines.specs.{Printed.{Prints}, declared.output.Output.{Output}}
+use Rattle.std.proofs.{Common.{List, codes, decimal, inl, inr, slice_index_or, ℕ, ◌++◌, ◌<◌, ◌≤◌, ◌⊎◌}, lemmas.Bool.cases_lt}
+use Rattle.schedule_lines.specs.{Printed.Prints, declared.output.Output.Output}
+use Rattle.history_files.specs.Verdicts.{HasPossible, IsImpossibleAt, TellsVerdict, TellsVerdict.{Impossible, Possible}}
 
 pub tells : (bytes lines : List ℕ) (passed all : ℕ) (old new : Output) → (all ≤ passed → HasPossible bytes) →
     (passed < all → IsImpossibleAt bytes (slice_index_or lines passed 0)) → (all ≤ passed → Prints old new (codes "possible\n")) →

@@ -1,13 +1,10 @@
 -- The first fault of a whole text.
-use Rattle.std.proofs.Common.{◌≡◌, ◌⊎◌, ap, subst, ℕ, ◌+◌, List, ◌++◌, length, take, drop, Option, Some, inl, inr, arith}
-use Rattle.std.specs.Prelude.{codes}
-use Rattle.gate_core.specs.Memory.{Memory}
-use Rattle.race_files.specs.{FirstFaults.{IsFaultTold as IsSetUpFault}, Left.{Left, lines_in}, Races.{IsRaceIn}}
-use Rattle.races.specs.declared.calls.Call.{Call}
-use Rattle.schedule_lines.specs.declared.bytes.replay_faults.ReplayFault.{ReplayFault}
-use Rattle.history_files.specs.{Faults.{FailsInRecord, IsFaultAt, IsMemory}, Files.{IsFaultTold, history_from}}
-use Rattle.history_files.specs.Files.IsFaultTold.{BeforeHistory, BehindHistory, NoMemory}
-use Rattle.history_files.specs.declared.{faults.HistoryFault.{HistoryFault}, files.HistoryPlace.{HistoryPlace}}
+use Rattle.std.proofs.Common.{List, Option, Some, ap, arith, codes, drop, inl, inr, length, subst, take, ℕ, ◌++◌, ◌+◌, ◌≡◌, ◌⊎◌}
+use Rattle.{gate_core.specs.Memory.Memory, race_files.specs.{FirstFaults.IsFaultTold as IsSetUpFault, Left.{Left, lines_in}, Races.IsRaceIn}}
+use Rattle.{races.specs.declared.calls.Call.Call, schedule_lines.specs.declared.bytes.replay_faults.ReplayFault.ReplayFault}
+use Rattle.history_files.specs.{Faults.{FailsInRecord, IsFaultAt, IsMemory}, Files.IsFaultTold}
+use Rattle.history_files.specs.{Files.{IsFaultTold.{BeforeHistory, BehindHistory, NoMemory}, history_from}, declared.faults.HistoryFault.HistoryFault}
+use Rattle.history_files.specs.declared.files.HistoryPlace.{HistoryPlace}
 
 module _ (bytes : List ℕ) (place : HistoryPlace) (found : history_from 1048576 0 0 bytes ≡ Some place) where
   -- it stands before the line `history`

@@ -1,9 +1,7 @@
 -- Words that were put, and those that are left.
-use Rattle.std.proofs.Common.{zero, suc, ◌≡◌, ℕ, ◌+◌, ◌-◌, ◌<◌, ◌≤◌, true, List, ◌++◌, append_assoc, append-nil, sym, ◌∙◌, ap, arith}
-use Rattle.schedule_lines.specs.{Printed.{Prints}, Words.{first_word, after_word}}
-use Rattle.schedule_lines.specs.declared.output.Output.{Output}
-use Rattle.history_files.specs.Operations.{behind_next, shown_words, word_text}
-use Rattle.history_files.specs.declared.operations.Behind.{Behind}
+use Rattle.std.proofs.Common.{List, ap, append-nil, append_assoc, arith, suc, sym, true, zero, ℕ, ◌++◌, ◌+◌, ◌-◌, ◌<◌, ◌∙◌, ◌≡◌, ◌≤◌}
+use Rattle.schedule_lines.specs.{Printed.Prints, Words.{after_word, first_word}, declared.output.Output.Output}
+use Rattle.history_files.specs.{Operations.{behind_next, shown_words, word_text}, declared.operations.Behind.Behind}
 
 next_words : (task : List ℕ) (count taken : ℕ) (behind : Behind) (rest : List ℕ) → taken < count → shown_words task (count - taken) behind rest ≡
     word_text task behind (first_word rest) ++ shown_words task (count - (taken + 1)) (behind_next behind (first_word rest)) (after_word rest)

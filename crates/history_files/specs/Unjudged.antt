@@ -1,7 +1,6 @@
 -- Why a text has no verdict.
-use Rattle.std.specs.Prelude.{ℕ, List}
-use Rattle.history_files.specs.Files.{IsFaultTold}
-use Rattle.history_files.specs.declared.validating.Unvalidated.{Unvalidated, TheVariants.{Faulty, Unjudged}}
+use Rattle.std.specs.Prelude.{List, ℕ}
+use Rattle.history_files.specs.{Files.IsFaultTold, declared.validating.Unvalidated.{TheVariants.{Faulty, Unjudged}, Unvalidated}}
 
 -- The text has this fault; or more states come up than the limit, or memory was refused, of which no more is told.
 abbrev pub IsUnjudged : List ℕ → Unvalidated → Type 0

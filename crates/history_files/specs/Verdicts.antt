@@ -1,10 +1,9 @@
 -- What a verdict says of a history.
-use Rattle.std.specs.Prelude.{◌≡◌, ℕ, ◌<◌, List, ◌++◌, codes, decimal, length, slice_index_or}
-use Rattle.gate_core.specs.Memory.{Memory, Represents}
-use Rattle.gate_world.specs.Worlds.{World}
-use Rattle.histories.specs.{Executions.{HasMost, IsAdmitted}, declared.markers.Marker.{Marker}}
+use Rattle.std.specs.Prelude.{List, codes, decimal, length, slice_index_or, ℕ, ◌++◌, ◌<◌, ◌≡◌}
+use Rattle.{gate_core.specs.Memory.{Memory, Represents}, gate_world.specs.Worlds.World}
+use Rattle.histories.specs.{Executions.{HasMost, IsAdmitted}, declared.markers.Marker.Marker}
+use Rattle.schedule_lines.specs.{Printed.Prints, declared.output.Output.Output}
 use Rattle.history_files.specs.Files.{IsHistoryIn}
-use Rattle.schedule_lines.specs.{Printed.{Prints}, declared.output.Output.{Output}}
 
 -- On this core some execution has all markers, whatever state the core shows.
 abbrev pub IsPossible : Memory → List Marker → Type 0

@@ -1,12 +1,10 @@
 -- How a condition is read whose parts are read one level less deep.
-use Rattle.std.proofs.Common.{zero, suc, ◌≡◌, ℕ, ◌<◌, ◌-◌, refl, sym, ap, ◌∙◌, arith}
-use Rattle.std.specs.Prelude.{true, false, List, codes, Result, Ok, Err}
+use Rattle.std.proofs.Common.{Err, List, Ok, Result, ap, arith, codes, false, refl, suc, sym, true, zero, ℕ, ◌-◌, ◌<◌, ◌∙◌, ◌≡◌}
 use Rattle.gate_world.specs.declared.config.Config.{Config}
-use Rattle.race_conditions.specs.{Conditions.{Formula, Is, Not}, declared.conditions.Fact.{Fact}}
-use Rattle.race_conditions.specs.Parsing.{◌>>=◌, Read, IsFaultOf, after_piece, both, condition_at, fact_at, joined, part_of, read_by, sign_text}
-use Rattle.race_conditions.specs.{Pieces.{end_of, is_next, unexpected}, declared.faults.ConditionFault.{ConditionFault}}
-use Rattle.race_conditions.specs.declared.faults.ConditionFault.TheVariants.{Unexpected as IsUnexpected, NoMemory as OutOfMemory}
-use Rattle.race_conditions.specs.declared.{faults.Unexpected.{Unexpected}, parsing.{Rank.{Rank, TheVariants.{Joined, One}}, Sign.{Sign}}}
+use Rattle.race_conditions.specs.{Conditions.{Formula, Is, Not}, Parsing.{IsFaultOf, Read, after_piece, both, condition_at, fact_at, joined, part_of}}
+use Rattle.race_conditions.specs.{Parsing.{read_by, sign_text, ◌>>=◌}, Pieces.{end_of, is_next, unexpected}, declared.conditions.Fact.Fact}
+use Rattle.race_conditions.specs.declared.faults.ConditionFault.{ConditionFault, TheVariants.{NoMemory as OutOfMemory, Unexpected as IsUnexpected}}
+use Rattle.race_conditions.specs.declared.{faults.Unexpected.Unexpected, parsing.{Rank.{Rank, TheVariants.{Joined, One}}, Sign.Sign}}
 use Rattle.race_conditions.specs.declared.parsing.Sign.TheVariants.{Or as OrSign}
 use Rattle.race_conditions.specs.declared.faults.Expected.TheVariants as expect
 

@@ -1,10 +1,8 @@
 -- The lines of a race's file that claim something.
-use Rattle.std.specs.Prelude.{ℕ, List, Option, Some, None, Result, Ok, Err}
-use Rattle.gate_world.specs.declared.config.Config.{Config}
-use Rattle.race_conditions.specs.{Claims.{kind_named}, Conditions.{Formula, formula_of}, declared.claims.Claim.{Claim}}
-use Rattle.race_conditions.specs.declared.claims.ClaimKind.{ClaimKind}
-use Rattle.race_conditions.specs.{Parsing.{condition_in}, declared.faults.Unexpected.{Unexpected}}
-use Rattle.schedule_lines.specs.Words.{first_word, after_word}
+use Rattle.std.specs.Prelude.{Err, List, None, Ok, Option, Result, Some, ℕ}
+use Rattle.{gate_world.specs.declared.config.Config.Config, schedule_lines.specs.Words.{after_word, first_word}}
+use Rattle.race_conditions.specs.{Claims.kind_named, Conditions.{Formula, formula_of}, Parsing.condition_in, declared.claims.Claim.Claim}
+use Rattle.race_conditions.specs.declared.{claims.ClaimKind.ClaimKind, faults.Unexpected.Unexpected}
 
 -- a claim: what is claimed, and of which condition
 abbrev pub told_of : Claim → ClaimKind × Formula

@@ -17,24 +17,23 @@
 --              of mountMOUNT.flags 'none', 'READONLY', 'HOLD', or 'READONLY' ',' 'HOLD'
 --
 -- So `!` binds most, and `&` more than `|`.
-use Rattle.std.specs.Prelude.{◌≡◌, ◌||◌, ℕ, zero, suc, ◌+◌, nat_lt, Bool, true, false, if◌then◌else◌, List, [], ◌∷◌, codes, bytes_eq, find, Option, Some, None, is_some, Result, Ok, Err, slice_index, length, take, drop}
-use Rattle.access_model.specs.{Errors.{name_of}, declared.actions.Gate.TheVariants.{Mount as MountGate, Level as LevelGate}}
-use Rattle.access_model.specs.declared.{actions.Holder.{Holder, TheVariants.{Kernel, User}}, errors.GateError.{GateError}}
-use Rattle.access_model.specs.declared.errors.GateError.TheVariants.{NoEntry, Again, NoMemory, Busy, NotDir, IsDir, Invalid, TooMany, NoSpace, ReadOnly, Order, Hook}
-use Rattle.cpu_words.specs.{Touches.{wrap_sub}, declared.names.WordName.{WordName}}
-use Rattle.cpu_words.specs.declared.names.WordName.TheVariants.{Umount, Holders as HoldersWord, Remount, Removed as RemovedWord, MountFlags, MountCount}
-use Rattle.cpu_words.specs.declared.names.WordName.TheVariants.{Block, Sync, LevelCount, Used, Node as NodeWord, Kids}
-use Rattle.gate_world.specs.declared.config.Config.{Config}
-use Rattle.race_conditions.specs.{Conditions.{Formula, Is, Not, And, Or}, declared.conditions.CallAnswer.{CallAnswer}}
-use Rattle.race_conditions.specs.declared.conditions.{CallAnswer.TheVariants.{Done, Refused, RefusedFor, Skipped}, Fact.{Fact}}
-use Rattle.race_conditions.specs.declared.conditions.Fact.TheVariants.{Answered, Due, Holds, HasOpen, Superblock, Mount, Stage, FrozenBy, Node, Word}
-use Rattle.race_conditions.specs.declared.conditions.NodeFact.{NodeFact, TheVariants.{Free, File, Dir, Dirty, Removed}}
-use Rattle.race_conditions.specs.{Pieces.{end_of, is_next, piece_at, unexpected}, declared.faults.ConditionFault.{ConditionFault}}
-use Rattle.race_conditions.specs.declared.faults.ConditionFault.TheVariants.{Unexpected as IsUnexpected, NoMemory as OutOfMemory}
-use Rattle.race_conditions.specs.declared.{faults.{Expected.{Expected}, Unexpected.{Unexpected}}, parsing.Rank.{Rank}}
-use Rattle.race_conditions.specs.declared.parsing.{Rank.TheVariants.{Joined, One}, Sign.{Sign, TheVariants.{Or as OrSign, And as AndSign}}}
+use Rattle.std.specs.Prelude.{Bool, Err, List, None, Ok, Option, Result, Some, [], bytes_eq, codes, drop, false, find, if◌then◌else◌, is_some, length}
+use Rattle.std.specs.Prelude.{nat_lt, slice_index, suc, take, true, zero, ℕ, ◌+◌, ◌||◌, ◌∷◌, ◌≡◌}
+use Rattle.access_model.specs.{Errors.name_of, declared.actions.{Gate.TheVariants.{Level as LevelGate, Mount as MountGate}, Holder.Holder}}
+use Rattle.access_model.specs.declared.{actions.Holder.TheVariants.{Kernel, User}, errors.GateError.{GateError, TheVariants.{Again, Busy, Hook}}}
+use Rattle.access_model.specs.declared.errors.GateError.TheVariants.{Invalid, IsDir, NoEntry, NoMemory, NoSpace, NotDir, Order, ReadOnly, TooMany}
+use Rattle.cpu_words.specs.{Touches.wrap_sub, declared.names.WordName.TheVariants.{Block, Holders as HoldersWord, Kids, LevelCount, MountCount}}
+use Rattle.cpu_words.specs.declared.names.WordName.TheVariants.{MountFlags, Node as NodeWord, Remount, Removed as RemovedWord, Sync, Umount, Used}
+use Rattle.cpu_words.specs.declared.names.WordName.{WordName}
+use Rattle.{gate_world.specs.declared.config.Config.Config, schedule_lines.specs.Numbers.{code_of, is_digits, number_of}}
+use Rattle.race_conditions.specs.{Conditions.{And, Formula, Is, Not, Or}, Pieces.{end_of, is_next, piece_at, unexpected}}
+use Rattle.race_conditions.specs.declared.conditions.{CallAnswer.{CallAnswer, TheVariants.{Done, Refused, RefusedFor, Skipped}}, Fact.Fact}
+use Rattle.race_conditions.specs.declared.conditions.Fact.TheVariants.{Answered, Due, FrozenBy, HasOpen, Holds, Mount, Node, Stage, Superblock, Word}
+use Rattle.race_conditions.specs.declared.conditions.NodeFact.{NodeFact, TheVariants.{Dir, Dirty, File, Free, Removed}}
+use Rattle.race_conditions.specs.declared.faults.ConditionFault.{ConditionFault, TheVariants.{NoMemory as OutOfMemory, Unexpected as IsUnexpected}}
+use Rattle.race_conditions.specs.declared.{faults.{Expected.Expected, Unexpected.Unexpected}, parsing.Rank.{Rank, TheVariants.{Joined, One}}}
+use Rattle.race_conditions.specs.declared.parsing.Sign.{Sign, TheVariants.{And as AndSign, Or as OrSign}}
 use Rattle.race_conditions.specs.declared.faults.Expected.TheVariants as expect
-use Rattle.schedule_lines.specs.Numbers.{code_of, is_digits, number_of}
 
 -- one after the other, up to the first fault
 infixl 10 ◌>>=◌

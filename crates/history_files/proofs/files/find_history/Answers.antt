@@ -1,7 +1,6 @@
-use Rattle.std.proofs.Common.{◌≡◌, ◌∙◌, sym, ap, refl, ◌-◌, ◌<◌, length, take, drop, length-drop, List, ℕ, arith}
-use Rattle.std.specs.Prelude.{bytes_eq, codes}
-use Rattle.history_files.proofs.Found.{is_cut_off, is_further, is_nowhere, is_there, whole_rest}
+use Rattle.std.proofs.Common.{List, ap, arith, bytes_eq, codes, drop, length, length-drop, refl, sym, take, ℕ, ◌-◌, ◌<◌, ◌∙◌, ◌≡◌}
 use Rattle.schedule_lines.specs.Lines.{front_of}
+use Rattle.history_files.proofs.Found.{is_cut_off, is_further, is_nowhere, is_there, whole_rest}
 use Rattle.history_files.proofs.files.find_history.Goals as goal
 
 pub returns-in_default : goal.returns-in_default

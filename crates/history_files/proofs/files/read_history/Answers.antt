@@ -1,9 +1,7 @@
-use Rattle.std.proofs.Common.{◌∙◌, sym, ap, refl, ℕ, ◌+◌, drop}
-use Rattle.exploration.proofs.Lists.{err_from}
-use Rattle.gate_world.specs.declared.config.Config.{Config}
-use Rattle.history_files.proofs.{Found.{whole_rest}, Whole.{record_fails, set_up_fails}}
-use Rattle.history_files.specs.{Files.{IsFaultTold}, Readings.{read_in}, Records.{reading_left}}
-use Rattle.race_files.specs.Left.{Left, left_in, lines_in}
+use Rattle.std.proofs.Common.{ap, drop, refl, sym, ℕ, ◌+◌, ◌∙◌}
+use Rattle.{exploration.proofs.Lists.err_from, gate_world.specs.declared.config.Config.Config, race_files.specs.Left.{Left, left_in, lines_in}}
+use Rattle.history_files.{proofs.{Found.whole_rest, Whole.{record_fails, set_up_fails}}, specs.{Files.IsFaultTold, Readings.read_in}}
+use Rattle.history_files.specs.Records.{reading_left}
 use Rattle.history_files.proofs.files.read_history.Goals as goal
 
 pub returns-in_err-core-clause-fault : goal.returns-in_err-core-clause-fault

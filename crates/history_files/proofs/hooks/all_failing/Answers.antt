@@ -1,7 +1,6 @@
-use Rattle.std.proofs.Common.{◌∙◌, sym, ap, ◌+◌, ◌-◌, Option, slice_set}
-use Rattle.history_files.proofs.Failing.{none_failing, one_failing}
-use Rattle.history_files.specs.Records.{failing_from}
+use Rattle.std.proofs.Common.{Option, ap, slice_set, sym, ◌+◌, ◌-◌, ◌∙◌}
 use Rattle.races.specs.declared.calls.Call.{Call}
+use Rattle.history_files.{proofs.Failing.{none_failing, one_failing}, specs.Records.failing_from}
 use Rattle.history_files.proofs.hooks.all_failing.Goals as goal
 
 pub loop-turn-preserved : goal.loop-turn-preserved

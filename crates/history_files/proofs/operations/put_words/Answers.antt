@@ -1,8 +1,7 @@
-use Rattle.std.proofs.Common.{◌≡◌, ◌∙◌, ap, subst, ◌+◌, ◌-◌, ◌++◌, ℕ, List}
-use Rattle.history_files.proofs.Words.{no_word, one_word}
-use Rattle.history_files.specs.Operations.{behind_next, shown_words, word_text}
+use Rattle.std.proofs.Common.{List, ap, subst, ℕ, ◌++◌, ◌+◌, ◌-◌, ◌∙◌, ◌≡◌}
+use Rattle.schedule_lines.specs.{Printed.Prints, Words.first_word}
+use Rattle.history_files.{proofs.Words.{no_word, one_word}, specs.Operations.{behind_next, shown_words, word_text}}
 use Rattle.history_files.specs.declared.operations.Behind.{Behind}
-use Rattle.schedule_lines.specs.{Printed.{Prints}, Words.{first_word}}
 use Rattle.history_files.proofs.operations.put_words.Goals as goal
 
 pub loop-taken-preserved : goal.loop-taken-preserved

@@ -1,6 +1,5 @@
-use Rattle.std.proofs.Common.{◌≡◌, ◌-◌, ◌++◌, true}
-use Rattle.history_files.specs.Operations.{shown_words}
-use Rattle.history_files.specs.declared.operations.Behind.TheVariants.{Nothing}
+use Rattle.std.proofs.Common.{true, ◌++◌, ◌-◌, ◌≡◌}
+use Rattle.history_files.specs.{Operations.shown_words, declared.operations.Behind.TheVariants.Nothing}
 use Rattle.history_files.proofs.operations.put_words.Given as goal
 
 -- the words so far, and those that are left, are all words

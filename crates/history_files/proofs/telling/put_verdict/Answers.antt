@@ -1,5 +1,4 @@
-use Rattle.std.proofs.Common.{◌∙◌, ap, ◌++◌, ℕ}
-use Rattle.std.specs.Prelude.{codes, decimal}
+use Rattle.std.proofs.Common.{ap, codes, decimal, ℕ, ◌++◌, ◌∙◌}
 use Rattle.schedule_lines.proofs.Printed.{prints_both, prints_same}
 use Rattle.history_files.proofs.telling.put_verdict.Goals as goal
 

@@ -1,8 +1,6 @@
-use Rattle.std.proofs.Common.{◌≡◌, ◌∙◌, List, ap, length}
-use Rattle.std.specs.List.{flat_map}
+use Rattle.std.{proofs.Common.{List, ap, length, ◌∙◌, ◌≡◌}, specs.List.flat_map}
 use Rattle.schedule_lines.proofs.Printed.{prints_same}
-use Rattle.race_outcomes.specs.{Briefly.{line_of}, declared.listing.Outcome.{Outcome}}
-use Rattle.race_outcomes.proofs.{OutcomeLines.{told_briefly}, Ordered.{written}}
+use Rattle.race_outcomes.{proofs.{Ordered.written, OutcomeLines.told_briefly}, specs.{Briefly.line_of, declared.listing.Outcome.Outcome}}
 use Rattle.race_outcomes.proofs.briefly.print_briefly.Goals as goal
 
 pub returns : goal.returns

@@ -1,7 +1,6 @@
-use Rattle.std.proofs.Common.{◌<◌, ◌≤◌, ap, arith, length}
+use Rattle.std.proofs.Common.{ap, arith, length, ◌<◌, ◌≤◌}
 use Rattle.schedule_lines.proofs.Printed.{prints_nothing, prints_same}
-use Rattle.race_outcomes.specs.Briefly.{line_of}
-use Rattle.race_outcomes.proofs.OutcomeLines.{all_lines, one_more}
+use Rattle.race_outcomes.{proofs.OutcomeLines.{all_lines, one_more}, specs.Briefly.line_of}
 use Rattle.race_outcomes.proofs.briefly.print_lines.Goals as goal
 
 pub loop-outcome-init : goal.loop-outcome-init

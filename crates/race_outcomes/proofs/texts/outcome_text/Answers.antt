@@ -1,14 +1,10 @@
-use Rattle.std.proofs.Common.{◌≡◌, ◌∙◌, sym, ap, subst, inl, inr, arith, Some, take}
-use Rattle.std.proofs.lemmas.Bool.Decides.{eqb_tells}
-use Rattle.std.specs.List.{All, slice_get}
+use Rattle.std.{proofs.{Common.{Some, ap, arith, inl, inr, subst, sym, take, ◌∙◌, ◌≡◌}, lemmas.Bool.Decides.eqb_tells}, specs.List.{All, slice_get}}
 use Rattle.races.specs.declared.courses.CallAnswers.{CallAnswers}
-use Rattle.schedule_lines.specs.{declared.output.Output.{Output}, Printed.{Prints}}
-use Rattle.schedule_lines.proofs.Printed.{prints_nothing, prints_same}
-use Rattle.race_outcomes.specs.Texts.{NumberFits, course_part, task_part}
+use Rattle.schedule_lines.{proofs.Printed.{prints_nothing, prints_same}, specs.{Printed.Prints, declared.output.Output.Output}}
 use Rattle.transcripts.proofs.Texts.{one_more}
-use Rattle.race_outcomes.proofs.Fitting.{some_same}
+use Rattle.race_outcomes.proofs.{Fitting.some_same, texts.outcome_text.Goals.{in-Some, in_default}}
+use Rattle.race_outcomes.specs.Texts.{NumberFits, course_part, task_part}
 use Rattle.race_outcomes.proofs.texts.outcome_text.Goals as goal
-use Rattle.race_outcomes.proofs.texts.outcome_text.Goals.{in-Some, in_default}
 
 pub loop-task-preserved : goal.loop-task-preserved
 loop-task-preserved c =

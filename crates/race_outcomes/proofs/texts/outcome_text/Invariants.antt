@@ -1,6 +1,5 @@
 use Rattle.std.specs.List.{flat_map}
-use Rattle.schedule_lines.specs.Printed.{Prints}
-use Rattle.transcripts.specs.Transcript.{count_up}
+use Rattle.{schedule_lines.specs.Printed.Prints, transcripts.specs.Transcript.count_up}
 use Rattle.race_outcomes.specs.Texts.{NumbersFit, task_part}
 use Rattle.race_outcomes.proofs.texts.outcome_text.Given as goal
 

@@ -1,8 +1,6 @@
-use Rattle.std.proofs.Common.{◌∙◌, ◌<◌, ap, arith, get_or, length, sym, subst, take, [], List, None, Option}
-use Rattle.std.proofs.lemmas.List.{flat_map_more, take_more, Elements.{All-push}}
-use Rattle.std.specs.List.{All, flat_map}
-use Rattle.races.specs.Courses.{Answer}
-use Rattle.schedule_lines.proofs.Printed.{prints_both, prints_same}
+use Rattle.std.proofs.{Common.{List, None, Option, [], ap, arith, get_or, length, subst, sym, take, ◌<◌, ◌∙◌}, lemmas.List.Elements.All-push}
+use Rattle.std.{proofs.lemmas.List.{flat_map_more, take_more}, specs.List.{All, flat_map}}
+use Rattle.{races.specs.Courses.Answer, schedule_lines.proofs.Printed.{prints_both, prints_same}}
 use Rattle.race_outcomes.specs.Texts.{NumberFits, answer_part}
 use Rattle.race_outcomes.proofs.texts.print_course.Goals as goal
 

@@ -1,5 +1,4 @@
-use Rattle.std.proofs.Common.{take}
-use Rattle.std.specs.List.{All, flat_map}
+use Rattle.std.{proofs.Common.take, specs.List.{All, flat_map}}
 use Rattle.schedule_lines.specs.Printed.{Prints}
 use Rattle.race_outcomes.specs.Texts.{NumberFits, answer_part}
 use Rattle.race_outcomes.proofs.texts.print_course.Given as goal

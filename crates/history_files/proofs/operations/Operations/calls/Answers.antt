@@ -1,7 +1,6 @@
-use Rattle.std.proofs.Common.{◌∙◌, ap}
+use Rattle.std.proofs.Common.{ap, ◌∙◌}
+use Rattle.race_files.{proofs.FirstFaults.fault_weaker, specs.Left.{left_in, lines_in}}
 use Rattle.history_files.proofs.Calls.{fails_told}
-use Rattle.race_files.proofs.FirstFaults.{fault_weaker}
-use Rattle.race_files.specs.Left.{left_in, lines_in}
 use Rattle.history_files.proofs.operations.Operations.calls.Goals as goal
 
 pub returns-clause-fault : goal.returns-clause-fault

@@ -1,9 +1,7 @@
-use Rattle.std.proofs.Common.{◌≡◌, ◌∙◌, ◌+◌, sym, ap, refl, subst, ℕ, ◌∷◌, length, Ok, IfSome, inl, arith}
-use Rattle.exploration.proofs.Lists.{err_from}
-use Rattle.history_files.proofs.Reading.{at_end, end_fails, line_fails, none_recorded, one_read, one_recorded}
-use Rattle.history_files.specs.{Faults.{IsToldOrMemory}, Readings.{read_in}, Records.{nothing_read, reading_after, reading_of}, declared.faults.HistoryFault.TheVariants.{Race}}
-use Rattle.race_files.specs.Left.{Left, behind, left_in}
-use Rattle.race_files.specs.declared.faults.RaceFault.TheVariants.{Schedule}
+use Rattle.std.proofs.Common.{IfSome, Ok, ap, arith, inl, length, refl, subst, sym, ℕ, ◌+◌, ◌∙◌, ◌∷◌, ◌≡◌}
+use Rattle.{exploration.proofs.Lists.err_from, race_files.specs.{Left.{Left, behind, left_in}, declared.faults.RaceFault.TheVariants.Schedule}}
+use Rattle.history_files.{proofs.Reading.{at_end, end_fails, line_fails, none_recorded, one_read, one_recorded}, specs.Faults.IsToldOrMemory}
+use Rattle.history_files.specs.{Readings.read_in, Records.{nothing_read, reading_after, reading_of}, declared.faults.HistoryFault.TheVariants.Race}
 use Rattle.history_files.proofs.records.Record.read.Goals as goal
 
 -- how many lines were taken, where none was at first

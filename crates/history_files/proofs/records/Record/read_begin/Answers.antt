@@ -1,7 +1,6 @@
-use Rattle.std.proofs.Common.{◌≡◌, ◌∙◌, sym, ap, is_some, length, arith}
+use Rattle.std.proofs.Common.{ap, arith, is_some, length, sym, ◌∙◌, ◌≡◌}
 use Rattle.exploration.proofs.Lists.{err_from}
-use Rattle.history_files.proofs.Begins.{begins, row_fails, under_way}
-use Rattle.history_files.specs.Readings.{read_in}
+use Rattle.history_files.{proofs.Begins.{begins, row_fails, under_way}, specs.Readings.read_in}
 use Rattle.history_files.proofs.records.Record.read_begin.Goals as goal
 
 pub returns-in_err-row-clause-fault : goal.returns-in_err-row-clause-fault
