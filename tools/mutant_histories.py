@@ -7,7 +7,7 @@ impossible.
 MUTANT is one of crates/*/must-fail or docs/steps/*/must-fail, as bin/without takes it; with none
 there are five. mntgate is built with it, without a proof, as bin/without does: one to four minutes,
 and the build is kept in out/without. It plays random executions of N calls of 3 tasks, as
-bench/histories.py does: 100 calls, and up to 20 executions of each mutant, if nothing else is said.
+bench/histories.py does: 100 calls, and up to 100 executions of each mutant, if nothing else is said.
 PROGRAM, or bin/mntgate, which has no wrong step, judges what was recorded of them.
 
 Prints a line for each mutant: at which line which of its histories is impossible, and how many
@@ -79,7 +79,7 @@ def main():
         description=__doc__, formatter_class=argparse.RawDescriptionHelpFormatter
     )
     parser.add_argument("--calls", type=int, default=100)
-    parser.add_argument("--histories", type=int, default=20)
+    parser.add_argument("--histories", type=int, default=100)
     parser.add_argument("--seed", type=int, default=1)
     parser.add_argument("--program", default=f"{ROOT}/bin/mntgate")
     parser.add_argument("mutants", nargs="*", default=MUTANTS, metavar="MUTANT")
