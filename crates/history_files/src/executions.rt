@@ -22,7 +22,9 @@ pub fn put_execution(
     let Verdict { history, judged } = verdict;
     let movers = judged.movers(source.alloc)?;
     text.text(source.set_up_lines());
-    let mut player = Player::new(source, history.tasks())?;
+    let Some(mut player) = Player::new(source, history.tasks())? else {
+        return text.settled();
+    };
     let mut lines = Lines::new(source.bytes);
     let mut passed: usize = 0;
     for mover in &movers {

@@ -43,17 +43,20 @@ pub(crate) struct Player {
 }
 
 impl Player {
-    /// Sets the gates of a history up, for so many tasks.
-    pub(crate) fn new(source: HistorySource<'_>, tasks: u8) -> Result<Player, AllocError> {
+    /// Sets the gates of a history up, for so many tasks; None as `HistorySource::gates`.
+    pub(crate) fn new(source: HistorySource<'_>, tasks: u8) -> Result<Option<Player>, AllocError> {
+        let Some(session) = source.gates()? else {
+            return Ok(None);
+        };
         let mut seats = Vec::new(source.alloc);
         for _ in 0..tasks {
             seats.push(Seat::idle())?;
         }
-        Ok(Player {
+        Ok(Some(Player {
             alloc: source.alloc,
-            session: source.gates()?,
+            session,
             seats,
-        })
+        }))
     }
 
     /// Takes a marker, which stands on this line, and prints it as a comment.

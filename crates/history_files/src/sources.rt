@@ -2,7 +2,7 @@
 
 use crate::files::{find_history, with_race};
 use gate_core::Core;
-use race_files::{Lines, set_up};
+use race_files::{Lines, set_up_again};
 use std::alloc::{AllocError, Global};
 use transcripts::Session;
 
@@ -27,14 +27,14 @@ impl<'a> HistorySource<'a> {
         line_at(&mut Lines::new(self.bytes), number)
     }
 
-    /// Sets up the gates of the history anew.
+    /// Sets up the gates of the history anew. None if a line before the history has a fault, which none has in a history that was read.
     ///
     /// # Errors
     ///
     /// `AllocError` if there was no memory for them.
-    pub fn gates(self) -> Result<Session<Core>, AllocError> {
+    pub fn gates(self) -> Result<Option<Session<Core>>, AllocError> {
         let race = with_race(self.alloc, self.set_up_lines())?;
-        set_up(self.alloc, &mut Lines::new(race.bytes.as_slice())).or(Err(AllocError))
+        set_up_again(self.alloc, race.bytes.as_slice())
     }
 }
 

@@ -3,7 +3,7 @@
 ghost use Rattle.std.specs.Prelude.{◌≡◌, ◌↔◌, IsTrue, false};
 ghost use Rattle.outcome_forms.specs.Told.{AsksNone, margin_of, mark_of};
 
-use replay_forms::{Form, Style};
+use replay_forms::{Form, Look, Style};
 
 /// How wide all columns are together: with the two spaces before them 100.
 const WIDTH: usize = 98;
@@ -64,6 +64,14 @@ pub struct Details {
 }
 
 impl Details {
+    /// This form, in the style that is asked for.
+    pub(crate) fn look(self, form: Form) -> Look {
+        Look {
+            form,
+            style: self.style,
+        }
+    }
+
     /// Whether nothing is asked for.
     pub(crate) fn are_none(self) -> bool
         ensures { IsTrue result ↔ AsksNone self }

@@ -7,7 +7,7 @@ ghost use Rattle.race_outcomes.specs.Methods.{next_by};
 use exploration::Runs;
 use race_files::RaceSource;
 use race_outcomes::{OutcomeListing, movers_to};
-use replay_forms::{Style, with_waits};
+use replay_forms::{Look, Style, shown_of, with_waits};
 use schedule_text::Output;
 use std::alloc::AllocError;
 
@@ -40,5 +40,21 @@ pub(crate) fn execution_of(
     style: Style,
 ) -> Result<Output, AllocError> {
     let schedule = source.schedule(movers)?;
-    with_waits(source.alloc, style, source.gates()?, schedule)
+    match source.gates()? {
+        Some(session) => with_waits(source.alloc, style, session, schedule),
+        None => Ok(schedule),
+    }
+}
+
+/// What a replay of the schedule of these moves shows; None if a line of it has a fault, which none has.
+pub(crate) fn show_execution(
+    source: RaceSource<'_>,
+    movers: &[u8],
+    look: Look,
+) -> Result<Option<Vec<u8>>, AllocError> {
+    let schedule = execution_of(source, movers, look.style)?;
+    match source.gates()? {
+        Some(session) => shown_of(source.alloc, look, session, &schedule),
+        None => Ok(None),
+    }
 }

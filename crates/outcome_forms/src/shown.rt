@@ -5,14 +5,14 @@ ghost use Rattle.exploration.specs.Tables.{IsTable};
 ghost use Rattle.race_outcomes.specs.Methods.{next_by};
 
 use crate::details::Details;
-use crate::executions::{execution_of, movers_of};
+use crate::executions::{movers_of, show_execution};
 use crate::finals::{FinalModel, Finals, list_ends};
 use crate::telling::print_model_behind;
 use exploration::{Observer, Stop};
 use gate_core::Core;
 use race_files::RaceSource;
 use race_outcomes::{OutcomeListing, SearchPlan, list, runs_for};
-use replay_forms::{Form, Look, html, records, shown_of};
+use replay_forms::{Form, html, records, shown_of};
 use schedule_text::Output;
 use std::alloc::AllocError;
 
@@ -195,8 +195,9 @@ fn print_record(
         FinalModel::Unknown => None,
     };
     records::print_outcome(source.alloc, number, text, models, out);
-    if details.schedules.are_told() {
-        let steps = show_execution(source, details, Form::Json, movers)?;
+    if details.schedules.are_told()
+        && let Some(steps) = show_execution(source, movers, details.look(Form::Json))?
+    {
         out.text(steps.as_slice());
     }
     Ok(())
@@ -211,26 +212,10 @@ fn print_picture(
     out: &mut Output,
 ) -> Result<(), AllocError> {
     html::print_outcome_head(out, number, text);
-    let picture = show_execution(source, details, Form::Picture, movers)?;
-    html::print_picture(out, picture.as_slice());
+    if let Some(picture) = show_execution(source, movers, details.look(Form::Picture))? {
+        html::print_picture(out, picture.as_slice());
+    }
     Ok(())
-}
-
-/// What is shown of an execution of these movers, in this form: its steps.
-fn show_execution(
-    source: RaceSource<'_>,
-    details: Details,
-    form: Form,
-    movers: &[u8],
-) -> Result<Vec<u8>, AllocError> {
-    let style = details.style;
-    let schedule = execution_of(source, movers, style)?;
-    shown_of(
-        source.alloc,
-        Look { form, style },
-        source.gates()?,
-        &schedule,
-    )
 }
 
 /// Shows the model behind these moves: as a record, or as text.
@@ -242,8 +227,9 @@ fn show_model(
 ) -> Result<(), AllocError> {
     match exhibit.shape {
         Shape::Records => {
-            let shown = model_record(source, exhibit, movers)?;
-            out.text(shown.as_slice());
+            if let Some(shown) = model_record(source, exhibit, movers)? {
+                out.text(shown.as_slice());
+            }
             Ok(())
         }
         Shape::Page(_) => {
@@ -255,17 +241,17 @@ fn show_model(
     }
 }
 
-/// The record of the model behind these moves.
+/// The record of the model behind these moves, if a replay shows it.
 fn model_record(
     source: RaceSource<'_>,
     exhibit: Exhibit<'_>,
     movers: &[u8],
-) -> Result<Vec<u8>, AllocError> {
-    let look = Look {
-        form: Form::Json,
-        style: exhibit.details.style,
-    };
+) -> Result<Option<Vec<u8>>, AllocError> {
+    let look = exhibit.details.look(Form::Json);
     let mut asked = Output::new(source.alloc);
     asked.text(b"model\n");
-    shown_of(source.alloc, look, source.gates_behind(movers)?, &asked)
+    match source.gates_behind(movers)? {
+        Some(session) => shown_of(source.alloc, look, session, &asked),
+        None => Ok(None),
+    }
 }

@@ -16,5 +16,5 @@ pub use calls::{CallLine, Calls};
 pub use faults::RaceFault;
 pub use files::{RaceFile, read_race};
 pub use lines::{Lines, is_claim, is_race};
-pub use setting_up::set_up;
+pub use setting_up::{set_up, set_up_again};
 pub use sources::RaceSource;

@@ -1,10 +1,10 @@
 //! What comes before a race.
 
-ghost use Rattle.std.specs.Prelude.{◌≡◌, ◌⊎◌, Err, IfErr, IfOk, None, OnErr, OnOk, Option, Some};
+ghost use Rattle.std.specs.Prelude.{◌≡◌, ◌⊎◌, Err, IfErr, IfNone, IfOk, None, OnErr, OnOk, Option, Some};
 ghost use Rattle.access_model.specs.declared.errors.GateError.TheVariants.{NoMemory};
 ghost use Rattle.gate_core.specs.Drivers.{CoreShows};
-ghost use Rattle.race_files.specs.FirstFaults.{FailsBeforeRace, IsMemory};
-ghost use Rattle.race_files.specs.Left.{AreLeftOf, BeginRace, left_in, line_count};
+ghost use Rattle.race_files.specs.FirstFaults.{FailsBeforeRace, HasFaultBeforeRace, IsMemory};
+ghost use Rattle.race_files.specs.Left.{AreLeftOf, BeginRace, left_in, line_count, lines_in};
 ghost use Rattle.race_files.specs.Observed.{ShowsLines};
 ghost use Rattle.race_files.specs.SettingUp.{Opens, SetsUp};
 ghost use Rattle.race_files.specs.declared.faults.RaceFault.TheVariants.{Schedule};
@@ -14,9 +14,10 @@ ghost use Rattle.transcripts.specs.Transcript.{ReplayState};
 
 use crate::faults::RaceFault;
 use crate::lines::{Lines, is_race};
+use access_model::GateError;
 use gate_core::Core;
 use schedule_text::{Fault, Line, Output, parse};
-use std::alloc::Global;
+use std::alloc::{AllocError, Global};
 use transcripts::Session;
 
 /// Who looks at what the lines of a schedule print.
@@ -52,6 +53,21 @@ pub fn set_up(alloc: Global, lines: &mut Lines<'_>) -> Result<Session<Core>, Rac
     ensures fault { IfErr result (λ fault. FailsBeforeRace None (left_in lines.old) (left_in lines.new) fault ⊎ IsMemory fault) }
 {
     do_setting(alloc, lines, &mut Output::new(alloc), &mut Unobserved)
+}
+
+/// Does the lines before the first line `race` of a text. None if one of them has a fault, or there is no such line; so it is of no text of a race.
+///
+/// # Errors
+///
+/// `AllocError` if there was no memory for it.
+pub fn set_up_again(alloc: Global, bytes: &[u8]) -> Result<Option<Session<Core>>, AllocError>
+    ensures { IfOk result (λ session. IfNone session (HasFaultBeforeRace (lines_in 1048576 bytes.now))) }
+{
+    match set_up(alloc, &mut Lines::new(bytes)) {
+        Ok(session) => Ok(Some(session)),
+        Err(RaceFault::Schedule(Fault::Refused(GateError::NoMemory))) => Err(AllocError),
+        Err(_) => Ok(None),
+    }
 }
 
 /// Does the lines before the first line `race`, for one who looks at what they print: who takes, before each line that asks for something, what stands

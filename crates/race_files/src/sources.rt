@@ -3,7 +3,7 @@
 use crate::calls::Calls;
 use crate::lines::{Lines, is_race};
 use crate::schedules::{begin_late, print_schedule};
-use crate::setting_up::set_up;
+use crate::setting_up::set_up_again;
 use gate_core::Core;
 use schedule_text::{LINES, Output};
 use std::alloc::{AllocError, Global};
@@ -32,25 +32,32 @@ impl<'a> RaceSource<'a> {
         self.bytes
     }
 
-    /// Sets up the gates of the race anew.
-    pub fn gates(self) -> Result<Session<Core>, AllocError> {
-        set_up(self.alloc, &mut Lines::new(self.bytes)).or(Err(AllocError))
+    /// Sets up the gates of the race anew. None if a line before the race has a fault, which none has in a race that was read.
+    ///
+    /// # Errors
+    ///
+    /// `AllocError` if there was no memory for them.
+    pub fn gates(self) -> Result<Option<Session<Core>>, AllocError> {
+        set_up_again(self.alloc, self.bytes)
     }
 
-    /// Returns the gates of the race behind these moves.
-    pub fn gates_behind(self, movers: &[u8]) -> Result<Session<Core>, AllocError> {
-        let mut session = self.gates()?;
+    /// Returns the gates of the race behind these moves; None as `gates`.
+    pub fn gates_behind(self, movers: &[u8]) -> Result<Option<Session<Core>>, AllocError> {
+        let Some(mut session) = self.gates()? else {
+            return Ok(None);
+        };
         let mut unread = Output::new(self.alloc);
         print_schedule(self.alloc, self.calls, &mut session, movers, &mut unread)?;
-        Ok(session)
+        Ok(Some(session))
     }
 
     /// Returns a line for each of these moves, which a replay takes: a beginning as it stands in the file, `T step`, or `T step CODE` where the hook
     /// fails that the step asks. An action that the model forbids, which only a build that isn't proved can add, is printed in a comment under its line.
     pub fn schedule(self, movers: &[u8]) -> Result<Output, AllocError> {
-        let mut session = self.gates()?;
         let mut schedule = Output::new(self.alloc);
-        print_schedule(self.alloc, self.calls, &mut session, movers, &mut schedule)?;
+        if let Some(mut session) = self.gates()? {
+            print_schedule(self.alloc, self.calls, &mut session, movers, &mut schedule)?;
+        }
         Ok(schedule)
     }
 
@@ -58,7 +65,9 @@ impl<'a> RaceSource<'a> {
     /// follows is left out. A beginning touches no word, so it is no matter what others do before and after it. No contract says that the answers
     /// are the same.
     pub fn begun_late(self, movers: &[u8]) -> Result<Vec<u8>, AllocError> {
-        let mut session = self.gates()?;
-        begin_late(self.alloc, self.calls, &mut session, movers)
+        match self.gates()? {
+            Some(mut session) => begin_late(self.alloc, self.calls, &mut session, movers),
+            None => Vec::from_slice(self.alloc, movers),
+        }
     }
 }

@@ -2,13 +2,15 @@
 
 use crate::forms::{Form, Look, Style};
 use crate::screen_player::ScreenPlayer;
+use access_model::GateError;
 use gate_transitions::Driver;
-use schedule_text::Output;
+use schedule_lines::FaultKind;
+use schedule_text::{Fault, Output};
 use std::alloc::{AllocError, Global};
 use transcripts::{LineReplay, Session};
 
-/// Returns what a replay of a schedule shows, on gates that were set up. The schedule was made of moves of such gates, so no line of it has a
-/// fault, and nothing but memory can be wanting.
+/// Returns what a replay of a schedule shows, on gates that were set up; None if a line of it has a fault. No line has one in a schedule that was made
+/// of moves of such gates.
 ///
 /// # Errors
 ///
@@ -18,14 +20,24 @@ pub fn shown_of<D: Driver>(
     look: Look,
     session: Session<D>,
     schedule: &Output,
-) -> Result<Vec<u8>, AllocError> {
+) -> Result<Option<Vec<u8>>, AllocError> {
+    schedule.settled()?;
     let mut replay = LineReplay::new(alloc, ScreenPlayer::over(alloc, look, session))?;
     let mut shown = Vec::new(alloc);
     let mut lines = schedule.bytes.as_slice();
-    let done = replay.do_lines(&mut lines, &mut shown);
-    done.or(Err(AllocError))
-        .and(schedule.settled())
-        .and(Ok(shown))
+    match replay.do_lines(&mut lines, &mut shown) {
+        Ok(()) => Ok(Some(shown)),
+        Err(fault) if is_no_memory(fault.kind) => Err(AllocError),
+        Err(_) => Ok(None),
+    }
+}
+
+/// Whether a fault of a replay that writes to memory says that there was none. A `Vec` takes all that is written to it, unless it can't grow.
+fn is_no_memory(kind: FaultKind) -> bool {
+    matches!(
+        kind,
+        FaultKind::Schedule(Fault::WriteFailed | Fault::Refused(GateError::NoMemory))
+    )
 }
 
 /// Returns a schedule, and behind it a comment for each task whose last step has to wait, on gates that were set up: for what, and for whom.
@@ -39,8 +51,9 @@ pub fn with_waits<D: Driver>(
         form: Form::Waits,
         style,
     };
-    let waits = shown_of(alloc, look, session, &schedule)?;
-    schedule.text(waits.as_slice());
+    if let Some(waits) = shown_of(alloc, look, session, &schedule)? {
+        schedule.text(waits.as_slice());
+    }
     schedule.settled()?;
     Ok(schedule)
 }
