@@ -15,6 +15,8 @@ use std::alloc::{AllocError, Global};
 pub enum Unjudged {
     /// More states than the limit come up, and the markers so far are possible.
     TooMany,
+    /// More states come up than can be numbered, and the markers so far are possible.
+    NoNumbers,
     /// There was no memory.
     NoMemory,
 }
@@ -24,6 +26,7 @@ impl Unjudged {
     pub(crate) fn of(stop: Stop) -> Unjudged {
         match stop {
             Stop::NoMemory => Unjudged::NoMemory,
+            Stop::NoNumbers => Unjudged::NoNumbers,
             Stop::TooMany => Unjudged::TooMany,
         }
     }

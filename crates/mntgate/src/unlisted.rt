@@ -13,6 +13,9 @@ use schedule_lines::bytes::ReplayFault;
 use std::alloc::Global;
 use std::io::Write;
 
+/// What is printed if more states come up than a search can number.
+pub(crate) const UNNUMBERED: &str = "more than 4000000000 states, and no more can be numbered";
+
 /// Why the outcomes of a race aren't printed, or not written whole.
 #[derive(Drop)]
 pub enum Unlisted {
@@ -85,6 +88,7 @@ fn report_stop<E: Write>(stop: Stop, asked: Outcomes<'_>, errors: &mut E) -> Pro
 {
     match stop {
         Stop::NoMemory => report_refusal_of(GateError::NoMemory, asked.file, errors),
+        Stop::NoNumbers => report_of(UNNUMBERED, asked.file, errors),
         Stop::TooMany => {
             let limit = asked.limit;
             report_of(format_args!("more than {limit} states"), asked.file, errors)

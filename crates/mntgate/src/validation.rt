@@ -7,6 +7,7 @@ ghost use Rattle.mntgate.specs.Validated.{EndsValidated};
 ghost use Rattle.schedule_lines.specs.bytes.Writing.{AppendsPart};
 
 use crate::progress::SearchProgress;
+use crate::unlisted::UNNUMBERED;
 use access_model::GateError;
 use command_line::Validation;
 use exit_status::{ProgramEnding, read_bytes, report, report_fault, report_of, report_refusal_of};
@@ -77,6 +78,7 @@ fn tell_unvalidated<E: Write>(
         Unvalidated::Unjudged(Unjudged::NoMemory) => {
             report_refusal_of(GateError::NoMemory, asked.file, errors)
         }
+        Unvalidated::Unjudged(Unjudged::NoNumbers) => report_of(UNNUMBERED, asked.file, errors),
         Unvalidated::Unjudged(Unjudged::TooMany) => {
             let limit = asked.limit;
             report_of(format_args!("more than {limit} states"), asked.file, errors)

@@ -194,7 +194,7 @@ impl Comparison<'_> {
                 Ok(())
             }
             Ok(Judged::Unjudged) => self.stop(alloc, source, Stopped::TooMany),
-            Err(Stop::TooMany) => self.stop(alloc, source, Stopped::TooMany),
+            Err(Stop::TooMany | Stop::NoNumbers) => self.stop(alloc, source, Stopped::TooMany),
             Err(Stop::NoMemory) => Err(AllocError),
         }
     }

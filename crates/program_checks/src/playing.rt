@@ -130,7 +130,9 @@ fn print_history(alloc: Global, bytes: &[u8], printed: &mut Output) -> Result<()
     match print_verdict(alloc, bytes, STATES, printed) {
         Ok(()) => Ok(()),
         Err(Unvalidated::Faulty(fault)) => Err(Stopped::Fault(fault)),
-        Err(Unvalidated::Unjudged(Unjudged::TooMany)) => Err(Stopped::TooMany),
+        Err(Unvalidated::Unjudged(Unjudged::TooMany | Unjudged::NoNumbers)) => {
+            Err(Stopped::TooMany)
+        }
         Err(Unvalidated::Unjudged(Unjudged::NoMemory)) => Err(Stopped::NoMemory),
     }
 }
@@ -161,7 +163,7 @@ fn print_race(
             printed.clear();
             Err(Stopped::TooMany)
         }
-        Err(Stop::TooMany) => Err(Stopped::TooMany),
+        Err(Stop::TooMany | Stop::NoNumbers) => Err(Stopped::TooMany),
         Err(Stop::NoMemory) => Err(refused(lines)),
     }
 }
