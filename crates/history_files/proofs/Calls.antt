@@ -1,15 +1,9 @@
 -- The first fault of the lines of a race is that of what they call.
 use Rattle.std.proofs.Common.{◌≡◌, ◌∙◌, ◌⊎◌, sym, ap, ℕ, List, [], ◌∷◌, ◌++◌, Option, None, Result, Ok, Err, inl, inr}
+use Rattle.race_files.proofs.Reading.behind_call
 use Rattle.race_files.specs.{Calls.{TaskCalls, calls_after, calls_of, no_calls}, Faults.{IsToldOrMemory}, FirstFaults.{FailsInCalls, IsMemory, calls_with_next}}
 use Rattle.race_files.specs.{Left.{Left, calls_left}, declared.faults.RaceFault.{RaceFault}}
 use Rattle.schedule_lines.specs.declared.faults.Fault.{Fault}
-
--- behind a line after which this is called
-abbrev behind_call : ℕ → Option Fault → List (List ℕ) → Result (List TaskCalls) RaceFault → Result (List TaskCalls) RaceFault
-behind_call tasks end others after = elim after [
-  | Ok more ↦ calls_of tasks end others more
-  | Err fault ↦ Err fault
-]
 
 -- lines before others, which call this
 calls_over : (tasks : ℕ) (end : Option Fault) (before after : List (List ℕ)) (from calls : List TaskCalls) → calls_of tasks None before from ≡ Ok calls →

@@ -7,7 +7,7 @@ use Rattle.race_files.specs.{FirstFaults.{IsMemory, calls_with_next}, Left.{AreL
 use Rattle.race_files.specs.declared.faults.RaceFault.{RaceFault, TheVariants.Schedule}
 
 -- behind a line after which this is called
-abbrev behind_call : ℕ → Option Fault → List (List ℕ) → Result (List TaskCalls) RaceFault → Result (List TaskCalls) RaceFault
+abbrev pub behind_call : ℕ → Option Fault → List (List ℕ) → Result (List TaskCalls) RaceFault → Result (List TaskCalls) RaceFault
 behind_call tasks end others after = elim after [
   | Ok more ↦ calls_of tasks end others more
   | Err fault ↦ Err fault
