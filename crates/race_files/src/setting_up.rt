@@ -15,7 +15,8 @@ ghost use Rattle.transcripts.specs.Transcript.{ReplayState};
 use crate::faults::RaceFault;
 use crate::lines::{Lines, is_race};
 use gate_core::Core;
-use schedule_text::{Fault, Line, Output, parse};
+use schedule_lines::{Fault, Output};
+use schedule_text::{Line, parse};
 use std::alloc::Global;
 use transcripts::Session;
 

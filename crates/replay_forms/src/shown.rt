@@ -3,7 +3,7 @@
 use crate::forms::{Form, Look, Style};
 use crate::screen_player::ScreenPlayer;
 use gate_transitions::Driver;
-use schedule_text::Output;
+use schedule_lines::Output;
 use std::alloc::{AllocError, Global};
 use transcripts::{LineReplay, Session};
 
