@@ -47,7 +47,7 @@ EXCEPT = {
     "gate_world/src/accesses.rt": r"entry",
     "mntgate_c/src/events.rt": r"event",
     "replay_forms/src/screen.rt": r"event",
-    "schedule_lines/src/names.rt": r"events?",
+    "schedule_lines/src/printing.rt": r"events?",
 }
 DOC = re.compile(r"\s*//[/!] ?(.*)")
 REMARK = {".rt": re.compile(r"(?:.*\s)?// (.*)"), ".antt": re.compile(r"\s*-- ?(.*)")}

@@ -11,12 +11,12 @@ mod closes;
 mod closings;
 mod ends;
 mod freeze_lines;
-mod levels;
 mod lines;
-mod mounts;
 mod operations;
 mod remount_lines;
+mod starts;
 mod thaw_lines;
+mod wants;
 mod writes;
 
 pub use backoff::Backoff;

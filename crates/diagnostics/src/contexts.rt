@@ -1,7 +1,8 @@
 //! What comes before a faulty line.
 
 use schedule_lines::words::first_word;
-use schedule_text::{Front, Line, front_of, parse};
+use schedule_lines::{Front, front_of};
+use schedule_text::{Line, parse};
 
 /// What comes before a faulty line, and so which lines may stand there.
 #[derive(Clone, Copy)]

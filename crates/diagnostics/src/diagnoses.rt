@@ -9,8 +9,7 @@ use crate::places::Place;
 use crate::texts::Text;
 use exit_status::{ProgramEnding, SourceName, report, report_fault};
 use schedule_lines::bytes::ReplayFault;
-use schedule_lines::{Fault, FaultKind};
-use schedule_text::{Front, front_of};
+use schedule_lines::{Fault, FaultKind, Front, front_of};
 use std::alloc::{AllocError, Global};
 use std::io::Write;
 

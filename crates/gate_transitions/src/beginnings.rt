@@ -3,7 +3,8 @@
 ghost use Rattle.std.specs.Prelude.{◌≡◌, ◌≤◌, true};
 ghost use Rattle.gate_world.specs.Operations.{is_level_number, is_writer};
 ghost use Rattle.gate_world.specs.Accesses.{held_in};
-ghost use Rattle.gate_world.specs.Beginnings.{beginning, first_phase, is_in_range, is_in_order, is_within_room};
+ghost use Rattle.gate_world.specs.Beginnings.{beginning, first_phase, is_in_range, is_in_order, is_within_room, refusal};
+ghost use Rattle.gate_transitions.specs.Answers.{unless_refused};
 
 use access_model::GateError;
 use composite_ops::{ClosePhase, WritePhase};
@@ -13,10 +14,29 @@ use gated_tree::{Create, Grow, Mark, MoveTo, OpenFile, Remove, Snapshot, TreePha
 use mount_counts::{Change, MountPhase, Remount, Want};
 use percpu_rwsem::{Callback, DownRead, UpRead};
 
-/// The first phase of the operation of a task that holds these accesses, or why it can't begin, the first reason in this
-/// order. Order where an operation is under way; Invalid where a number of the operation is out of range; Order where the task
-/// holds what the operation must not find held, or doesn't hold what it gives back; TooMany where the task would get its
-/// 1,025th access at a mount, or have a file open twice.
+/// Whether an operation may begin of a task that holds these accesses, or the first reason why not, in this order. Order where an operation
+/// is under way; Invalid where a number of the operation is out of range; Order where the task holds what the operation must not find held, or
+/// doesn't hold what it gives back; TooMany where the task would get its 1,025th access at a mount, or have a file open twice.
+#[inline(always)]
+pub fn admit(op: Op, config: &Config, under_way: bool, held: &Accesses) -> Result<(), GateError>
+    requires mounts { config.now.mounts ≤ 8 }
+    requires nodes { config.now.nodes ≤ 64 }
+    ensures { result ≡ unless_refused (refusal config.now under_way (held_in held.now) op) }
+{
+    if under_way {
+        Err(GateError::Order)
+    } else if !is_in_range(op, config) {
+        Err(GateError::Invalid)
+    } else if !is_in_order(op, config, held) {
+        Err(GateError::Order)
+    } else if !is_within_room(op, config, held) {
+        Err(GateError::TooMany)
+    } else {
+        Ok(())
+    }
+}
+
+/// Returns the first phase of an operation that may begin, or why it may not, as `admit` says.
 #[inline(always)]
 pub fn begin(
     op: Op,
@@ -29,17 +49,8 @@ pub fn begin(
     requires nodes { config.now.nodes ≤ 64 }
     ensures { result ≡ beginning config.now task under_way (held_in held.now) op }
 {
-    if under_way {
-        Err(GateError::Order)
-    } else if !is_in_range(op, config) {
-        Err(GateError::Invalid)
-    } else if !is_in_order(op, config, held) {
-        Err(GateError::Order)
-    } else if !is_within_room(op, config, held) {
-        Err(GateError::TooMany)
-    } else {
-        Ok(first_phase(op, config, task))
-    }
+    admit(op, config, under_way, held)?;
+    Ok(first_phase(op, config, task))
 }
 
 /// Whether its numbers are in range.

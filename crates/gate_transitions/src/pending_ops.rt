@@ -27,13 +27,9 @@ pub trait PendingOp: Copy {
     fn phase(self) -> Phase
         ensures { result ≡ as_phase self };
 
-    /// The word and the touch of the next step, where a hook answers this: what each operation does of its own, with no look at others.
-    #[inline(always)]
+    /// The word and the touch of the next step, where a hook answers this.
     fn next(self, hook: Result<(), u16>) -> (WordName, Touch)
-        ensures { result ≡ next_of (as_phase self) hook }
-    {
-        next_event(&self.phase(), hook)
-    }
+        ensures { result ≡ next_of (as_phase self) hook };
 
     /// What comes after the step, which found this, and the action that it adds.
     fn after(self, found: u64, hook: Result<(), u16>) -> (Next<Self>, Option<Action>)
@@ -87,6 +83,11 @@ impl PendingOp for Phase {
     }
 
     #[inline(always)]
+    fn next(self, hook: Result<(), u16>) -> (WordName, Touch) {
+        next_event(&self, hook)
+    }
+
+    #[inline(always)]
     fn after(self, found: u64, hook: Result<(), u16>) -> (Next<Phase>, Option<Action>) {
         after_event(self, found, hook)
     }
@@ -101,6 +102,12 @@ impl PendingOp for Want {
     #[inline(always)]
     fn phase(self) -> Phase {
         Phase::Mounts(MountPhase::Want(self))
+    }
+
+    #[inline(always)]
+    fn next(self, hook: Result<(), u16>) -> (WordName, Touch) {
+        let _ = hook;
+        self.next()
     }
 
     #[inline(always)]
@@ -121,6 +128,11 @@ impl PendingOp for MountPhase {
     }
 
     #[inline(always)]
+    fn next(self, hook: Result<(), u16>) -> (WordName, Touch) {
+        MountPhase::next(&self, hook)
+    }
+
+    #[inline(always)]
     fn after(self, found: u64, hook: Result<(), u16>) -> (Next<MountPhase>, Option<Action>) {
         self.after(found, hook)
     }
@@ -135,6 +147,11 @@ impl PendingOp for Change {
     #[inline(always)]
     fn phase(self) -> Phase {
         Phase::Mounts(MountPhase::Change(self))
+    }
+
+    #[inline(always)]
+    fn next(self, hook: Result<(), u16>) -> (WordName, Touch) {
+        MountPhase::next(&MountPhase::Change(self), hook)
     }
 
     #[inline(always)]
@@ -155,6 +172,12 @@ impl PendingOp for DownRead {
     }
 
     #[inline(always)]
+    fn next(self, hook: Result<(), u16>) -> (WordName, Touch) {
+        let _ = hook;
+        self.next()
+    }
+
+    #[inline(always)]
     fn after(self, found: u64, hook: Result<(), u16>) -> (Next<DownRead>, Option<Action>) {
         let _ = hook;
         self.after(found)
@@ -169,6 +192,12 @@ impl PendingOp for UpRead {
     #[inline(always)]
     fn phase(self) -> Phase {
         Phase::UpReads(self)
+    }
+
+    #[inline(always)]
+    fn next(self, hook: Result<(), u16>) -> (WordName, Touch) {
+        let _ = hook;
+        self.next()
     }
 
     #[inline(always)]
@@ -189,6 +218,12 @@ impl PendingOp for WritePhase {
     }
 
     #[inline(always)]
+    fn next(self, hook: Result<(), u16>) -> (WordName, Touch) {
+        let _ = hook;
+        self.next()
+    }
+
+    #[inline(always)]
     fn after(self, found: u64, hook: Result<(), u16>) -> (Next<WritePhase>, Option<Action>) {
         let _ = hook;
         self.after(found)
@@ -203,6 +238,11 @@ impl PendingOp for Remount {
     #[inline(always)]
     fn phase(self) -> Phase {
         Phase::Remounts(self)
+    }
+
+    #[inline(always)]
+    fn next(self, hook: Result<(), u16>) -> (WordName, Touch) {
+        self.next(hook)
     }
 
     #[inline(always)]
@@ -284,6 +324,11 @@ impl PendingOp for TreePhase {
     #[inline(always)]
     fn phase(self) -> Phase {
         Phase::Trees(self)
+    }
+
+    #[inline(always)]
+    fn next(self, hook: Result<(), u16>) -> (WordName, Touch) {
+        TreePhase::next(&self, hook)
     }
 
     #[inline(always)]

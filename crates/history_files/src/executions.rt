@@ -4,7 +4,7 @@ use crate::players::Player;
 use crate::verdicts::Verdict;
 use crate::{HistorySource, Notes, line_at};
 use race_files::Lines;
-use schedule_text::Output;
+use schedule_lines::Output;
 use std::alloc::AllocError;
 
 /// Puts an execution that leads to one of the states in which most markers have passed, as lines that a replay takes: the set-up, a beginning as it

@@ -3,9 +3,8 @@
 ghost use Rattle.std.specs.Prelude.{◌≡◌};
 
 use race_files::RaceFault;
-use schedule_lines::FaultKind;
 use schedule_lines::bytes::ReplayFault;
-use schedule_text::Fault;
+use schedule_lines::{Fault, FaultKind};
 
 /// Why a history is refused at a line.
 #[derive(Clone, Copy)]

@@ -17,7 +17,7 @@ use histories::Marker;
 use race_files::{Lines, is_race, read_race};
 use schedule_lines::bytes::ReplayFault;
 use schedule_lines::words::is_word;
-use schedule_text::{Front, LINES, Output, front_of};
+use schedule_lines::{Front, LINES, Output, front_of};
 use std::alloc::{AllocError, Global};
 
 /// A history that was read: the core, as it was set up, and what was recorded from there on.

@@ -7,10 +7,11 @@ ghost use Rattle.history_files.specs.Records.{failing, failing_from, failure_of,
 use crate::faults::HistoryFault;
 use race_files::RaceFault;
 use races::{CALLS, Call};
+use schedule_lines::Fault;
 use schedule_lines::numbers::code_of;
 use schedule_lines::words::{after_word, first_word, word_count};
+use schedule_text::HookFailure;
 use schedule_text::commands::hook_named;
-use schedule_text::{Fault, HookFailure};
 
 /// The failure that is told by the words behind `hook`.
 ///

@@ -14,7 +14,8 @@ use race_files::{Calls, Lines, RaceFault};
 use races::{CALLS, Call};
 use schedule_lines::numbers::{is_digits, number_of};
 use schedule_lines::words::{after_word, first_word, is_word, word_count};
-use schedule_text::{Fault, Output, Verb};
+use schedule_lines::{Fault, Output};
+use schedule_text::Verb;
 use std::alloc::{AllocError, Global};
 use transcripts::no_memory;
 

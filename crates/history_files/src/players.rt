@@ -7,7 +7,7 @@ use gate_transitions::Progress;
 use histories::Marker;
 use race_files::Calls;
 use races::{CALLS, Call, CallAnswers, call_in};
-use schedule_text::Output;
+use schedule_lines::Output;
 use std::alloc::{AllocError, Global};
 use transcripts::Session;
 

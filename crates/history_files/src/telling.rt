@@ -9,7 +9,7 @@ use crate::{HistorySource, Notes};
 use access_model::{GateError, Reply};
 use diagnostics::{Marked, Text};
 use histories::Played;
-use schedule_text::Output;
+use schedule_lines::Output;
 use std::alloc::{AllocError, Global};
 
 /// What is said where a processor isn't known, and the verdict rests on it.

@@ -6,8 +6,7 @@ use exploration::Stop;
 use schedule_lines::bytes::ReplayFault;
 use schedule_lines::numbers::is_digits;
 use schedule_lines::words::{first_word, is_word};
-use schedule_lines::{Fault, FaultKind};
-use schedule_text::{Front, front_of};
+use schedule_lines::{Fault, FaultKind, Front, front_of};
 use std::alloc::{AllocError, Global};
 
 /// Why a history has no verdict.

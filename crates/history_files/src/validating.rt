@@ -9,8 +9,8 @@ use crate::unjudged::Unjudged;
 use crate::verdicts::{Verdict, verdict_of};
 use crate::{HistoryFile, HistorySource, Notes, read_history};
 use exploration::{Observer, Unobserved};
+use schedule_lines::Output;
 use schedule_lines::bytes::ReplayFault;
-use schedule_text::Output;
 use std::alloc::{AllocError, Global};
 
 /// Why a text has no verdict.

@@ -8,7 +8,7 @@ use exploration::Runs;
 use race_files::RaceSource;
 use race_outcomes::{OutcomeListing, movers_to};
 use replay_forms::{Look, Style, shown_of, with_waits};
-use schedule_text::Output;
+use schedule_lines::Output;
 use std::alloc::AllocError;
 
 /// Whose moves lead to the listed state at an index. If runs were found the moves are to be read: each task begins a call right before the call's

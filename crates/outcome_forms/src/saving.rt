@@ -11,7 +11,7 @@ use exit_status::{ProgramEnding, report_of, report_refusal_of, report_unopened, 
 use race_files::RaceSource;
 use race_outcomes::{Outcome, OutcomeListing, runs_for};
 use replay_forms::Style;
-use schedule_text::Output;
+use schedule_lines::Output;
 use std::alloc::{AllocError, Global};
 use std::fs;
 use std::io::Write;

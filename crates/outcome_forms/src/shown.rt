@@ -13,7 +13,7 @@ use gate_core::Core;
 use race_files::RaceSource;
 use race_outcomes::{OutcomeListing, SearchPlan, list, runs_for};
 use replay_forms::{Form, html, records, shown_of};
-use schedule_text::Output;
+use schedule_lines::Output;
 use std::alloc::AllocError;
 
 /// As what outcomes are shown.

@@ -4,7 +4,7 @@ use crate::playing::{Source, Stopped};
 use crate::said::{put_said, said_in};
 use race_files::Lines;
 use race_files::setting_up::SetUpObserver;
-use schedule_text::Output;
+use schedule_lines::Output;
 use std::alloc::Global;
 
 /// Returns the lines of a file, where the lines `#> TEXT` behind each command say all that it prints: they stand where the first of them stood, or else

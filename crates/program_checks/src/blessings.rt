@@ -10,8 +10,8 @@ use exit_status::{
     ProgramEnding, expect_file, read_bytes, replace_file, report, report_fault, report_of,
     report_refusal, report_refusal_of, report_unopened,
 };
+use schedule_lines::Output;
 use schedule_lines::bytes::write_out;
-use schedule_text::Output;
 use std::alloc::{AllocError, Global};
 use std::fs;
 use std::io::{Read, Write};

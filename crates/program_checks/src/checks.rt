@@ -11,7 +11,7 @@ use crate::playing::Source;
 use access_model::GateError;
 use exit_status::{ProgramEnding, read_bytes, report, report_refusal, report_refusal_of};
 use schedule_lines::bytes::write_out;
-use schedule_text::{Fault, Output};
+use schedule_lines::{Fault, Output};
 use std::alloc::{AllocError, Global};
 use std::io::{Read, Write};
 use std::rt::Files;

@@ -13,7 +13,7 @@ use exploration::{Stop, Unobserved};
 use race_files::setting_up::SetUpObserver;
 use race_files::{Lines, RaceFile, RaceSource, read_race};
 use replay_forms::Style;
-use schedule_text::Output;
+use schedule_lines::Output;
 use std::alloc::{AllocError, Global};
 
 /// How a schedule compares.

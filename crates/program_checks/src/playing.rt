@@ -14,7 +14,7 @@ use race_files::setting_up::{SetUpObserver, do_setting};
 use race_files::{Lines, RaceFault, RaceFile};
 use race_outcomes::print_briefly;
 use schedule_lines::bytes::ReplayFault;
-use schedule_text::{Fault, LINES, Output};
+use schedule_lines::{Fault, LINES, Output};
 use std::alloc::{AllocError, Global};
 use transcripts::Session;
 

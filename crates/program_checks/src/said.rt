@@ -6,7 +6,7 @@ ghost use Rattle.program_checks.specs.Said.{IsSaidIn, PutsSaid, SaysMore, said_b
 ghost use Rattle.schedule_lines.specs.Printed.{Prints};
 
 use race_files::Lines;
-use schedule_text::{LINE_BYTES, Output};
+use schedule_lines::{LINE_BYTES, Output};
 use std::alloc::Global;
 
 /// How many bytes of what is printed a line says at most, behind its mark.

@@ -219,7 +219,7 @@ fn replay_told<D: Driver, R: Read, W: Write, E: Write>(
 }
 
 /// A schedule over the gates that threads use, as `replay_told` does one over whatever gates. Unless a fault's line is printed too, it is a plain
-/// `replay_gates`, which keeps no line.
+/// `replay_gates`.
 fn replay_gates_told<R: Read, W: Write, E: Write>(
     telling: Telling<'_>,
     reader: &mut R,

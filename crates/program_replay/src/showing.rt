@@ -3,8 +3,8 @@
 use crate::replays::{Telling, tell};
 use gate_core::Driver;
 use replay_forms::{Form, Look, ScreenPlayer, html};
+use schedule_lines::Output;
 use schedule_lines::bytes::{ReplayFault, fault_after, write_out};
-use schedule_text::Output;
 use std::io::{Read, Write};
 use transcripts::{LineReplay, no_memory, settled};
 

@@ -20,7 +20,8 @@ use crate::prefixes::{
 };
 use races::{CALLS, Call, CallName, Race, When};
 use schedule_lines::words::{after_word, first_word};
-use schedule_text::{Fault, HookFailure, Line, Output, Request, TaskCommand, parse};
+use schedule_lines::{Fault, Output};
+use schedule_text::{HookFailure, Line, Request, TaskCommand, parse};
 use std::alloc::{AllocError, Global};
 use transcripts::{no_memory, settled};
 

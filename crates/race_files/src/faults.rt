@@ -2,9 +2,8 @@
 
 ghost use Rattle.std.specs.Prelude.{◌≡◌, ◌≤◌};
 
-use schedule_lines::FaultKind;
 use schedule_lines::bytes::ReplayFault;
-use schedule_text::Fault;
+use schedule_lines::{Fault, FaultKind};
 
 /// Why a race is refused at a line.
 #[derive(Clone, Copy)]

@@ -7,7 +7,7 @@ use crate::faults::RaceFault;
 use race_conditions::ClaimKind;
 use schedule_lines::bytes::ReplayFault;
 use schedule_lines::words::{first_word, word_count};
-use schedule_text::{Fault, Front, LINES, front_of};
+use schedule_lines::{Fault, Front, LINES, front_of};
 
 /// The lines that are left, and how many were taken.
 #[derive(Drop)]

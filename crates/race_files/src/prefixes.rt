@@ -8,9 +8,9 @@ ghost use Rattle.schedule_lines.specs.Printed.{Prints};
 use crate::faults::RaceFault;
 use gate_world::Op;
 use races::{Call, CallName, When};
+use schedule_lines::Output;
 use schedule_lines::numbers::{byte_of, is_digits, number_of};
 use schedule_lines::words::{after_word, first_word};
-use schedule_text::Output;
 
 const DOT: u8 = b'.';
 

@@ -5,7 +5,7 @@ use access_model::{GateError, Reply};
 use gate_core::Core;
 use gate_transitions::{Progress, Step};
 use races::{CallAnswers, Race};
-use schedule_text::Output;
+use schedule_lines::Output;
 use std::alloc::{AllocError, Global};
 use transcripts::Session;
 

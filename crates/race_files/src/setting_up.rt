@@ -16,7 +16,8 @@ use crate::faults::RaceFault;
 use crate::lines::{Lines, is_race};
 use access_model::GateError;
 use gate_core::Core;
-use schedule_text::{Fault, Line, Output, parse};
+use schedule_lines::{Fault, Output};
+use schedule_text::{Line, parse};
 use std::alloc::{AllocError, Global};
 use transcripts::Session;
 

@@ -5,7 +5,7 @@ use crate::lines::{Lines, is_race};
 use crate::schedules::{begin_late, print_schedule};
 use crate::setting_up::set_up_again;
 use gate_core::Core;
-use schedule_text::{LINES, Output};
+use schedule_lines::{LINES, Output};
 use std::alloc::{AllocError, Global};
 use transcripts::Session;
 

@@ -9,7 +9,7 @@ use crate::listing::{Method, Outcome, OutcomeListing, SearchPlan, list};
 use exploration::{Stop, Unobserved};
 use gate_core::Core;
 use races::Race;
-use schedule_text::Output;
+use schedule_lines::Output;
 use std::alloc::Global;
 
 /// Prints the outcomes of a race on this core, of no more states than the limit: how many states and outcomes there are, and then a line for each

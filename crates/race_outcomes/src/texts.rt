@@ -6,7 +6,7 @@ ghost use Rattle.race_outcomes.specs.Texts.{NumberFits, NumbersFit, answer_part,
 
 use access_model::{GateError, Reply};
 use races::{CALLS, CallAnswers, Race};
-use schedule_text::Output;
+use schedule_lines::Output;
 use std::alloc::{AllocError, Global};
 
 /// The text of an outcome: what the calls of each task have answered, task by task, `T skipped` for each that was skipped, and `T waits` for

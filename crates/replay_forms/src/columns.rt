@@ -6,7 +6,7 @@ use crate::page::{Page, text_of};
 use crate::rows::Rows;
 use crate::trace::{Entry, behind_task};
 use cpu_words::WORDS;
-use schedule_text::Output;
+use schedule_lines::Output;
 use std::alloc::{AllocError, Global};
 
 /// How wide a column is at least.

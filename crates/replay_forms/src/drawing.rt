@@ -9,7 +9,7 @@ use crate::rows::{Rows, count_rows};
 use crate::trace::{Entry, Happening, Taken, behind_task};
 use crate::waits::{Culprit, Wait};
 use access_model::Action;
-use schedule_text::Output;
+use schedule_lines::Output;
 use std::alloc::{AllocError, Global};
 
 /// The letters and the colours of a picture, which it has with it, so that it stands alone.

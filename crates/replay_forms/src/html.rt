@@ -1,7 +1,7 @@
 //! Pages that hold pictures: each is whole, and asks for nothing from elsewhere.
 
 use crate::markup::{counted, escaped};
-use schedule_text::Output;
+use schedule_lines::Output;
 
 /// The letters and the colours of a page.
 static STYLE: &str =

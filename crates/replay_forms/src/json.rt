@@ -10,7 +10,7 @@ use access_model::{GateError, Holder, NodeInfo};
 use cpu_words::{Touch, WordName};
 use gate_transitions::Driver;
 use model_state::Model;
-use schedule_text::Output;
+use schedule_lines::Output;
 use serde_json::{Map, Value};
 use std::alloc::Global;
 use transcripts::Session;

@@ -1,6 +1,6 @@
 //! Text in pages and pictures.
 
-use schedule_text::Output;
+use schedule_lines::Output;
 
 /// Prints a text so that it stands for itself, whatever its bytes: the marks of a page are escaped, and bytes that no page may have become
 /// question marks.

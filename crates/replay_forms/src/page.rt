@@ -2,7 +2,7 @@
 
 ghost use Rattle.std.specs.Prelude.{◌≡◌, OnErr};
 
-use schedule_text::{Fault, Output};
+use schedule_lines::{Fault, Output};
 use std::alloc::{AllocError, Global};
 use transcripts::print_line;
 

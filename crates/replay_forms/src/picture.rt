@@ -8,7 +8,7 @@ use crate::markup::escaped;
 use crate::page::Page;
 use crate::trace::{Entry, Happening};
 use model_state::Model;
-use schedule_text::Output;
+use schedule_lines::Output;
 use std::alloc::{AllocError, Global};
 
 /// What was seen so far.

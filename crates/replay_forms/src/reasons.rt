@@ -5,7 +5,7 @@ use access_model::GateError;
 use cpu_words::WordName;
 use gate_transitions::Driver;
 use gate_world::Op;
-use schedule_text::Output;
+use schedule_lines::Output;
 use transcripts::Session;
 
 /// How many accesses a task may hold at one mount.

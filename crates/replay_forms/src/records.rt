@@ -2,7 +2,7 @@
 
 use crate::json::{List, Record};
 use crate::page::text_of;
-use schedule_text::Output;
+use schedule_lines::Output;
 use std::alloc::Global;
 
 /// Of how much a claim speaks.

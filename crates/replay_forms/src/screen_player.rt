@@ -3,7 +3,8 @@
 use crate::forms::Look;
 use crate::screen::Screen;
 use gate_transitions::Driver;
-use schedule_text::{Fault, Line, Output};
+use schedule_lines::{Fault, Output};
+use schedule_text::Line;
 use std::alloc::Global;
 use transcripts::{Player, Session};
 

@@ -4,8 +4,7 @@ use crate::forms::{Form, Look, Style};
 use crate::screen_player::ScreenPlayer;
 use access_model::GateError;
 use gate_transitions::Driver;
-use schedule_lines::FaultKind;
-use schedule_text::{Fault, Output};
+use schedule_lines::{Fault, FaultKind, Output};
 use std::alloc::{AllocError, Global};
 use transcripts::{LineReplay, Session};
 

@@ -2,7 +2,8 @@
 
 use access_model::{Action, Gate, GateError, Holder, Kind, Reply};
 use gate_world::Op;
-use schedule_text::{Output, Verb};
+use schedule_lines::Output;
+use schedule_text::Verb;
 
 /// How many values a term has at most.
 const FIELDS: usize = 3;

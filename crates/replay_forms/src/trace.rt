@@ -7,7 +7,7 @@ use crate::waits::Wait;
 use access_model::{Action, GateError, Reply};
 use cpu_words::{Event, Touch, WordName};
 use gate_world::Op;
-use schedule_text::Output;
+use schedule_lines::Output;
 
 /// A step that a task has taken.
 #[derive(Clone, Copy)]

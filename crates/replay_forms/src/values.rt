@@ -5,7 +5,7 @@ use crate::terms::kind_word;
 use cpu_words::WordName;
 use node_words::NodeWord;
 use percpu_rwsem::{GpState, SyncWord};
-use schedule_text::Output;
+use schedule_lines::Output;
 
 /// The bits of a mount's flags.
 const READONLY: u64 = 1;

@@ -3,7 +3,7 @@
 use crate::forms::Style;
 use cpu_words::{Event, WordName};
 use gate_transitions::Driver;
-use schedule_text::Output;
+use schedule_lines::Output;
 use transcripts::Session;
 
 /// Who stands in the way.

@@ -5,9 +5,9 @@
 pub mod bytes;
 pub mod faults;
 pub mod lines;
-pub mod names;
 pub mod numbers;
 pub mod output;
+pub mod printing;
 pub mod words;
 
 pub use faults::{Fault, FaultKind};

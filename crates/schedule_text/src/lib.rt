@@ -5,5 +5,4 @@ pub mod commands;
 pub mod verbs;
 
 pub use commands::{HookFailure, Line, Request, TaskCommand, parse};
-pub use schedule_lines::{Fault, Front, LINE_BYTES, LINES, Output, front_of};
 pub use verbs::{Verb, VerbRow};

@@ -9,5 +9,4 @@ pub mod session;
 
 pub use line_replay::{Ended, LineReplay, replay_to_end};
 pub use player::{Player, SessionPlayer, print_line};
-pub use schedule_lines::bytes::ReplayFault;
 pub use session::{Session, no_memory, settled};

@@ -16,9 +16,9 @@ ghost use Rattle.transcripts.specs.Replaying.{AllDone, LinesEnd, Stops};
 use crate::player::{Player, SessionPlayer};
 use crate::session::no_memory;
 use gate_transitions::Driver;
-use schedule_lines::Input;
 use schedule_lines::bytes::{ReplayFault, fault_after};
-use schedule_text::{Fault, Front, LINES, Output, parse};
+use schedule_lines::{Fault, Front, Input, LINES, Output};
+use schedule_text::parse;
 use std::alloc::{AllocError, Global};
 use std::io::{Read, Write};
 

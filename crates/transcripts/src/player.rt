@@ -9,7 +9,8 @@ ghost use Rattle.transcripts.specs.Transcript.{ReplayState, line_effect};
 
 use crate::session::{Session, settled};
 use gate_transitions::Driver;
-use schedule_text::{Fault, Line, Output, Request};
+use schedule_lines::{Fault, Output};
+use schedule_text::{Line, Request};
 use std::alloc::{AllocError, Global};
 
 /// Room for what the longest line prints, so that no line has to grow it.

@@ -11,7 +11,8 @@ use cpu_words::WordName;
 use gate_transitions::{Driver, Progress, Step};
 use gate_world::{Config, Op};
 use model_state::Model;
-use schedule_text::{Fault, HookFailure, Output, Request, TaskCommand};
+use schedule_lines::{Fault, Output};
+use schedule_text::{HookFailure, Request, TaskCommand};
 use std::alloc::{AllocError, Global};
 
 /// How many steps a line `run` does at most.

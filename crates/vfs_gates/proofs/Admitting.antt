@@ -1,9 +1,9 @@
 -- Whether an operation may begin, as a task's fields say.
 use Rattle.vfs_gates.proofs.Prelude.{Bool, Config, Err, GateError, GhostAgrees, IsWithin, List, Ok, Op, Option, Phase, Result, SeatedTask, TaskState}
 use Rattle.vfs_gates.proofs.Prelude.{[], ap, is_some, own_number, own_view, refl, refusal_at, sym, task_state, ℕ, ◌∙◌, ◌∷◌, ◌≡◌}
-use Rattle.vfs_gates.specs.{TaskStates.beginning_at, declared.task.Task.TheInside.Inside}
-use Rattle.gate_world.specs.{Beginnings.{beginning, first_phase, or_refusal, refusal}, Views.held_of}
-use Rattle.gate_steps.{proofs.call_events.Beginnings.{err_means, ok_means, refusal_agree}, specs.call_events.Answers.unless_refused}
+use Rattle.vfs_gates.specs.declared.task.Task.TheInside.Inside
+use Rattle.gate_world.specs.{Beginnings.{first_phase, refusal}, Views.held_of}
+use Rattle.gate_steps.{proofs.call_events.Beginnings.refusal_agree, specs.call_events.Answers.unless_refused}
 use Rattle.gate_steps.specs.call_events.{Seating.DealtNumbers, TaskStates.task_holdings}
 
 module _ (number : ℕ) (c : Config) (begins : Option Op) (state : TaskState) (flags : List Bool) where
@@ -29,36 +29,19 @@ module _ (number : ℕ) (c : Config) (begins : Option Op) (state : TaskState) (f
 pub admitted_as : (op : Op) (task : Inside) (start : SeatedTask) →
     task_state task.seat.table_id task.config task.begins task.state.phase task.seat.me.0 ≡ start →
     GhostAgrees task.number task.config task.begins task.state task.spare task.seat.me.0.items → (under_way : Bool) →
-    under_way ≡ is_some task.state.phase → (answer : Result Phase GateError) →
-    answer ≡ beginning task.config task.number under_way (task_holdings task.state) op → answer ≡ beginning_at op start
+    under_way ≡ is_some task.state.phase → (answer : Result (Unit {0}) GateError) →
+    answer ≡ unless_refused (refusal task.config under_way (task_holdings task.state) op) → answer ≡ unless_refused (refusal_at op start)
 admitted_as op task start start_is ghost_agrees under_way under_way_is answer is =
-    let items : DealtNumbers = task.seat.me.0.items in
-    let refused : refusal task.config under_way (task_holdings task.state) op ≡
-    refusal task.config (is_some task.state.phase) (held_of (own_view items)) op =
+    let refused : refusal task.config under_way (task_holdings task.state) op ≡ refusal_at op start =
     ap (λ b. refusal task.config b (task_holdings task.state) op) under_way_is ∙
-    refusal_same task.number task.config task.begins task.state task.spare items op ghost_agrees in
-    is ∙
-    ((λ i. or_refusal (first_phase task.config (number_same task.number task.config task.begins task.state task.spare items ghost_agrees i) op)
-    (refused i)) ∙
-    ap (beginning_at op) start_is)
+    refusal_same task.number task.config task.begins task.state task.spare task.seat.me.0.items op ghost_agrees ∙
+    ap (refusal_at op) start_is in
+    is ∙ ap unless_refused refused
 
--- what was admitted has no refusal
-pub admitted_by : (op : Op) (start : SeatedTask) (phase : Phase) → Ok phase ≡ beginning_at op start →
-    Ok tt ≡ unless_refused (refusal_at op start)
-admitted_by op start phase is =
-    sym (ap unless_refused (ok_means (first_phase start.config (own_number start.items) op) (refusal_at op start) phase is).0)
-
--- and what was not has this one
-pub refused_by : (op : Op) (start : SeatedTask) (refused : GateError) →
-    ◌≡◌ {A = Result Phase GateError} (Err refused) (beginning_at op start) →
-    ◌≡◌ {A = Result (Unit {0}) GateError} (Err refused) (unless_refused (refusal_at op start))
-refused_by op start refused is =
-    sym (ap unless_refused (err_means (first_phase start.config (own_number start.items) op) (refusal_at op start) refused is))
-
--- so an answer that refuses nothing admitted it
-pub admitted_unless : (op : Op) (start : SeatedTask) (answer : Result Phase GateError) → answer ≡ beginning_at op start →
+-- an answer that refuses nothing admitted the operation
+pub admitted_unless : (op : Op) (start : SeatedTask) (answer : Result (Unit {0}) GateError) → answer ≡ unless_refused (refusal_at op start) →
     ((refused : GateError) → answer ≡ Err refused → ⊥) → Ok tt ≡ unless_refused (refusal_at op start)
-admitted_unless op start (Ok phase) is granted = admitted_by op start phase is
+admitted_unless op start (Ok tt) is granted = is
 admitted_unless op start (Err refused) is granted = absurd (granted refused refl)
 
 -- what is the first phase as the task's state says is so as its fields say
@@ -70,12 +53,3 @@ first_so op task start start_is ghost_agrees phase is =
     is ∙ sym (ap (λ (n : ℕ). first_phase task.config n op)
     (number_same task.number task.config task.begins task.state task.spare task.seat.me.0.items ghost_agrees) ∙
     ap (λ (s : SeatedTask). first_phase s.config (own_number s.items) op) start_is)
-
--- the phase that was answered is the operation's first
-pub first_by : (op : Op) (task : Inside) (start : SeatedTask) →
-    task_state task.seat.table_id task.config task.begins task.state.phase task.seat.me.0 ≡ start →
-    GhostAgrees task.number task.config task.begins task.state task.spare task.seat.me.0.items → (phase : Phase) → Ok phase ≡ beginning_at op start →
-    phase ≡ first_phase task.config task.number op
-first_by op task start start_is ghost_agrees phase is =
-    first_so op task start start_is ghost_agrees phase
-    (ok_means (first_phase start.config (own_number start.items) op) (refusal_at op start) phase is).1

@@ -8,7 +8,7 @@ use Rattle.gate_steps.specs.call_events.{Answers.unless_refused, Asking.{CalledA
 use Rattle.gate_steps.specs.call_events.{Seating.DealtNumbers, Turns.{AgreesAfter, StateAgrees}, Waited.OpAfterStepWaiting}
 use Rattle.gate_steps.specs.declared.seating.Knowledge.{Knowledge}
 use Rattle.gate_world.specs.{Beginnings.refusal, Fits.Fits}
-use Rattle.vfs_gates.{proofs.Admitting.{admitted_by, admitted_unless, first_by, first_so}, specs.TaskStates.beginning_at}
+use Rattle.vfs_gates.proofs.Admitting.{admitted_unless, first_so}
 use Rattle.vfs_gates.specs.declared.task.Task.TheInside.{Inside}
 
 -- an option that has nothing in it
@@ -48,19 +48,11 @@ call_of op task gates start start_is from ghost_agrees admitted first first_is =
   first_is = first_is;
 }
 
--- the call of an operation whose first phase was answered
-abbrev pub admitted_call : (op : Op) (task : Inside) (gates : Config) (start : SeatedTask) →
-    task_state task.seat.table_id task.config task.begins task.state.phase task.seat.me.0 ≡ start → start.config ≡ gates →
-    GhostAgrees task.number task.config task.begins task.state task.spare task.seat.me.0.items → (first : Phase) → Ok first ≡ beginning_at op start → Call
-admitted_call op task gates start start_is from ghost_agrees first answered =
-    call_of op task gates start start_is from ghost_agrees (admitted_by op start first answered) first
-    (first_by op task start start_is ghost_agrees first answered)
-
 -- the call of an operation that was not refused, and whose first phase is this
 abbrev pub call_with : (op : Op) (task : Inside) (gates : Config) (start : SeatedTask) →
     task_state task.seat.table_id task.config task.begins task.state.phase task.seat.me.0 ≡ start → start.config ≡ gates →
-    GhostAgrees task.number task.config task.begins task.state task.spare task.seat.me.0.items → (answer : Result Phase GateError) →
-    answer ≡ beginning_at op start → ((refused : GateError) → answer ≡ Err refused → ⊥) →
+    GhostAgrees task.number task.config task.begins task.state task.spare task.seat.me.0.items → (answer : Result (Unit {0}) GateError) →
+    answer ≡ unless_refused (refusal_at op start) → ((refused : GateError) → answer ≡ Err refused → ⊥) →
     (first : Phase) → first ≡ first_phase start.config (own_number start.items) op → Call
 call_with op task gates start start_is from ghost_agrees answer answer_is granted first is =
     call_of op task gates start start_is from ghost_agrees (admitted_unless op start answer answer_is granted) first

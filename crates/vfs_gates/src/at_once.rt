@@ -2,22 +2,44 @@
 
 ghost use Rattle.std.specs.Prelude.{◌≡◌, false};
 ghost use Rattle.vfs_gates.specs.AtOnce.{BeginsAtOnce};
+ghost use Rattle.vfs_gates.specs.Waits.{is_wait};
+ghost use Rattle.access_model.specs.Replies.{map_next};
+ghost use Rattle.gate_steps.specs.call_events.Answers.{unless_refused};
 
-use crate::calls::waits;
 use crate::gates::Gates;
 use crate::snapshots::snapshot_first;
 use crate::task::Task;
 use access_model::{GateError, Holder, Next};
 use call_ends::LinedOp;
 use gate_steps::call_events::Progress;
-use gate_transitions::PendingOp;
+use gate_transitions::{PendingOp, admit};
 use gate_world::Op;
+
+/// 1 where the step before found what the operation waits for, else 0.
+#[inline(always)]
+pub(crate) fn waits<P: PendingOp>(next: &Next<P>) -> u64
+    ensures { result ≡ is_wait (map_next P.as_phase next.now) }
+{
+    match next {
+        Next::Wait(_) => 1,
+        Next::Go(_) | Next::Done(_) => 0,
+    }
+}
 
 impl Task {
     ghost use Rattle.gate_world.specs.Beginnings.{first_phase};
     ghost use Rattle.gate_world.specs.declared.operations.Op.TheVariants.{RemountSb, WantWrite, Callback, Freeze, Snapshot, Thaw};
     ghost use Rattle.vfs_gates.specs.Buffers.{is_of_snapshot};
-    ghost use Rattle.vfs_gates.specs.TaskStates.{IsFrom, own_number};
+    ghost use Rattle.vfs_gates.specs.TaskStates.{IsFrom, own_number, refusal_at};
+
+    /// Whether the operation may begin, or why it can't.
+    #[inline(always)]
+    pub(crate) fn admit(&self, op: Op) -> Result<(), GateError>
+        ensures { result ≡ unless_refused (refusal_at op self.now) }
+    {
+        let under_way = self.state.phase.is_some();
+        admit(op, &self.config, under_way, &self.state.accesses)
+    }
 
     /// Begins an operation that has this first phase, and does its steps in a line, where each hook answers Ok. Where one of them finds
     /// something else, it notes where the operation stands.

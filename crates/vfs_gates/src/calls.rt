@@ -1,19 +1,16 @@
 //! Calls that wait for nobody.
 
 ghost use Rattle.std.specs.Prelude.{◌≡◌, false};
-ghost use Rattle.access_model.specs.Replies.{map_next};
 ghost use Rattle.gate_world.specs.declared.operations.Op.{Op as OpType};
 ghost use Rattle.vfs_gates.specs.TaskStates.{SeatedTask};
-ghost use Rattle.vfs_gates.specs.Waits.{is_wait};
 ghost use Rattle.gate_steps.specs.call_events.Runs.{told_as, unit_of, OpUnderWay};
 
 use crate::gates::Gates;
 use crate::task::Task;
-use access_model::{GateError, Next, Reply};
+use access_model::{GateError, Reply};
 use composite_ops::WritePhase;
 use gate_steps::call_events::Progress;
-use gate_transitions::{PendingOp, begin};
-use gate_world::{Op, Phase};
+use gate_world::Op;
 use mount_counts::{Change, MountPhase, Want};
 use percpu_rwsem::{DownRead, UpRead};
 
@@ -24,40 +21,14 @@ pub(crate) fn outcome(answer: Result<Reply, GateError>) -> Result<(), GateError>
     answer.map(|_| ())
 }
 
-/// 1 where the step before found what the operation waits for, else 0.
-#[inline(always)]
-pub(crate) fn waits<P: PendingOp>(next: &Next<P>) -> u64
-    ensures { result ≡ is_wait (map_next P.as_phase next.now) }
-{
-    match next {
-        Next::Wait(_) => 1,
-        Next::Go(_) | Next::Done(_) => 0,
-    }
-}
-
 impl Task {
     ghost use Rattle.gate_world.specs.Beginnings.{first_phase};
     ghost use Rattle.gate_world.specs.declared.operations.Op.TheVariants.{Want as WantOp, DropMount, ChangeMount, Start, End, DropWrite};
     ghost use Rattle.gate_world.specs.declared.work.Phase.TheVariants.{Mounts};
     ghost use Rattle.mount_counts.specs.declared.phases.MountPhase.TheVariants.{Change as Changes};
     ghost use Rattle.vfs_gates.specs.AtOnce.{BeginsAtOnce, PerformedFrom, TriedAtOnce};
-    ghost use Rattle.vfs_gates.specs.TaskStates.{IsFrom, beginning_at, own_number};
+    ghost use Rattle.vfs_gates.specs.TaskStates.{IsFrom, own_number};
     ghost use Rattle.gate_steps.specs.call_events.Runs.{IsTrying, Performs};
-
-    /// The first phase of the operation, or why it can't begin.
-    #[inline(always)]
-    pub(crate) fn admit(&self, op: Op) -> Result<Phase, GateError>
-        ensures { result ≡ beginning_at op self.now }
-    {
-        let under_way = self.state.phase.is_some();
-        begin(
-            op,
-            &self.config,
-            self.number,
-            under_way,
-            &self.state.accesses,
-        )
-    }
 
     /// Does the steps of the operation that has begun, which has a most number of them and asks no
     /// hook, until it replies. It tells only whether the operation was done, so that no call makes

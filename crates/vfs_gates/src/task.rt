@@ -10,14 +10,14 @@ ghost use Rattle.access_model.specs.Replies.{map_next};
 ghost use Rattle.gate_world.specs.Views.{phase_after};
 ghost use Rattle.gate_steps.specs.call_events.Answers.{progress_of};
 
+use crate::at_once::waits;
 use crate::buffers::SnapshotBuffers;
-use crate::calls::waits;
 use crate::gates::Gates;
 use crate::numbers::{Numbers, add_all, are_all, others_of};
 use access_model::{GateError, Next};
 use freeze_levels::{Freeze, FreezeStep, HookKind};
 use gate_steps::call_events::{GhostSeat, Progress, Step, StepResult, TaskState, do_event};
-use gate_transitions::PendingOp;
+use gate_transitions::{PendingOp, first_phase};
 use gate_world::{Accesses, Config, Op, Phase};
 use gated_tree::Tree;
 use mount_counts::MountPhase;
@@ -209,9 +209,9 @@ impl Task {
         // From here on each step says how far the operation has come, and the last one what it was as a whole (`step`, clause `told`).
         ensures goes { OnOk result (OpUnderWay op self.old self.new) }
     {
-        let phase = self.admit(op)?;
+        self.admit(op)?;
         self.begins = Some(op);
-        self.state.phase = Some(phase);
+        self.state.phase = Some(first_phase(op, &self.config, self.number));
         Ok(())
     }
 

@@ -1,6 +1,6 @@
 -- a call that has a most number of steps: its beginning, its steps, and what the task shows then
 use Rattle.vfs_gates.proofs.Prelude.{Done, SeatedTask, ap, own_number, refl, sym, ◌∙◌}
-use Rattle.vfs_gates.proofs.{Admitting.refused_by, Calling.{Call, Left, call_with, ended_at, ghost_agrees_done, has_begun, is_agrees}}
+use Rattle.vfs_gates.proofs.{Calling.{Call, Left, call_with, ended_at, ghost_agrees_done, has_begun, is_agrees}}
 use Rattle.vfs_gates.proofs.{Rooming.room_done, Waiting.{left_tells, waits_for_nobody}, task.Task.call.Goals.After-run_to_reply}
 use Rattle.gate_steps.{proofs.call_events.Running.{told_whole, was_done, was_refused}, specs.call_events.Runs.the_reply}
 use Rattle.vfs_gates.proofs.task.Task.call.Goals as goal
@@ -56,4 +56,4 @@ returns g c =
 pub returns-in-Err : goal.returns-in-Err
 returns-in-Err g c =
     was_refused the_reply c.args.op c.args.self.now c.args.self.now c.in-Err.refusal
-    (refused_by c.args.op c.args.self.now c.in-Err.refusal (sym c.in-Err.is ∙ c.admit.ensures)) refl
+    (sym c.in-Err.is ∙ c.admit.ensures) refl

@@ -3,7 +3,7 @@ use Rattle.vfs_gates.proofs.Prelude.{BuffersMatch, Config, Locks, Phase, SeatedT
 use Rattle.vfs_gates.proofs.Prelude.{◌∙◌, ◌≡◌, ◌≤◌}
 use Rattle.gate_steps.{proofs.call_events.Onward.{done_at, stands_at}, specs.call_events.Progress.TheVariants.{Done, Going}}
 use Rattle.gate_world.specs.declared.operations.Op.TheVariants.{Snapshot as SnapshotOp}
-use Rattle.vfs_gates.proofs.{Admitting.refused_by, AtOnce.{refused_at_once, told_at_once, went_so}, Calling.{Call, Left, call_with, ended_at}}
+use Rattle.vfs_gates.proofs.{AtOnce.{refused_at_once, told_at_once, went_so}, Calling.{Call, Left, call_with, ended_at}}
 use Rattle.vfs_gates.proofs.Calling.{ghost_agrees_at, ghost_agrees_done, goes_at, has_asked_none, is_agrees, items_of, not_begun}
 use Rattle.vfs_gates.proofs.{Loading.{loaded_buffers, loaded_done, nodes_as_begun}, Rooming.begun_in, Waiting.{left_tells, once}}
 use Rattle.vfs_gates.{proofs.task.Task.load_at_once.Goals.After-snapshot_first-next, specs.{Buffers.IsSized, Noted.of_tree}}
@@ -93,4 +93,4 @@ returns-in-Go c =
 pub returns-in-Err : goal.returns-in-Err
 returns-in-Err c =
     refused_at_once (SnapshotOp c.args.wait) c.args.self.now c.in-Err.refusal
-    (refused_by (SnapshotOp c.args.wait) c.args.self.now c.in-Err.refusal (sym c.in-Err.is ∙ c.admit.ensures))
+    (sym c.in-Err.is ∙ c.admit.ensures)

@@ -1,6 +1,6 @@
 -- a beginning, and a line of steps that may ask hooks
 use Rattle.vfs_gates.proofs.Prelude.{Phase, SeatedTask, Some, ap, map_next, sym, ◌∙◌}
-use Rattle.vfs_gates.proofs.{Admitting.refused_by, AtOnce.{refused_at_once, told_at_once, went_there}, Calling.{Call, Left, call_with, ended_at}}
+use Rattle.vfs_gates.proofs.{AtOnce.{refused_at_once, told_at_once, went_there}, Calling.{Call, Left, call_with, ended_at}}
 use Rattle.vfs_gates.proofs.{Calling.{ghost_agrees_at, ghost_agrees_done, goes_at, has_asked_none, is_agrees, not_begun}, Rooming.room_at}
 use Rattle.vfs_gates.proofs.{Rooming.room_done, Waiting.{left_tells, once}, task.Task.perform_at_once.Goals.After-begin_in_line-next}
 use Rattle.gate_steps.{proofs.call_events.Onward.{done_at, stands_at}, specs.call_events.Progress.TheVariants.{Done, Going}}
@@ -68,4 +68,4 @@ returns-in-Go g c =
 
 pub returns-in-Err : goal.returns-in-Err
 returns-in-Err g c =
-    refused_at_once c.args.op c.args.self.now c.in-Err.refusal (refused_by c.args.op c.args.self.now c.in-Err.refusal (sym c.in-Err.is ∙ c.admit.ensures))
+    refused_at_once c.args.op c.args.self.now c.in-Err.refusal (sym c.in-Err.is ∙ c.admit.ensures)

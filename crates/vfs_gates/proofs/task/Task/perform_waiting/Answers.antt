@@ -3,7 +3,7 @@ use Rattle.vfs_gates.proofs.Prelude.{Done, None, SeatedTask, [], ap, own_number,
 use Rattle.std.proofs.Common.{add-zero}
 use Rattle.gate_steps.{proofs.call_events.{Asking.{was_done_asking, was_refused_asking}, Running.told_whole}, specs.call_events.Asking.CalledAsking}
 use Rattle.gate_steps.specs.call_events.Waited.{counted, waits_in}
-use Rattle.vfs_gates.proofs.{Admitting.refused_by, Calling.{Call, Left, call_with, ended_asking, ghost_agrees_done, has_asked_none, is_agrees}}
+use Rattle.vfs_gates.proofs.{Calling.{Call, Left, call_with, ended_asking, ghost_agrees_done, has_asked_none, is_agrees}}
 use Rattle.vfs_gates.proofs.{Rooming.room_done, Waiting.left_tells, task.Task.perform_waiting.Goals.After-wait_for_reply-answer}
 use Rattle.vfs_gates.proofs.task.Task.perform_waiting.Goals as goal
 
@@ -61,4 +61,4 @@ returns g c =
 pub returns-in-Err : goal.returns-in-Err
 returns-in-Err g c =
     was_refused_asking g.H.TimedHooks.answers the_reply c.args.op c.args.self.now c.args.self.now c.in-Err.refusal
-    (refused_by c.args.op c.args.self.now c.in-Err.refusal (sym c.in-Err.is ∙ c.admit.ensures)) refl c.args.hooks.now
+    (sym c.in-Err.is ∙ c.admit.ensures) refl c.args.hooks.now

@@ -1,6 +1,6 @@
 -- each step of the line goes on from what the one before it left
 use Rattle.call_ends.proofs.Prelude.{Ok, led_on, led_once, led_unasked, refl, seated_stands, still_stands}
-use Rattle.call_ends.proofs.mounts.WantLinedOp.begin_in_line.Goals as goal
+use Rattle.call_ends.proofs.wants.WantLinedOp.begin_in_line.Goals as goal
 
 pub step_if_at-next-requires : goal.step_if_at-next-requires
 step_if_at-next-requires g c = seated_stands c.step_once-next.ensures.seated c.requires

@@ -1,6 +1,6 @@
 -- each step of the line goes on from what the one before it left
 use Rattle.call_ends.proofs.Prelude.{led_on, still_stands}
-use Rattle.call_ends.proofs.mounts.ask_in_line.Goals as goal
+use Rattle.call_ends.proofs.wants.ask_in_line.Goals as goal
 
 pub step_if_at-next-requires : goal.step_if_at-next-requires
 step_if_at-next-requires c = c.requires
