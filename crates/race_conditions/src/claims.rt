@@ -2,6 +2,8 @@
 
 ghost use Rattle.std.specs.Prelude.{◌≡◌};
 ghost use Rattle.race_conditions.specs.Claims.{kind_named, passes};
+ghost use Rattle.race_conditions.specs.Conditions.{formula_of};
+ghost use Rattle.race_conditions.specs.Named.{is_of_ends};
 
 use crate::conditions::Condition;
 use schedule_lines::words::is_word;
@@ -56,4 +58,18 @@ impl ClaimKind {
 pub struct Claim {
     pub kind: ClaimKind,
     pub condition: Condition,
+}
+
+impl Claim {
+    /// Whether the claim speaks of the ends alone, as far as they are told apart: it is no invariant, and names no word. `judge_led` takes such claims.
+    pub fn is_of_ends(&self) -> bool
+        ensures { result ≡ is_of_ends self.now.kind (formula_of self.now.condition) }
+    {
+        match self.kind {
+            ClaimKind::Invariant => false,
+            ClaimKind::Never | ClaimKind::Sometimes | ClaimKind::Always => {
+                !self.condition.names_word()
+            }
+        }
+    }
 }

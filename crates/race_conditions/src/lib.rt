@@ -25,5 +25,5 @@ pub use conditions::{CallAnswer, Condition, Fact, NodeFact};
 pub use faults::{ConditionFault, Expected, Unexpected};
 pub use parsing::{Names, parse};
 pub use searching::{open_marks, race_ends, race_ends_led};
-pub use verdicts::{Verdict, judge};
+pub use verdicts::{Verdict, judge, judge_led};
 pub use views::StateView;
