@@ -1,10 +1,10 @@
 //! What comes before a race.
 
-ghost use Rattle.std.specs.Prelude.{◌≡◌, ◌⊎◌, Err, IfErr, IfNone, IfOk, None, OnErr, OnOk, Option, Some};
+ghost use Rattle.std.specs.Prelude.{◌≡◌, ◌⊎◌, Err, IfErr, IfOk, None, OnErr, OnOk, Option, Some};
 ghost use Rattle.access_model.specs.declared.errors.GateError.TheVariants.{NoMemory};
 ghost use Rattle.gate_core.specs.Drivers.{CoreShows};
-ghost use Rattle.race_files.specs.FirstFaults.{FailsBeforeRace, HasFaultBeforeRace, IsMemory};
-ghost use Rattle.race_files.specs.Left.{AreLeftOf, BeginRace, left_in, line_count, lines_in};
+ghost use Rattle.race_files.specs.FirstFaults.{FailsBeforeRace, IsMemory};
+ghost use Rattle.race_files.specs.Left.{AreLeftOf, BeginRace, left_in, line_count};
 ghost use Rattle.race_files.specs.Observed.{ShowsLines};
 ghost use Rattle.race_files.specs.SettingUp.{Opens, SetsUp};
 ghost use Rattle.race_files.specs.declared.faults.RaceFault.TheVariants.{Schedule};
@@ -61,9 +61,7 @@ pub fn set_up(alloc: Global, lines: &mut Lines<'_>) -> Result<Session<Core>, Rac
 /// # Errors
 ///
 /// `AllocError` if there was no memory for it.
-pub fn set_up_again(alloc: Global, bytes: &[u8]) -> Result<Option<Session<Core>>, AllocError>
-    ensures { IfOk result (λ session. IfNone session (HasFaultBeforeRace (lines_in 1048576 bytes.now))) }
-{
+pub fn set_up_again(alloc: Global, bytes: &[u8]) -> Result<Option<Session<Core>>, AllocError> {
     match set_up(alloc, &mut Lines::new(bytes)) {
         Ok(session) => Ok(Some(session)),
         Err(RaceFault::Schedule(Fault::Refused(GateError::NoMemory))) => Err(AllocError),
