@@ -1,7 +1,7 @@
 -- Whether an operation may begin, as a task's fields say.
 use Rattle.vfs_gates.proofs.Prelude.{Bool, Config, Err, GateError, GhostAgrees, IsWithin, List, Ok, Op, Option, Phase, Result, SeatedTask, TaskState}
 use Rattle.vfs_gates.proofs.Prelude.{[], ap, is_some, own_number, own_view, refl, refusal_at, sym, task_state, ℕ, ◌∙◌, ◌∷◌, ◌≡◌}
-use Rattle.vfs_gates.specs.declared.task.Task.TheInside.Inside
+use Rattle.vfs_gates.specs.declared.task.Task.TheInside.{Inside}
 use Rattle.gate_world.specs.{Beginnings.{first_phase, refusal}, Views.held_of}
 use Rattle.gate_steps.{proofs.call_events.Beginnings.refusal_agree, specs.call_events.Answers.unless_refused}
 use Rattle.gate_steps.specs.call_events.{Seating.DealtNumbers, TaskStates.task_holdings}
