@@ -2,6 +2,7 @@
 
 ghost use Rattle.std.specs.Prelude.{◌≡◌, ◌+◌, ◌-◌, ◌<◌, ◌≤◌, Err, IfErr, IfOk, OnOk, Some, length, true};
 ghost use Rattle.access_model.specs.declared.actions.Holder.TheVariants.{User};
+ghost use Rattle.access_model.specs.declared.actions.Kind.TheVariants.{File};
 ghost use Rattle.access_model.specs.declared.errors.GateError.TheVariants.{Again, Invalid, ReadOnly};
 ghost use Rattle.gated_tree.specs.Trees.{LoadedClean, LoadedSound};
 ghost use Rattle.gate_runs.specs.Counts.{CountsRounds, blocks_of, counted, no_copies, no_remounts, no_writes, with_waits};
@@ -9,7 +10,7 @@ ghost use Rattle.gate_runs.specs.Keeping.{FreezesNothing, KeepsNumbers};
 ghost use Rattle.gate_runs.specs.Patience.{TriedToFreeze};
 ghost use Rattle.gate_runs.specs.Refusals.{CreateRefused, FoundOthers, GrowthRefused, HasWriteAccess, LeftByRefusal, WriterRefused};
 ghost use Rattle.gate_runs.specs.Rounds.{BackupRound, CallsBack, Closes, CreatesFiles, Does, IsRefused, RemountRound, Repeats, Retries, Takes, Tries, WriterRound};
-ghost use Rattle.gate_world.specs.declared.operations.Op.TheVariants.{Grow, Snapshot as SnapshotOp};
+ghost use Rattle.gate_world.specs.declared.operations.Op.TheVariants.{Create, Grow, Snapshot as SnapshotOp};
 ghost use Rattle.gate_world.specs.declared.views.Snapshot.{Snapshot};
 ghost use Rattle.run_plans.specs.Plans.{run_config};
 ghost use Rattle.vfs_gates.specs.Frozen.{MayFreeze};
@@ -32,8 +33,9 @@ const ROOT: u8 = 0;
 ///
 /// # Errors
 ///
-/// NoSpace or Again of the first file that is refused (`CreateRefused`); the task keeps the write access then. The write access isn't refused: no
-/// task has done anything yet, so the mount is writable. Nor is a file refused as NoEntry or NotDir: the root is always a directory.
+/// NoSpace or Again of the first file that is refused (`CreateRefused`). The task stands as that creation left it, and keeps the write access. The write
+/// access isn't refused: no task has done anything yet, so the mount is writable. Nor is a file refused as NoEntry or NotDir: the root is always a
+/// directory.
 pub fn create_files<R: Wait>(
     rt: &R,
     gates: &Gates,
@@ -48,6 +50,7 @@ pub fn create_files<R: Wait>(
     ensures rests { OnOk result (Rests task.new) }
     ensures created { OnOk result (CreatesFiles (plan.tasks - 2) task.old task.new) }
     ensures refused { IfErr result (CreateRefused gates.now plan.tasks) }
+    ensures last { IfErr result (λ refusal. (before : SeatedTask) × Called (Create 0 File) before task.new (Err refusal)) }
 {
     task.want_write(rt, gates, MOUNT, 0)?;
     for _writer in 0..plan.writers() {

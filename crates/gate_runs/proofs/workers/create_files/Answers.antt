@@ -1,7 +1,7 @@
 -- one file more
-use Rattle.gate_runs.proofs.Prelude.{Called, Config, Create, CreatesFile, DropWrite, Err, File, GateError, Gates, Gives, HasWriteAccess, IsFrom, Ok}
-use Rattle.gate_runs.proofs.Prelude.{Performs, ReadOnly, Repeats, Rests, Result, SeatedTask, WantWrite, ap, arith, refl, rules, subst, sym, ◌-◌, ◌<◌}
-use Rattle.gate_runs.proofs.Prelude.{◌∙◌, ◌≡◌}
+use Rattle.gate_runs.proofs.Prelude.{Called, Config, Create, CreatesFile, DropWrite, Err, File, GateError, Gates, Gives, HasBegun, HasWriteAccess}
+use Rattle.gate_runs.proofs.Prelude.{IsFrom, Ok, Performs, ReadOnly, Repeats, Rests, Result, SeatedTask, WantWrite, ap, arith, refl, rules, subst}
+use Rattle.gate_runs.proofs.Prelude.{sym, ℕ, ◌-◌, ◌<◌, ◌∙◌, ◌≡◌}
 use Rattle.gate_runs.proofs.Answering.{create_begins, gives_back, inside_by, is_inside, want_begins, want_read_only, was_whole}
 use Rattle.gate_runs.proofs.{FirstCalls.{create_refused, finds_writable}, Keeping.{stays, stays_on}, Repeating.{created, one_more}}
 use Rattle.gate_runs.{proofs.Resting.begun_rests, specs.Refusals.CreateRefused}
@@ -12,6 +12,17 @@ use Rattle.gate_runs.proofs.workers.create_files.Goals as goal
 given_back : (first last : SeatedTask) (gates : Gates) → IsFrom first gates → HasWriteAccess first → {outcome : Result (Unit {0}) GateError} →
     Performs (DropWrite 0 0) first last outcome → (outcome ≡ Ok tt) × Rests last
 given_back first last gates from held {outcome = outcome} did = gives_back 0 first last outcome held (some_processor first gates from) did
+
+-- the first write access is granted: the mount is writable, since nobody has done anything yet
+is_granted : (first last : SeatedTask) (gates : Gates) (tasks : ℕ) (refusal : GateError) → IsFrom first gates → tasks ≡ first.config.tasks →
+    HasBegun 0 first → Gives first 1 tasks → Performs (WantWrite 0 0) first last (Err refusal) → ⊥
+is_granted first last gates tasks refusal from same begun gives did =
+    let mount = some_mount first gates from in
+    let rests = begun_rests 0 first gives.idle begun in
+    let called = was_whole _ (WantWrite 0 0) first last _ (want_begins 0 first rests mount (some_processor first gates from)) did in
+    let read_only : Called (WantWrite 0 0) first last (Err ReadOnly) =
+    subst (λ e. Called (WantWrite 0 0) first last (Err e)) (want_read_only 0 _ _ _ called) called in
+    finds_writable 0 first last read_only begun (subst (λ n. Gives first 1 n) same gives) mount
 
 pub loop-writer-init : goal.loop-writer-init
 loop-writer-init g c = record {
@@ -43,19 +54,16 @@ returns-clause-rests g c = let given = given_back _ _ c.args.gates.now c.loop-wr
 pub returns-clause-refused : goal.returns-clause-refused
 returns-clause-refused g c = let given = given_back _ _ c.args.gates.now c.loop-writer.invariant.from c.loop-writer.invariant.inside c.drop_write.ensures in rw given.0 tt
 
--- the mount is writable, since nobody has done anything yet
+pub returns-clause-last : goal.returns-clause-last
+returns-clause-last g c = let given = given_back _ _ c.args.gates.now c.loop-writer.invariant.from c.loop-writer.invariant.inside c.drop_write.ensures in rw given.0 tt
+
 pub returns-in_err-want_write-clause-refused : goal.returns-in_err-want_write-clause-refused
-returns-in_err-want_write-clause-refused g c =
-    let first = c.args.task.now in
-    let gates = c.args.gates.now in
-    let mount = some_mount first gates c.requires.from in
-    let cpu = some_processor first gates c.requires.from in
-    let rests = begun_rests 0 first c.requires.gives.idle c.requires.begins in
-    let called = was_whole _ (WantWrite 0 0) first c.want_write.new.self _ (want_begins 0 first rests mount cpu) c.in_err-want_write.ensures in
-    let read_only : Called (WantWrite 0 0) first c.want_write.new.self (Err ReadOnly) =
-    subst (λ e. Called (WantWrite 0 0) first c.want_write.new.self (Err e)) (want_read_only 0 _ _ _ called) called in
-    let tasks : c.args.plan.tasks ≡ first.config.tasks = sym (ap (λ (d : Config). d.tasks) (c.requires.from.1 ∙ c.requires.planned)) in
-    absurd (finds_writable 0 first c.want_write.new.self read_only c.requires.begins (subst (λ n. Gives first 1 n) tasks c.requires.gives) mount)
+returns-in_err-want_write-clause-refused g c = absurd (is_granted c.args.task.now c.want_write.new.self c.args.gates.now _ _ c.requires.from
+    (sym (ap (λ (d : Config). d.tasks) (c.requires.from.1 ∙ c.requires.planned))) c.requires.begins c.requires.gives c.in_err-want_write.ensures)
+
+pub returns-in_err-want_write-clause-last : goal.returns-in_err-want_write-clause-last
+returns-in_err-want_write-clause-last g c = absurd (is_granted c.args.task.now c.want_write.new.self c.args.gates.now _ _ c.requires.from
+    (sym (ap (λ (d : Config). d.tasks) (c.requires.from.1 ∙ c.requires.planned))) c.requires.begins c.requires.gives c.in_err-want_write.ensures)
 
 pub returns-in_err-create-clause-refused : goal.returns-in_err-create-clause-refused
 returns-in_err-create-clause-refused g c =
@@ -87,4 +95,15 @@ returns-in_err-create-clause-refused g c =
       fewer = omega (arith, c.writers-writer-end.ensures, c.loop-writer-test.true);
       creates = before.created;
     } in
+    search (rules, its)
+
+pub returns-in_err-create-clause-last : goal.returns-in_err-create-clause-last
+returns-in_err-create-clause-last g c =
+    let first = c.loop-writer.task in
+    let before = c.loop-writer.invariant in
+    let nodes : first.config.nodes ≡ c.args.gates.now.words.config.nodes = ap (λ (d : Config). d.nodes) before.from.1 in
+    let began = create_begins first before.inside (some_mount first c.args.gates.now before.from)
+    (omega (arith, nodes, c.args.gates.now.words.within.some_node)) in
+    let its : (before : SeatedTask) × Called (Create 0 File) before c.create.new.self (Err c.in_err-create.field-0.0) =
+    (first, was_whole _ (Create 0 File) first c.create.new.self _ began c.in_err-create.ensures) in
     search (rules, its)
