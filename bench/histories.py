@@ -20,24 +20,38 @@ import re
 import subprocess
 import sys
 import tempfile
+from typing import NamedTuple
 
 ROOT = os.path.dirname(os.path.dirname(os.path.realpath(__file__)))
-TAKES = ("want 0 0", "wantwrite 0 0", "start 2 0")
-GIVES = {"want": "drop 0 0", "wantwrite": "dropwrite 0 0", "start": "end 2 0"}
-ADMINISTERS = (
-    "remount ro",
-    "remount rw",
-    "change 0 ro",
-    "change 0 rw",
-    "freeze",
-    "thaw",
-    "callback 1",
-    "callback 2",
-    "callback 3",
-)
-LATEST, LONGEST = 3, 4
+# Each call that is drawn, and what its task has to do next if it is granted.
+TAKES = {"want 0 0": "drop 0 0", "wantwrite 0 0": "dropwrite 0 0", "start 2 0": "end 2 0"}
+ADMINISTERS = {
+    "remount ro": None,
+    "remount rw": None,
+    "change 0 ro": None,
+    "change 0 rw": None,
+    "freeze": "thaw",
+    "thaw": None,
+    "callback 1": None,
+    "callback 2": None,
+    "callback 3": None,
+}
+LATEST = 3
 LIMIT = 4_000_000_000
 PART = 20_000
+
+
+class Mix(NamedTuple):
+    """What is drawn: what tasks take, what task 0 does, one call in so many, and how many moves
+    later the next call begins at most."""
+
+    takes: dict
+    administers: dict
+    one_in: int
+    longest: int
+
+
+MIX = Mix(TAKES, ADMINISTERS, 3, 4)
 
 
 class Player:
@@ -72,31 +86,29 @@ class Task:
     def __init__(self, number):
         self.number, self.call, self.answer, self.wait, self.owes = number, None, None, 0, None
 
-    def draw(self, dice):
+    def draw(self, dice, mix):
         """Its next call."""
         if self.owes:
             return self.owes
-        return dice.choice(ADMINISTERS if self.number == 0 and dice.randrange(3) == 0 else TAKES)
+        is_first = self.number == 0 and dice.randrange(mix.one_in) == 0
+        return dice.choice([*(mix.administers if is_first else mix.takes)])
 
-    def returned(self):
+    def returned(self, mix):
         """It has to give back what it was granted."""
-        word = self.call.split()[0]
-        if self.answer.startswith("ok") and word in GIVES:
-            self.owes = GIVES[word]
-        elif self.answer == "ok" and self.call == "freeze":
-            self.owes = "thaw"
-        elif self.call == self.owes:
+        if self.call == self.owes:
             self.owes = None
+        elif self.answer.startswith("ok"):
+            self.owes = {**mix.takes, **mix.administers}[self.call]
 
 
-def draw(program, tasks, calls, dice, most=None):
-    """The lines of a history with so many calls. After so many draws at most it ends as it is, if
-    that is said: calls may be under way then."""
+def draw(program, tasks, calls, dice, mix=MIX, patience=None):
+    """The lines of a history with so many calls. Once so many draws have brought no line, it ends
+    as it is, if that is said: calls may be under way then."""
     lines, left = [f"config {tasks} 1 1 2 8", "history"], calls
     while left:
-        player = Player(program, tasks)
+        player, movers = Player(program, tasks), [Task(number) for number in range(tasks)]
         part = min(left, PART)
-        lines += draw_part(player, tasks, part, dice, most)
+        lines += draw_part(player, movers, part, dice, mix, patience)
         left -= part
         if left:
             lines += begin_anew(player)
@@ -119,20 +131,17 @@ def begin_anew(player):
     return lines
 
 
-def draw_part(player, tasks, calls, dice, most):
+def draw_part(player, movers, calls, dice, mix, patience):
     """The lines of so many calls, behind which no task has anything to give back."""
-    movers = [Task(number) for number in range(tasks)]
-    lines, begun, drawn = [], 0, 0
-    while begun < calls or any(task.call or task.owes for task in movers):
-        if drawn == most:
-            break
-        drawn += 1
+    lines, begun, idle = [], 0, 0
+    while (begun < calls or any(task.call or task.owes for task in movers)) and idle != patience:
+        idle += 1
         task = dice.choice(movers)
         if task.call is None and (begun < calls or task.owes):
             if task.wait:
                 task.wait -= 1
                 continue
-            task.call, begun = task.draw(dice), begun + 1
+            task.call, begun, idle = task.draw(dice, mix), begun + 1, 0
             lines.append(f"{task.number} {task.call}")
             task.answer = player.answer(lines[-1])
         elif task.call and task.answer is None:
@@ -142,8 +151,8 @@ def draw_part(player, tasks, calls, dice, most):
             task.wait -= 1
         elif task.call:
             lines.append(f"{task.number} {task.answer}")
-            task.returned()
-            task.call, task.wait = None, dice.randrange(LONGEST + 1)
+            task.returned(mix)
+            task.call, task.wait, idle = None, dice.randrange(mix.longest + 1), 0
     return lines
 
 

@@ -7,7 +7,8 @@ impossible.
 MUTANT is one of crates/*/must-fail or docs/steps/*/must-fail, as bin/without takes it; with none
 there are five. mntgate is built with it, without a proof, as bin/without does: one to four minutes,
 and the build is kept in out/without. It plays random executions of N calls of 3 tasks, as
-bench/histories.py does: 100 calls, and up to 100 executions of each mutant, if nothing else is said.
+bench/histories.py does with other calls: 100 calls, and up to 100 executions of each mutant, if
+nothing else is said.
 PROGRAM, or bin/mntgate, which has no wrong step, judges what was recorded of them.
 
 Prints a line for each mutant: at which line which of its histories is impossible, and how many
@@ -31,8 +32,31 @@ MUTANTS = (
     "freeze_levels/thaw_stays_frozen",
 )
 TASKS = 3
-# A call takes some 20 draws. A wrong step may let one wait for ever, so a play ends.
-DRAWS = 200
+# Task 0 does nothing but freeze and thaw, remount and change the mount, and undoes at once what was
+# granted. A try form is refused where a wrong step lets another call wait for ever.
+TAKES = {
+    "want 0 0": "drop 0 0",
+    "trywant 0 0": "drop 0 0",
+    "wantwrite 0 0": "dropwrite 0 0",
+    "start 2 0": "end 2 0",
+    "trystart 1 0": "end 1 0",
+    "trystart 2 0": "end 2 0",
+}
+ADMINISTERS = {
+    "remount ro": "remount rw",
+    "change 0 ro": "change 0 rw",
+    "freeze": "thaw",
+    "thaw": None,
+    "callback 1": None,
+    "callback 2": None,
+}
+# An access is held for long, so that more of a freeze or a remount goes on beside it.
+LONGEST = 20
+# A play ends once so many draws have brought no line: a wrong step may let calls wait for ever.
+PATIENCE = 500
+# How many states the quick search may find before it passes a line more. Three tasks are in fewer
+# between two lines. An impossible history has no verdict before that.
+LIMIT = 20_000
 
 
 def load(name, path):
@@ -46,7 +70,7 @@ def load(name, path):
 def judged(program, lines):
     """The index of the first of these lines that no execution has; None if there is none."""
     ran = subprocess.run(
-        [program, "validate"],
+        [program, "validate", "--limit", str(LIMIT)],
         input="\n".join([*lines, ""]),
         capture_output=True,
         text=True,
@@ -62,9 +86,10 @@ def judged(program, lines):
 
 def caught(args, play, mutant, broken):
     """What is said of a mutant, whose program plays; None if all its histories are possible."""
+    mix = play.Mix(TAKES, ADMINISTERS, 1, LONGEST)
     for number in range(args.histories):
         dice = random.Random(f"{args.seed} {number}")
-        lines = play.draw(broken, TASKS, args.calls, dice, args.calls * DRAWS)
+        lines = play.draw(broken, TASKS, args.calls, dice, mix, PATIENCE)
         at = judged(args.program, lines)
         if at is not None:
             return (
