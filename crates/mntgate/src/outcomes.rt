@@ -261,7 +261,7 @@ fn judge_claims<W: Observer>(
     tell_claims(
         source,
         core,
-        plan_of(asked).limit,
+        plan_of(asked),
         form_of(asked),
         watch,
         verdicts,

@@ -1,6 +1,7 @@
 mod Marks
 mod Put
 mod SaidSoFar
+mod Searched
 mod ToldLines
 mod Verdicts
 mod Written

@@ -12,6 +12,7 @@ use exit_status::SourceName;
 use exploration::{Stop, Unobserved};
 use race_files::setting_up::SetUpObserver;
 use race_files::{Lines, RaceFile, RaceSource, read_race};
+use race_outcomes::{Method, SearchPlan};
 use replay_forms::Style;
 use schedule_lines::Output;
 use std::alloc::{AllocError, Global};
@@ -276,5 +277,9 @@ fn judge_claims(
         margin: b"  ",
         style: Style::of(false, false),
     };
-    tell_claims(source, &core, STATES, form, &mut Unobserved, told)
+    let plan = SearchPlan {
+        limit: STATES,
+        method: Method::Reduced,
+    };
+    tell_claims(source, &core, plan, form, &mut Unobserved, told)
 }
