@@ -1,5 +1,9 @@
 //! Why a history has no verdict.
 
+ghost use Rattle.std.specs.Prelude.{◌≡◌};
+ghost use Rattle.exploration.specs.declared.stops.Stop.TheVariants.{TooMany as TooManyFound};
+ghost use Rattle.history_files.specs.declared.unjudged.Unjudged.TheVariants.{TooMany};
+
 use crate::find_history;
 use diagnostics::{Context, Faulty, Marked, diagnosis};
 use exploration::Stop;
@@ -22,7 +26,9 @@ pub enum Unjudged {
 
 impl Unjudged {
     /// Why a search that was stopped has no verdict.
-    pub(crate) fn of(stop: Stop) -> Unjudged {
+    pub(crate) fn of(stop: Stop) -> Unjudged
+        ensures { result ≡ TooMany → stop ≡ TooManyFound }
+    {
         match stop {
             Stop::NoMemory => Unjudged::NoMemory,
             Stop::NoNumbers => Unjudged::NoNumbers,

@@ -43,7 +43,7 @@ fn judge_file<W: Observer>(
     ensures possible { IfOk result (λ file. length file.verdict.history.markers.items ≤ file.verdict.judged.passed → HasPossible bytes.now) }
     ensures impossible { IfOk result (λ file. file.verdict.judged.passed < length file.verdict.history.markers.items →
         IsImpossibleAt bytes.now (slice_index_or file.notes.lines.items file.verdict.judged.passed 0)) }
-    ensures unjudged { IfErr result (IsUnjudged bytes.now) }
+    ensures unjudged { IfErr result (IsUnjudged bytes.now limit) }
 {
     let HistoryFile {
         core,
@@ -74,7 +74,7 @@ pub fn validate<'a, W: Observer>(
 ) -> Result<Told, Unvalidated>
     ensures possible { IfOk result (λ told. told.fault ≡ None → HasPossible bytes.now) }
     ensures impossible { IfOk result (λ told. IfSome told.fault (λ fault. IsImpossibleAt bytes.now fault.line)) }
-    ensures unjudged { IfErr result (IsUnjudged bytes.now) }
+    ensures unjudged { IfErr result (IsUnjudged bytes.now limit) }
 {
     let JudgedFile { notes, verdict } = judge_file(alloc, bytes, limit, watch)?;
     let source = HistorySource { alloc, bytes };
@@ -96,7 +96,7 @@ pub fn print_verdict(
     printed: &mut Output,
 ) -> Result<(), Unvalidated>
     ensures told { OnOk result (TellsVerdict bytes.now printed.old printed.new) }
-    ensures unjudged { IfErr result (IsUnjudged bytes.now) }
+    ensures unjudged { IfErr result (IsUnjudged bytes.now limit) }
 {
     let JudgedFile { notes, verdict } = judge_file(alloc, bytes, limit, &mut Unobserved)?;
     put_verdict(&notes, &verdict, printed);

@@ -1,7 +1,9 @@
 //! The verdict on a history.
 
-ghost use Rattle.std.specs.Prelude.{◌≡◌, ◌<◌, ◌≤◌, true, false, IfOk, length};
-ghost use Rattle.history_files.specs.Verdicts.{IsImpossible, IsPossible};
+ghost use Rattle.std.specs.Prelude.{◌≡◌, ◌<◌, ◌≤◌, true, false, IfErr, IfOk, length};
+ghost use Rattle.history_files.specs.Verdicts.{HasTooMany, IsImpossible, IsPossible};
+ghost use Rattle.history_files.specs.declared.unjudged.Unjudged.TheVariants.{TooMany};
+ghost use Rattle.race_files.specs.Races.{IsRecent};
 
 use crate::unjudged::Unjudged;
 use exploration::Observer;
@@ -27,8 +29,9 @@ impl Verdict {
 
     /// Returns whether the search came far enough for a verdict: some execution has the whole history, or none has more of it.
     fn is_known(&self) -> bool
-        ensures { result ≡ true → self.now.judged.passed < length self.now.history.markers.items →
+        ensures known { result ≡ true → self.now.judged.passed < length self.now.history.markers.items →
             self.now.judged.is_most ≡ true }
+        ensures unknown { result ≡ false → self.now.judged.is_most ≡ false }
     {
         self.is_possible() || self.judged.is_most
     }
@@ -49,6 +52,7 @@ pub fn verdict_of<W: Observer>(
     ensures markers { IfOk result (λ verdict. verdict.history.markers.items ≡ markers.items) }
     ensures possible { IfOk result (λ verdict. length markers.items ≤ verdict.judged.passed → IsPossible core.now markers.items) }
     ensures impossible { IfOk result (λ verdict. verdict.judged.passed < length markers.items → IsImpossible core.now markers.items verdict.judged.passed) }
+    ensures too_many { IsRecent core.now → IfErr result (λ why. why ≡ TooMany → HasTooMany core.now markers.items limit) }
 {
     let history = match History::new(alloc, core.config().tasks, markers) {
         Ok(history) => history,

@@ -17,7 +17,7 @@ pub data EndsValidated (asked : Validation) (input held holds : Option (List ℕ
       EndsValidated asked input held holds ending
   IsImpossible : (bytes : List ℕ) (number : ℕ) (text : List ℕ) → AreRead asked input bytes → IsImpossibleAt bytes number → Appends held holds text →
       ending ≡ Refused → EndsValidated asked input held holds ending
-  HasNoVerdict : (bytes : List ℕ) (why : Unvalidated) → AreRead asked input bytes → IsUnjudged bytes why → Keeps held holds →
+  HasNoVerdict : (bytes : List ℕ) (why : Unvalidated) → AreRead asked input bytes → IsUnjudged bytes asked.limit why → Keeps held holds →
       ending ≡ Refused → EndsValidated asked input held holds ending
   IsCutOff : (text : List ℕ) → AppendsPart held holds text → ending ≡ Refused → EndsValidated asked input held holds ending
   IsUnread : Keeps held holds → ending ≡ Refused → EndsValidated asked input held holds ending
