@@ -1,6 +1,6 @@
 -- The first fault of the lines of a race is that of what they call.
 use Rattle.std.proofs.Common.{◌≡◌, ◌∙◌, ◌⊎◌, sym, ap, ℕ, List, [], ◌∷◌, ◌++◌, Option, None, Result, Ok, Err, inl, inr}
-use Rattle.race_files.proofs.Reading.behind_call
+use Rattle.race_files.proofs.Reading.{behind_call}
 use Rattle.race_files.specs.{Calls.{TaskCalls, calls_after, calls_of, no_calls}, Faults.{IsToldOrMemory}, FirstFaults.{FailsInCalls, IsMemory, calls_with_next}}
 use Rattle.race_files.specs.{Left.{Left, calls_left}, declared.faults.RaceFault.{RaceFault}}
 use Rattle.schedule_lines.specs.declared.faults.Fault.{Fault}

@@ -16,11 +16,12 @@ use diagnostics::{Context, Faulty, tell_faulty};
 use exit_status::{ProgramEnding, report_fault, report_folder, report_unopened};
 use gate_core::{Core, Driver};
 use replay_forms::{Form, Look, Style};
+use schedule_lines::bytes::ReplayFault;
 use std::alloc::Global;
 use std::fs;
 use std::io::{Read, Stderr, Write};
 use std::rt::Files;
-use transcripts::{ReplayFault, replay_to_end};
+use transcripts::replay_to_end;
 
 /// What a person is told who is to type a schedule.
 const AWAITED: &str =
