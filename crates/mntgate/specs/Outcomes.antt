@@ -2,7 +2,7 @@
 use Rattle.std.specs.{Io.KnownBytes.{Appends, Keeps}, Prelude.{All, Bool, IfSome, List, Option, [], false, is_some, true, ℕ, ◌++◌, ◌≡◌}}
 use Rattle.command_line.specs.declared.words.Outcomes.{Outcomes}
 use Rattle.exit_status.specs.{Endings.IsInput, declared.ends.ProgramEnding.{ProgramEnding, TheVariants.{Listed, Refused}}}
-use Rattle.{exploration.specs.declared.stops.Stop.TheVariants.NoMemory, gate_core.specs.Memory.Memory}
+use Rattle.{exploration.specs.declared.stops.Stop.TheVariants.TooMany, gate_core.specs.Memory.Memory}
 use Rattle.outcome_forms.specs.{Told.{TellsAll, TellsSome, margin_of, mark_of}, declared.details.{Details.Details, Schedules.Schedules}}
 use Rattle.outcome_forms.specs.declared.details.Schedules.TheVariants.{Columns, Lines, Untold}
 use Rattle.program_checks.specs.{Claims.{HasBadClaim, TellsClaims, race_lines}, declared.claims.Judged.{Judged, TheVariants.Hold}}
@@ -83,11 +83,12 @@ pub record HasBadCondition (bytes : List ℕ) : Type 0 where
   pub bad : HasBadClaim core calls (race_lines bytes)
 
 -- Why the outcomes of the race in these bytes aren't printed: the text has this first fault, at this line; a line claims something by what is no
--- condition; memory was refused; or a schedule wasn't saved that was to be. That a write failed is no such reason.
+-- condition; memory was refused, or more states came up than can be numbered; or a schedule wasn't saved that was to be. That a write failed is no
+-- such reason, and neither is the limit.
 abbrev pub IsWhyUnlisted : Outcomes → List ℕ → Unlisted → Type 0
 IsWhyUnlisted asked bytes (Faulty fault) = IsFaultTold (lines_in 1048576 bytes) fault
 IsWhyUnlisted asked bytes (BadClaim text) = HasBadCondition bytes
-IsWhyUnlisted asked bytes (Stopped stop) = stop ≡ NoMemory
+IsWhyUnlisted asked bytes (Stopped stop) = ¬ (stop ≡ TooMany)
 IsWhyUnlisted asked bytes Unsaved = is_some asked.save ≡ true
 IsWhyUnlisted asked bytes (Unwritten fault) = ⊥
 
