@@ -18,7 +18,7 @@ use percpu_rwsem::{Callback, DownRead, UpRead};
 /// is under way; Invalid where a number of the operation is out of range; Order where the task holds what the operation must not find held, or
 /// doesn't hold what it gives back; TooMany where the task would get its 1,025th access at a mount, or have a file open twice.
 #[inline(always)]
-pub fn admit(op: Op, config: &Config, under_way: bool, held: &Accesses) -> Result<(), GateError>
+pub fn may_begin(op: Op, config: &Config, under_way: bool, held: &Accesses) -> Result<(), GateError>
     requires mounts { config.now.mounts ≤ 8 }
     requires nodes { config.now.nodes ≤ 64 }
     ensures { result ≡ unless_refused (refusal config.now under_way (held_in held.now) op) }
@@ -36,7 +36,7 @@ pub fn admit(op: Op, config: &Config, under_way: bool, held: &Accesses) -> Resul
     }
 }
 
-/// Returns the first phase of an operation that may begin, or why it may not, as `admit` says.
+/// Returns the first phase of an operation that may begin, or why it may not, as `may_begin` says.
 #[inline(always)]
 pub fn begin(
     op: Op,
@@ -49,7 +49,7 @@ pub fn begin(
     requires nodes { config.now.nodes ≤ 64 }
     ensures { result ≡ beginning config.now task under_way (held_in held.now) op }
 {
-    admit(op, config, under_way, held)?;
+    may_begin(op, config, under_way, held)?;
     Ok(first_phase(op, config, task))
 }
 

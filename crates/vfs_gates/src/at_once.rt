@@ -12,7 +12,7 @@ use crate::task::Task;
 use access_model::{GateError, Holder, Next};
 use call_ends::LinedOp;
 use gate_steps::call_events::Progress;
-use gate_transitions::{PendingOp, admit};
+use gate_transitions::{PendingOp, may_begin};
 use gate_world::Op;
 
 /// 1 where the step before found what the operation waits for, else 0.
@@ -34,11 +34,11 @@ impl Task {
 
     /// Whether the operation may begin, or why it can't.
     #[inline(always)]
-    pub(crate) fn admit(&self, op: Op) -> Result<(), GateError>
+    pub(crate) fn may_begin(&self, op: Op) -> Result<(), GateError>
         ensures { result ≡ unless_refused (refusal_at op self.now) }
     {
         let under_way = self.state.phase.is_some();
-        admit(op, &self.config, under_way, &self.state.accesses)
+        may_begin(op, &self.config, under_way, &self.state.accesses)
     }
 
     /// Begins an operation that has this first phase, and does its steps in a line, where each hook answers Ok. Where one of them finds
@@ -55,7 +55,7 @@ impl Task {
         requires other { is_of_snapshot (P.as_phase first) ≡ false }
         ensures { BeginsAtOnce op self.old self.new result }
     {
-        if let Err(refusal) = self.admit(op) {
+        if let Err(refusal) = self.may_begin(op) {
             return Err(refusal);
         }
         let accesses = &mut self.state.accesses;
@@ -78,7 +78,7 @@ impl Task {
         ensures { BeginsAtOnce (Snapshot wait) self.old self.new result }
     {
         let op = Op::Snapshot { wait };
-        if let Err(refusal) = self.admit(op) {
+        if let Err(refusal) = self.may_begin(op) {
             return Err(refusal);
         }
         let first = self.first_snapshot(wait);

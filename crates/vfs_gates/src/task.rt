@@ -209,7 +209,7 @@ impl Task {
         // From here on each step says how far the operation has come, and the last one what it was as a whole (`step`, clause `told`).
         ensures goes { OnOk result (OpUnderWay op self.old self.new) }
     {
-        self.admit(op)?;
+        self.may_begin(op)?;
         self.begins = Some(op);
         self.state.phase = Some(first_phase(op, &self.config, self.number));
         Ok(())

@@ -43,7 +43,7 @@ impl Task {
         requires tries { IsBounded (most_events self.old.config op) }
         ensures { Replies the_reply op self.old self.new result }
     {
-        if let Err(refusal) = self.admit(op) {
+        if let Err(refusal) = self.may_begin(op) {
             return Err(refusal);
         }
         self.waited = 0;

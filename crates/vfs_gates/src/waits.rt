@@ -92,7 +92,7 @@ impl Task {
         requires other { is_of_snapshot (P.as_phase first) ≡ false }
         ensures { RepliesAsking H.answers the_reply op self.old self.new result hooks.old hooks.new }
     {
-        if let Err(refusal) = self.admit(op) {
+        if let Err(refusal) = self.may_begin(op) {
             return Err(refusal);
         }
         let accesses = &mut self.state.accesses;

@@ -8,8 +8,8 @@ refused_for : (refusal : Option GateError) (refused : GateError) → ◌≡◌ {
 refused_for None refused is = absurd (let f : ⊥ = cc in f)
 refused_for (Some because) refused is = cc
 
-pub returns-in_err-admit : goal.returns-in_err-admit
-returns-in_err-admit c =
+pub returns-in_err-may_begin : goal.returns-in_err-may_begin
+returns-in_err-may_begin c =
     let p = err_from_is_err_and c.from_residual.result c.from_residual.ensures.1 in
-    let because = refused_for _ c.in_err-admit.field-0.0 c.in_err-admit.ensures in
+    let because = refused_for _ c.in_err-may_begin.field-0.0 c.in_err-may_begin.ensures in
     rw (p.1, p.2) (sym (ap (or_refusal _) because))

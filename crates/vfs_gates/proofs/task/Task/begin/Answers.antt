@@ -5,25 +5,25 @@ use Rattle.vfs_gates.proofs.{Calling.{Call, begun, begun_state, call_of}, Roomin
 use Rattle.vfs_gates.proofs.task.Task.begin.Goals.{After-first_phase}
 use Rattle.vfs_gates.proofs.task.Task.begin.Goals as goal
 
-pub returns-in_err-admit-clause-answer : goal.returns-in_err-admit-clause-answer
-returns-in_err-admit-clause-answer c = let p = err_from_is_err_and c.from_residual.result c.from_residual.ensures.1 in
-    rw (p.1, p.2) c.in_err-admit.ensures
+pub returns-in_err-may_begin-clause-answer : goal.returns-in_err-may_begin-clause-answer
+returns-in_err-may_begin-clause-answer c = let p = err_from_is_err_and c.from_residual.result c.from_residual.ensures.1 in
+    rw (p.1, p.2) c.in_err-may_begin.ensures
 
-pub returns-in_err-admit-clause-begun : goal.returns-in_err-admit-clause-begun
-returns-in_err-admit-clause-begun c = let p = err_from_is_err_and c.from_residual.result c.from_residual.ensures.1 in rw p.1 tt
+pub returns-in_err-may_begin-clause-begun : goal.returns-in_err-may_begin-clause-begun
+returns-in_err-may_begin-clause-begun c = let p = err_from_is_err_and c.from_residual.result c.from_residual.ensures.1 in rw p.1 tt
 
-pub returns-in_err-admit-clause-goes : goal.returns-in_err-admit-clause-goes
-returns-in_err-admit-clause-goes c = let p = err_from_is_err_and c.from_residual.result c.from_residual.ensures.1 in rw p.1 tt
+pub returns-in_err-may_begin-clause-goes : goal.returns-in_err-may_begin-clause-goes
+returns-in_err-may_begin-clause-goes c = let p = err_from_is_err_and c.from_residual.result c.from_residual.ensures.1 in rw p.1 tt
 
-pub returns-in_err-admit-clause-refused : goal.returns-in_err-admit-clause-refused
-returns-in_err-admit-clause-refused c = let p = err_from_is_err_and c.from_residual.result c.from_residual.ensures.1 in rw p.1 refl
+pub returns-in_err-may_begin-clause-refused : goal.returns-in_err-may_begin-clause-refused
+returns-in_err-may_begin-clause-refused c = let p = err_from_is_err_and c.from_residual.result c.from_residual.ensures.1 in rw p.1 refl
 
 -- the call, whose configuration is the task's own
 abbrev call : After-first_phase → Call
 call c =
     call_of c.args.op c.self.inside c.self.inside.config c.args.self.now c.self.view_is
     (sym (ap (λ (s : SeatedTask). s.config) c.self.view_is)) c.self.invariant.0
-    c.in_ok-admit.ensures c.first_phase.result c.first_phase.ensures
+    c.in_ok-may_begin.ensures c.first_phase.result c.first_phase.ensures
 
 pub invariant_of-self : goal.invariant_of-self
 invariant_of-self c = (
@@ -35,12 +35,12 @@ invariant_of-self c = (
 )
 
 pub returns-clause-answer : goal.returns-clause-answer
-returns-clause-answer c = c.in_ok-admit.ensures
+returns-clause-answer c = c.in_ok-may_begin.ensures
 
 pub returns-clause-begun : goal.returns-clause-begun
 returns-clause-begun c = begun_state (call (goal.at.returns-clause-begun c).After-first_phase)
 
 pub returns-clause-goes : goal.returns-clause-goes
 returns-clause-goes c =
-    starts c.args.op c.args.self.now _ c.in_ok-admit.ensures
+    starts c.args.op c.args.self.now _ c.in_ok-may_begin.ensures
     (begun_state (call (goal.at.returns-clause-goes c).After-first_phase))

@@ -9,7 +9,7 @@ use Rattle.vfs_gates.proofs.task.Task.call.Goals as goal
 abbrev call : (g : _) → After-run_to_reply g → Call
 call g c =
     call_with c.args.op c.self.inside c.args.gates.now.words.config c.args.self.now c.self.view_is c.requires.from.1 c.self.invariant.0
-    c.admit.result c.admit.ensures c.in_default.not-Err (g.P.PendingOp.as_phase c.args.first) c.requires.first
+    c.may_begin.result c.may_begin.ensures c.in_default.not-Err (g.P.PendingOp.as_phase c.args.first) c.requires.first
 
 abbrev left : (g : _) (c : After-run_to_reply g) → Left (call g c)
 left g c = record {
@@ -29,13 +29,13 @@ run_to_reply-requires-clause-stands g c =
       table = ap (λ (s : SeatedTask). s.table) c.self.view_is ∙ c.requires.from.0;
       agrees =
           is_agrees (call_with c.args.op c.self.inside c.args.gates.now.words.config c.args.self.now c.self.view_is c.requires.from.1 c.self.invariant.0
-          c.admit.result c.admit.ensures c.in_default.not-Err (g.P.PendingOp.as_phase c.args.first) c.requires.first);
+          c.may_begin.result c.may_begin.ensures c.in_default.not-Err (g.P.PendingOp.as_phase c.args.first) c.requires.first);
     }
 
 pub run_to_reply-requires-clause-trying : goal.run_to_reply-requires-clause-trying
 run_to_reply-requires-clause-trying g c =
     let call = call_with c.args.op c.self.inside c.args.gates.now.words.config c.args.self.now c.self.view_is c.requires.from.1 c.self.invariant.0
-    c.admit.result c.admit.ensures c.in_default.not-Err (g.P.PendingOp.as_phase c.args.first) c.requires.first in
+    c.may_begin.result c.may_begin.ensures c.in_default.not-Err (g.P.PendingOp.as_phase c.args.first) c.requires.first in
     record { op = call.op; start = call.start; goes = has_begun call; tries = c.requires.tries }
 
 pub invariant_of-self : goal.invariant_of-self
@@ -56,4 +56,4 @@ returns g c =
 pub returns-in-Err : goal.returns-in-Err
 returns-in-Err g c =
     was_refused the_reply c.args.op c.args.self.now c.args.self.now c.in-Err.refusal
-    (sym c.in-Err.is ∙ c.admit.ensures) refl
+    (sym c.in-Err.is ∙ c.may_begin.ensures) refl

@@ -13,7 +13,7 @@ use Rattle.vfs_gates.proofs.task.Task.load_at_once.Goals as goal
 abbrev call : After-snapshot_first-next → Call
 call c =
     call_with (SnapshotOp c.args.wait) c.self.inside c.args.gates.now.words.config c.args.self.now c.self.view_is c.requires.1
-    c.self.invariant.0 c.admit.result c.admit.ensures c.in_default.not-Err (snapshot_at c.first_snapshot-first.result Locks)
+    c.self.invariant.0 c.may_begin.result c.may_begin.ensures c.in_default.not-Err (snapshot_at c.first_snapshot-first.result Locks)
     c.first_snapshot-first.ensures
 
 abbrev left : (c : After-snapshot_first-next) → Left (call c)
@@ -38,7 +38,7 @@ snapshot_first-next-requires-clause-stands c =
       table = ap (λ (s : SeatedTask). s.table) c.self.view_is ∙ c.requires.0;
       agrees =
           is_agrees (call_with (SnapshotOp c.args.wait) c.self.inside c.args.gates.now.words.config c.args.self.now c.self.view_is c.requires.1
-          c.self.invariant.0 c.admit.result c.admit.ensures c.in_default.not-Err (snapshot_at c.first_snapshot-first.result Locks)
+          c.self.invariant.0 c.may_begin.result c.may_begin.ensures c.in_default.not-Err (snapshot_at c.first_snapshot-first.result Locks)
           c.first_snapshot-first.ensures);
     }
 
@@ -93,4 +93,4 @@ returns-in-Go c =
 pub returns-in-Err : goal.returns-in-Err
 returns-in-Err c =
     refused_at_once (SnapshotOp c.args.wait) c.args.self.now c.in-Err.refusal
-    (sym c.in-Err.is ∙ c.admit.ensures)
+    (sym c.in-Err.is ∙ c.may_begin.ensures)

@@ -10,7 +10,7 @@ use Rattle.vfs_gates.proofs.task.Task.perform_at_once.Goals as goal
 abbrev call : (g : _) → After-begin_in_line-next g → Call
 call g c =
     call_with c.args.op c.self.inside c.args.gates.now.words.config c.args.self.now c.self.view_is c.requires.from.1 c.self.invariant.0
-    c.admit.result c.admit.ensures c.in_default.not-Err (g.P.PendingOp.as_phase c.args.first) c.requires.first
+    c.may_begin.result c.may_begin.ensures c.in_default.not-Err (g.P.PendingOp.as_phase c.args.first) c.requires.first
 
 abbrev left : (g : _) (c : After-begin_in_line-next g) → Left (call g c)
 left g c = record {
@@ -29,7 +29,7 @@ begin_in_line-next-requires g c =
       table = ap (λ (s : SeatedTask). s.table) c.self.view_is ∙ c.requires.from.0;
       agrees =
           is_agrees (call_with c.args.op c.self.inside c.args.gates.now.words.config c.args.self.now c.self.view_is c.requires.from.1 c.self.invariant.0
-          c.admit.result c.admit.ensures c.in_default.not-Err (g.P.PendingOp.as_phase c.args.first) c.requires.first);
+          c.may_begin.result c.may_begin.ensures c.in_default.not-Err (g.P.PendingOp.as_phase c.args.first) c.requires.first);
     }
 
 pub invariant_of-self : goal.invariant_of-self
@@ -68,4 +68,4 @@ returns-in-Go g c =
 
 pub returns-in-Err : goal.returns-in-Err
 returns-in-Err g c =
-    refused_at_once c.args.op c.args.self.now c.in-Err.refusal (sym c.in-Err.is ∙ c.admit.ensures)
+    refused_at_once c.args.op c.args.self.now c.in-Err.refusal (sym c.in-Err.is ∙ c.may_begin.ensures)

@@ -11,7 +11,7 @@ use Rattle.vfs_gates.proofs.task.Task.perform_waiting.Goals as goal
 abbrev call : (g : _) → After-wait_for_reply-answer g → Call
 call g c =
     call_with c.args.op c.self.inside c.args.gates.now.words.config c.args.self.now c.self.view_is c.requires.from.1 c.self.invariant.0
-    c.admit.result c.admit.ensures c.in_default.not-Err (g.P.PendingOp.as_phase c.args.first) c.requires.first
+    c.may_begin.result c.may_begin.ensures c.in_default.not-Err (g.P.PendingOp.as_phase c.args.first) c.requires.first
 
 -- done whole, it has asked the hooks that its steps read
 asking : (g : _) (c : After-wait_for_reply-answer g) →
@@ -37,7 +37,7 @@ wait_for_reply-answer-requires g c =
       table = ap (λ (s : SeatedTask). s.table) c.self.view_is ∙ c.requires.from.0;
       agrees =
           is_agrees (call_with c.args.op c.self.inside c.args.gates.now.words.config c.args.self.now c.self.view_is c.requires.from.1 c.self.invariant.0
-          c.admit.result c.admit.ensures c.in_default.not-Err (g.P.PendingOp.as_phase c.args.first) c.requires.first);
+          c.may_begin.result c.may_begin.ensures c.in_default.not-Err (g.P.PendingOp.as_phase c.args.first) c.requires.first);
     }
 
 pub invariant_of-self : goal.invariant_of-self
@@ -61,4 +61,4 @@ returns g c =
 pub returns-in-Err : goal.returns-in-Err
 returns-in-Err g c =
     was_refused_asking g.H.TimedHooks.answers the_reply c.args.op c.args.self.now c.args.self.now c.in-Err.refusal
-    (sym c.in-Err.is ∙ c.admit.ensures) refl c.args.hooks.now
+    (sym c.in-Err.is ∙ c.may_begin.ensures) refl c.args.hooks.now
