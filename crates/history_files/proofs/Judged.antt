@@ -1,6 +1,6 @@
 -- What the search has found of a history's markers.
 use Rattle.std.proofs.Common.{List, length, subst, ℕ, ◌+◌, ◌<◌, ◌≡◌, ◌≤◌}
-use Rattle.{exploration.specs.Tables.AreTooMany, gate_core.specs.Memory.{Memory, Represents}, gate_world.specs.Worlds.World, races.specs.Reduced.reduced}
+use Rattle.{exploration.specs.Tables.AreTooMany, gate_core.specs.Memory.{Memory, Represents}, gate_world.specs.Worlds.World, races.specs.Normal.normal}
 use Rattle.histories.specs.{Eager.next_eager, Executions.{Has, HasMost, beginning}, Places.alike, declared.markers.Marker.Marker}
 use Rattle.history_files.{proofs.Few.admitted, specs.Verdicts.{HasTooMany, IsImpossible, IsPossible}}
 
@@ -18,6 +18,6 @@ module _ (core : Memory) (judged markers : List Marker) (same : judged ≡ marke
 
 -- the states of a history that has these markers, and as many tasks as the core
 module _ (core : Memory) (judged markers : List Marker) (same : judged ≡ markers) (tasks limit : ℕ) (all : tasks ≡ core.config.tasks) where
-  pub too_many : AreTooMany (next_eager tasks judged) (tasks + 1) alike (beginning core.config (reduced core)) limit → HasTooMany core markers limit
+  pub too_many : AreTooMany (next_eager tasks judged) (tasks + 1) alike (beginning core.config (normal core)) limit → HasTooMany core markers limit
   too_many many = subst (λ (m : List Marker). HasTooMany core m limit) same
-      (subst (λ n. AreTooMany (next_eager n judged) (n + 1) alike (beginning core.config (reduced core)) limit) all many)
+      (subst (λ n. AreTooMany (next_eager n judged) (n + 1) alike (beginning core.config (normal core)) limit) all many)

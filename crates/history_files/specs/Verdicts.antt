@@ -1,6 +1,6 @@
 -- What a verdict says of a history.
 use Rattle.std.specs.Prelude.{List, codes, decimal, length, slice_index_or, ℕ, ◌++◌, ◌+◌, ◌<◌, ◌≡◌}
-use Rattle.{exploration.specs.Tables.AreTooMany, gate_core.specs.Memory.{Memory, Represents}, gate_world.specs.Worlds.World, races.specs.Reduced.reduced}
+use Rattle.{exploration.specs.Tables.AreTooMany, gate_core.specs.Memory.{Memory, Represents}, gate_world.specs.Worlds.World, races.specs.Normal.normal}
 use Rattle.histories.specs.{Eager.next_eager, Executions.{HasMost, IsAdmitted, beginning}, Places.alike, declared.markers.Marker.Marker}
 use Rattle.schedule_lines.specs.{Printed.Prints, declared.output.Output.Output}
 use Rattle.history_files.specs.Files.{IsHistoryIn}
@@ -17,7 +17,7 @@ pub record IsImpossible (core : Memory) (markers : List Marker) (passed : ℕ) :
 -- more states than the limit come up where executions on this core are searched for these markers
 abbrev pub HasTooMany : Memory → List Marker → ℕ → Type 0
 HasTooMany core markers limit =
-    AreTooMany (next_eager core.config.tasks markers) (core.config.tasks + 1) alike (beginning core.config (reduced core)) limit
+    AreTooMany (next_eager core.config.tasks markers) (core.config.tasks + 1) alike (beginning core.config (normal core)) limit
 
 -- the history in a text is possible
 pub record HasPossible (bytes : List ℕ) : Type 0 where
