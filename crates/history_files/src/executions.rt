@@ -1,6 +1,6 @@
 //! The execution that leads to the first line of a history that can't be.
 
-use crate::players::Player;
+use crate::printers::ExecutionPrinter;
 use crate::verdicts::Verdict;
 use crate::{HistorySource, Notes, line_at};
 use race_files::Lines;
@@ -22,20 +22,20 @@ pub fn put_execution(
     let Verdict { history, judged } = verdict;
     let movers = judged.movers(source.alloc)?;
     text.text(source.set_up_lines());
-    let Some(mut player) = Player::new(source, history.tasks())? else {
+    let Some(mut printer) = ExecutionPrinter::new(source, history.tasks())? else {
         return text.settled();
     };
     let mut lines = Lines::new(source.bytes);
     let mut passed: usize = 0;
     for mover in &movers {
         if *mover < history.tasks() {
-            player.move_task(*mover, text);
+            printer.move_task(*mover, text);
             continue;
         }
         if let Some(marker) = history.markers().get(passed)
             && let Some(line) = notes.lines.get(passed)
         {
-            player.mark(*marker, line_at(&mut lines, *line), text)?;
+            printer.mark(*marker, line_at(&mut lines, *line), text)?;
         }
         passed = passed.saturating_add(1);
     }

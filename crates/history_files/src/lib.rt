@@ -9,7 +9,7 @@ pub mod faults;
 pub mod files;
 pub mod hooks;
 pub mod operations;
-mod players;
+mod printers;
 pub mod records;
 pub mod sources;
 pub mod telling;

@@ -9,7 +9,7 @@ use crate::unjudged::Unjudged;
 use exploration::Observer;
 use gate_core::Core;
 use histories::{History, Judged, Marker, judge_history};
-use std::alloc::{AllocError, Global};
+use std::alloc::Global;
 
 /// What was found of a history.
 #[derive(Drop)]
@@ -56,7 +56,7 @@ pub fn verdict_of<W: Observer>(
 {
     let history = match History::new(alloc, core.config().tasks, markers) {
         Ok(history) => history,
-        Err(AllocError) => return Err(Unjudged::NoMemory),
+        Err(out) => return Err(Unjudged::out_of(out)),
     };
     let judged = match judge_history(alloc, &history, core, limit, watch) {
         Ok(judged) => judged,

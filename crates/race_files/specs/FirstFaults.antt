@@ -36,6 +36,10 @@ pub data FailsBeforeRace (from : Option ReplayState) (all left : Left) (fault : 
   AtEnd : (play : Option ReplayState) → SetsUp from play all left → left.lines ≡ [] → fault ≡ fault_at_end play left.fault →
       FailsBeforeRace from all left fault
 
+-- The lines before a race have a fault, or no line `race` follows.
+abbrev pub HasFaultBeforeRace : Left → Type 0
+HasFaultBeforeRace all = (left : Left) × (fault : RaceFault) × FailsBeforeRace None all left fault
+
 -- Of all lines behind `race` some come before those that are left, and what the tasks call in them is this, where there are so many tasks.
 pub record AreCalled (tasks : ℕ) (all left : Left) (calls : List TaskCalls) : Type 0 where
   pub before : List (List ℕ)

@@ -1,10 +1,10 @@
 //! What comes before a race.
 
-ghost use Rattle.std.specs.Prelude.{◌≡◌, ◌⊎◌, Err, IfErr, IfOk, None, OnErr, OnOk, Option, Some};
+ghost use Rattle.std.specs.Prelude.{◌≡◌, ◌⊎◌, Err, IfErr, IfNone, IfOk, IfSome, None, OnErr, OnOk, Option, Some};
 ghost use Rattle.access_model.specs.declared.errors.GateError.TheVariants.{NoMemory};
 ghost use Rattle.gate_core.specs.Drivers.{CoreShows};
-ghost use Rattle.race_files.specs.FirstFaults.{FailsBeforeRace, IsMemory};
-ghost use Rattle.race_files.specs.Left.{AreLeftOf, BeginRace, left_in, line_count};
+ghost use Rattle.race_files.specs.FirstFaults.{FailsBeforeRace, HasFaultBeforeRace, IsMemory};
+ghost use Rattle.race_files.specs.Left.{AreLeftOf, BeginRace, Left, left_in, line_count, lines_in};
 ghost use Rattle.race_files.specs.Observed.{ShowsLines};
 ghost use Rattle.race_files.specs.SettingUp.{Opens, SetsUp};
 ghost use Rattle.race_files.specs.declared.faults.RaceFault.TheVariants.{Schedule};
@@ -61,8 +61,13 @@ pub fn set_up(alloc: Global, lines: &mut Lines<'_>) -> Result<Session<Core>, Rac
 /// # Errors
 ///
 /// `AllocError` if there was no memory for it.
-pub fn set_up_again(alloc: Global, bytes: &[u8]) -> Result<Option<Session<Core>>, AllocError> {
-    match set_up(alloc, &mut Lines::new(bytes)) {
+pub fn set_up_again(alloc: Global, bytes: &[u8]) -> Result<Option<Session<Core>>, AllocError>
+    ensures made { IfOk result (λ found. IfSome found (λ session. (p : ReplayState) × (left : Left) ×
+        SetsUp None (Some p) (lines_in 1048576 bytes.now) left × ShowsPlay CoreShows session p)) }
+    ensures fault { IfOk result (λ found. IfNone found (HasFaultBeforeRace (lines_in 1048576 bytes.now))) }
+{
+    let mut lines = Lines::new(bytes);
+    match set_up(alloc, &mut lines) {
         Ok(session) => Ok(Some(session)),
         Err(RaceFault::Schedule(Fault::Refused(GateError::NoMemory))) => Err(AllocError),
         Err(_) => Ok(None),

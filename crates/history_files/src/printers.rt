@@ -36,15 +36,18 @@ impl Seat {
 
 /// Gates that play an execution of a history, and print it.
 #[derive(Drop)]
-pub(crate) struct Player {
+pub(crate) struct ExecutionPrinter {
     alloc: Global,
     session: Session<Core>,
     seats: Vec<Seat>,
 }
 
-impl Player {
+impl ExecutionPrinter {
     /// Sets the gates of a history up, for so many tasks; None as `HistorySource::gates`.
-    pub(crate) fn new(source: HistorySource<'_>, tasks: u8) -> Result<Option<Player>, AllocError> {
+    pub(crate) fn new(
+        source: HistorySource<'_>,
+        tasks: u8,
+    ) -> Result<Option<ExecutionPrinter>, AllocError> {
         let Some(session) = source.gates()? else {
             return Ok(None);
         };
@@ -52,7 +55,7 @@ impl Player {
         for _ in 0..tasks {
             seats.push(Seat::idle())?;
         }
-        Ok(Some(Player {
+        Ok(Some(ExecutionPrinter {
             alloc: source.alloc,
             session,
             seats,
