@@ -1,6 +1,6 @@
 //! What comes before a race.
 
-ghost use Rattle.std.specs.Prelude.{◌≡◌, ◌⊎◌, Err, IfErr, IfNone, IfOk, IfSome, None, OnErr, OnOk, Option, Some};
+ghost use Rattle.std.specs.Prelude.{◌≡◌, ◌⊎◌, Err, IfErr, IfNone, IfOk, IfSome, None, OnErr, OnOk, Option, Some, false};
 ghost use Rattle.access_model.specs.declared.errors.GateError.TheVariants.{NoMemory};
 ghost use Rattle.gate_core.specs.Drivers.{CoreShows};
 ghost use Rattle.race_files.specs.FirstFaults.{FailsBeforeRace, HasFaultBeforeRace, IsMemory};
@@ -69,9 +69,27 @@ pub fn set_up_again(alloc: Global, bytes: &[u8]) -> Result<Option<Session<Core>>
     let mut lines = Lines::new(bytes);
     match set_up(alloc, &mut lines) {
         Ok(session) => Ok(Some(session)),
-        Err(RaceFault::Schedule(Fault::Refused(GateError::NoMemory))) => Err(AllocError),
-        Err(_) => Ok(None),
+        Err(fault) => {
+            if is_no_memory(fault) {
+                Err(AllocError)
+            } else {
+                Ok(None)
+            }
+        }
     }
+}
+
+/// Whether a fault is that memory was refused.
+fn is_no_memory(fault: RaceFault) -> bool
+    ensures { result ≡ false → ¬ IsMemory fault }
+{
+    let RaceFault::Schedule(fault) = fault else {
+        return false;
+    };
+    let Fault::Refused(refusal) = fault else {
+        return false;
+    };
+    refusal == GateError::NoMemory
 }
 
 /// Does the lines before the first line `race`, for one who looks at what they print: who takes, before each line that asks for something, what stands
