@@ -18,7 +18,7 @@ use std::alloc::{AllocError, Global};
 pub enum Unjudged {
     /// More states than the limit come up, and the markers so far are possible.
     TooMany,
-    /// More states come up than can be numbered, and the markers so far are possible.
+    /// More states, parts of them, moves or markers come up than can be numbered.
     NoNumbers,
     /// There was no memory.
     NoMemory,

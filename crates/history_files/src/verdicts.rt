@@ -41,7 +41,7 @@ impl Verdict {
 ///
 /// # Errors
 ///
-/// If it isn't known: more states than the limit come up, or than can be numbered, and the markers so far are possible; or there was no memory.
+/// If it isn't known: more states than the limit come up, and the markers so far are possible; no number is left; or there was no memory.
 pub fn verdict_of<W: Observer>(
     alloc: Global,
     core: &Core,

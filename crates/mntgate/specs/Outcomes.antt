@@ -83,8 +83,8 @@ pub record HasBadCondition (bytes : List ℕ) : Type 0 where
   pub bad : HasBadClaim core calls (race_lines bytes)
 
 -- Why the outcomes of the race in these bytes aren't printed: the text has this first fault, at this line; a line claims something by what is no
--- condition; memory was refused, or more states came up than can be numbered; or a schedule wasn't saved that was to be. That a write failed is no
--- such reason, and neither is the limit.
+-- condition; memory was refused, or no number was left for a state or a part of one; or a schedule wasn't saved that was to be. That a write
+-- failed is no such reason, and neither is the limit.
 abbrev pub IsWhyUnlisted : Outcomes → List ℕ → Unlisted → Type 0
 IsWhyUnlisted asked bytes (Faulty fault) = IsFaultTold (lines_in 1048576 bytes) fault
 IsWhyUnlisted asked bytes (BadClaim text) = HasBadCondition bytes

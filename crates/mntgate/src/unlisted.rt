@@ -14,7 +14,8 @@ use std::alloc::Global;
 use std::io::Write;
 
 /// What is printed if more states come up than a search can number.
-pub(crate) const UNNUMBERED: &str = "more than 4000000000 states, and no more can be numbered";
+pub(crate) const UNNUMBERED: &str =
+    "more than 4000000000 states, parts of states or moves, and no more can be numbered";
 
 /// Why the outcomes of a race aren't printed, or not written whole.
 #[derive(Drop)]
