@@ -62,7 +62,7 @@ pub fn set_up(alloc: Global, lines: &mut Lines<'_>) -> Result<Session<Core>, Rac
 ///
 /// `AllocError` if there was no memory for it.
 pub fn set_up_again(alloc: Global, bytes: &[u8]) -> Result<Option<Session<Core>>, AllocError>
-    ensures made { IfOk result (λ found. IfSome found (λ session. (p : ReplayState) × (left : Left) ×
+    ensures made { IfOk result (λ found. IfSome found (λ session. (p : ReplayState) × (left : Left) × BeginRace (lines_in 1048576 bytes.now) left ×
         SetsUp None (Some p) (lines_in 1048576 bytes.now) left × ShowsPlay CoreShows session p)) }
     ensures fault { IfOk result (λ found. IfNone found (HasFaultBeforeRace (lines_in 1048576 bytes.now))) }
 {
