@@ -6,7 +6,7 @@ ghost use Rattle.history_files.specs.declared.unjudged.Unjudged.TheVariants.{Too
 
 use crate::find_history;
 use diagnostics::{Context, Faulty, Marked, diagnosis};
-use exploration::{RanOut, Stop};
+use exploration::Stop;
 use schedule_lines::bytes::ReplayFault;
 use schedule_lines::numbers::is_digits;
 use schedule_lines::words::{first_word, is_word};
@@ -25,16 +25,6 @@ pub enum Unjudged {
 }
 
 impl Unjudged {
-    /// Why a history for which a search has run out has no verdict.
-    pub(crate) fn out_of(out: RanOut) -> Unjudged
-        ensures { ¬ (result ≡ TooMany) }
-    {
-        match out {
-            RanOut::Memory => Unjudged::NoMemory,
-            RanOut::Numbers => Unjudged::NoNumbers,
-        }
-    }
-
     /// Why a search that was stopped has no verdict.
     pub(crate) fn of(stop: Stop) -> Unjudged
         ensures { result ≡ TooMany → stop ≡ TooManyFound }

@@ -6,7 +6,7 @@ ghost use Rattle.history_files.specs.declared.unjudged.Unjudged.TheVariants.{Too
 ghost use Rattle.race_files.specs.Races.{IsRecent};
 
 use crate::unjudged::Unjudged;
-use exploration::Observer;
+use exploration::{Observer, Stop};
 use gate_core::Core;
 use histories::{History, Judged, Marker, judge_history};
 use std::alloc::Global;
@@ -56,7 +56,7 @@ pub fn verdict_of<W: Observer>(
 {
     let history = match History::new(alloc, core.config().tasks, markers) {
         Ok(history) => history,
-        Err(out) => return Err(Unjudged::out_of(out)),
+        Err(out) => return Err(Unjudged::of(Stop::from(out))),
     };
     let judged = match judge_history(alloc, &history, core, limit, watch) {
         Ok(judged) => judged,

@@ -17,7 +17,7 @@ returns-then-is_known-clause-impossible g c = λ some.
     (c.in-Ok-judge_history.ensures.most (c.is_known.ensures.known c.if-is_known.true less)) some
 
 pub returns-in-Err-judge_history-clause-too_many : goal.returns-in-Err-judge_history-clause-too_many
-returns-in-Err-judge_history-clause-too_many g c = λ recent many. absurd (c.in-Err-judge_history.ensures.not_recent (c.of.ensures many) recent)
+returns-in-Err-judge_history-clause-too_many g c = λ recent many. absurd (c.in-Err-judge_history.ensures.not_recent (c.of-in-Err-judge_history.ensures many) recent)
 
 pub returns-else-is_known-clause-too_many : goal.returns-else-is_known-clause-too_many
 returns-else-is_known-clause-too_many g c = λ recent many.
