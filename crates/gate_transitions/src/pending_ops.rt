@@ -105,14 +105,12 @@ impl PendingOp for Want {
     }
 
     #[inline(always)]
-    fn next(self, hook: Result<(), u16>) -> (WordName, Touch) {
-        let _ = hook;
+    fn next(self, _hook: Result<(), u16>) -> (WordName, Touch) {
         self.next()
     }
 
     #[inline(always)]
-    fn after(self, found: u64, hook: Result<(), u16>) -> (Next<Want>, Option<Action>) {
-        let _ = hook;
+    fn after(self, found: u64, _hook: Result<(), u16>) -> (Next<Want>, Option<Action>) {
         self.after(found)
     }
 }
@@ -155,8 +153,7 @@ impl PendingOp for Change {
     }
 
     #[inline(always)]
-    fn after(self, found: u64, hook: Result<(), u16>) -> (Next<Change>, Option<Action>) {
-        let _ = hook;
+    fn after(self, found: u64, _hook: Result<(), u16>) -> (Next<Change>, Option<Action>) {
         self.after(found)
     }
 }
@@ -172,14 +169,12 @@ impl PendingOp for DownRead {
     }
 
     #[inline(always)]
-    fn next(self, hook: Result<(), u16>) -> (WordName, Touch) {
-        let _ = hook;
+    fn next(self, _hook: Result<(), u16>) -> (WordName, Touch) {
         self.next()
     }
 
     #[inline(always)]
-    fn after(self, found: u64, hook: Result<(), u16>) -> (Next<DownRead>, Option<Action>) {
-        let _ = hook;
+    fn after(self, found: u64, _hook: Result<(), u16>) -> (Next<DownRead>, Option<Action>) {
         self.after(found)
     }
 }
@@ -195,14 +190,12 @@ impl PendingOp for UpRead {
     }
 
     #[inline(always)]
-    fn next(self, hook: Result<(), u16>) -> (WordName, Touch) {
-        let _ = hook;
+    fn next(self, _hook: Result<(), u16>) -> (WordName, Touch) {
         self.next()
     }
 
     #[inline(always)]
-    fn after(self, found: u64, hook: Result<(), u16>) -> (Next<UpRead>, Option<Action>) {
-        let _ = (found, hook);
+    fn after(self, _found: u64, _hook: Result<(), u16>) -> (Next<UpRead>, Option<Action>) {
         self.after()
     }
 }
@@ -218,14 +211,12 @@ impl PendingOp for WritePhase {
     }
 
     #[inline(always)]
-    fn next(self, hook: Result<(), u16>) -> (WordName, Touch) {
-        let _ = hook;
+    fn next(self, _hook: Result<(), u16>) -> (WordName, Touch) {
         self.next()
     }
 
     #[inline(always)]
-    fn after(self, found: u64, hook: Result<(), u16>) -> (Next<WritePhase>, Option<Action>) {
-        let _ = hook;
+    fn after(self, found: u64, _hook: Result<(), u16>) -> (Next<WritePhase>, Option<Action>) {
         self.after(found)
     }
 }
@@ -262,14 +253,12 @@ impl PendingOp for Callback {
     }
 
     #[inline(always)]
-    fn next(self, hook: Result<(), u16>) -> (WordName, Touch) {
-        let _ = hook;
+    fn next(self, _hook: Result<(), u16>) -> (WordName, Touch) {
         self.next()
     }
 
     #[inline(always)]
-    fn after(self, found: u64, hook: Result<(), u16>) -> (Next<Callback>, Option<Action>) {
-        let _ = hook;
+    fn after(self, found: u64, _hook: Result<(), u16>) -> (Next<Callback>, Option<Action>) {
         self.after(found)
     }
 }
@@ -349,14 +338,12 @@ impl PendingOp for Create {
     }
 
     #[inline(always)]
-    fn next(self, hook: Result<(), u16>) -> (WordName, Touch) {
-        let _ = hook;
+    fn next(self, _hook: Result<(), u16>) -> (WordName, Touch) {
         self.next()
     }
 
     #[inline(always)]
-    fn after(self, found: u64, hook: Result<(), u16>) -> (Next<Create>, Option<Action>) {
-        let _ = hook;
+    fn after(self, found: u64, _hook: Result<(), u16>) -> (Next<Create>, Option<Action>) {
         self.after(found)
     }
 }
@@ -373,14 +360,12 @@ impl PendingOp for Remove {
     }
 
     #[inline(always)]
-    fn next(self, hook: Result<(), u16>) -> (WordName, Touch) {
-        let _ = hook;
+    fn next(self, _hook: Result<(), u16>) -> (WordName, Touch) {
         self.next()
     }
 
     #[inline(always)]
-    fn after(self, found: u64, hook: Result<(), u16>) -> (Next<Remove>, Option<Action>) {
-        let _ = hook;
+    fn after(self, found: u64, _hook: Result<(), u16>) -> (Next<Remove>, Option<Action>) {
         self.after(found)
     }
 }
@@ -397,14 +382,12 @@ impl PendingOp for Grow {
     }
 
     #[inline(always)]
-    fn next(self, hook: Result<(), u16>) -> (WordName, Touch) {
-        let _ = hook;
+    fn next(self, _hook: Result<(), u16>) -> (WordName, Touch) {
         self.next()
     }
 
     #[inline(always)]
-    fn after(self, found: u64, hook: Result<(), u16>) -> (Next<Grow>, Option<Action>) {
-        let _ = hook;
+    fn after(self, found: u64, _hook: Result<(), u16>) -> (Next<Grow>, Option<Action>) {
         self.after(found)
     }
 }
@@ -421,14 +404,12 @@ impl PendingOp for MoveTo {
     }
 
     #[inline(always)]
-    fn next(self, hook: Result<(), u16>) -> (WordName, Touch) {
-        let _ = hook;
+    fn next(self, _hook: Result<(), u16>) -> (WordName, Touch) {
         self.next()
     }
 
     #[inline(always)]
-    fn after(self, found: u64, hook: Result<(), u16>) -> (Next<MoveTo>, Option<Action>) {
-        let _ = hook;
+    fn after(self, found: u64, _hook: Result<(), u16>) -> (Next<MoveTo>, Option<Action>) {
         self.after(found)
     }
 }
@@ -445,14 +426,12 @@ impl PendingOp for Mark {
     }
 
     #[inline(always)]
-    fn next(self, hook: Result<(), u16>) -> (WordName, Touch) {
-        let _ = hook;
+    fn next(self, _hook: Result<(), u16>) -> (WordName, Touch) {
         self.next()
     }
 
     #[inline(always)]
-    fn after(self, found: u64, hook: Result<(), u16>) -> (Next<Mark>, Option<Action>) {
-        let _ = hook;
+    fn after(self, found: u64, _hook: Result<(), u16>) -> (Next<Mark>, Option<Action>) {
         self.after(found)
     }
 }
@@ -469,14 +448,12 @@ impl PendingOp for OpenFile {
     }
 
     #[inline(always)]
-    fn next(self, hook: Result<(), u16>) -> (WordName, Touch) {
-        let _ = hook;
+    fn next(self, _hook: Result<(), u16>) -> (WordName, Touch) {
         self.next()
     }
 
     #[inline(always)]
-    fn after(self, found: u64, hook: Result<(), u16>) -> (Next<OpenFile>, Option<Action>) {
-        let _ = hook;
+    fn after(self, found: u64, _hook: Result<(), u16>) -> (Next<OpenFile>, Option<Action>) {
         self.after(found)
     }
 }
@@ -492,14 +469,12 @@ impl PendingOp for ClosePhase {
     }
 
     #[inline(always)]
-    fn next(self, hook: Result<(), u16>) -> (WordName, Touch) {
-        let _ = hook;
+    fn next(self, _hook: Result<(), u16>) -> (WordName, Touch) {
         self.next()
     }
 
     #[inline(always)]
-    fn after(self, found: u64, hook: Result<(), u16>) -> (Next<ClosePhase>, Option<Action>) {
-        let _ = hook;
+    fn after(self, found: u64, _hook: Result<(), u16>) -> (Next<ClosePhase>, Option<Action>) {
         self.after(found)
     }
 }
