@@ -3,7 +3,7 @@ use Rattle.std.specs.Prelude.{◌≡◌, ℕ, Option, Some, None}
 use Rattle.gate_world.specs.declared.work.Phase.{Phase}
 use Rattle.gate_steps.specs.call_events.Asking.{level_at}
 use Rattle.vfs_gates.specs.declared.gates.Gates.{Gates}
-pub use Rattle.gate_steps.specs.call_events.SeatedTasks.{SeatedTask, task_state, own_number, own_view, spare_of, IsIdle, Empty, HoldsNothing, IsNothing, refusal_at, beginning_at}
+pub use Rattle.gate_steps.specs.call_events.SeatedTasks.{SeatedTask, task_state, own_number, own_view, spare_of, IsIdle, Empty, HoldsNothing, IsNothing, refusal_at}
 
 -- the task came from these gates
 abbrev pub IsFrom : SeatedTask → Gates → Type 0

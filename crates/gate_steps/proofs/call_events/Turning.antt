@@ -1,6 +1,6 @@
 -- One step apart from the task: what it leaves of the fields, and which step of its operation it was.
-use Rattle.gate_steps.proofs.Prelude.{Accesses, Action, Ask, Bool, Config, DealtNumbers, Done, Entry, Event, Go, HasWitness, HookAnswer, IsWithin}
-use Rattle.gate_steps.proofs.Prelude.{Knowledge, List, Next, None, Op, Option, Phase, SeatedTask, Some, Stepped, Wait, after_of, ap, arith, asks_with}
+use Rattle.gate_steps.proofs.Prelude.{Accesses, Action, Ask, Bool, Config, DealtNumbers, Entry, Event, HasWitness, HookAnswer, IsWithin}
+use Rattle.gate_steps.proofs.Prelude.{Knowledge, List, Next, None, Op, Option, Phase, SeatedTask, Some, Stepped, after_of, ap, arith, asks_with}
 use Rattle.gate_steps.proofs.Prelude.{call_at, event_of, held_of, items_after, knows, next_of, phase_after, place, progress_of, refl, subst, sym, ℕ}
 use Rattle.gate_steps.proofs.Prelude.{◌<◌, ◌∙◌, ◌≡◌}
 use Rattle.{atomic_table.specs.Seated.TableId, cpu_words.specs.Names.words_in_all, gate_schedules.proofs.schedules.Phases.word_placed}
@@ -9,7 +9,6 @@ use Rattle.gate_world.specs.{Accesses.{accesses_after, held_in}, Fits.ActionFits
 use Rattle.gate_steps.proofs.call_events.{Going.{ghost_agrees_left, may_add, stepped_here}, Running.{went_asking, went_on}}
 use Rattle.gate_steps.specs.{Seating.OwnNumberMayStep, call_events.{Asking.{OpAfterStepWith, OpUnderWayWith}, GhostAgrees.GhostAgrees}}
 use Rattle.gate_steps.specs.call_events.{Runs.{OpAfterStep, OpUnderWay}, SeatedTasks.task_state, Turns.{StateAgrees, state_at, step_was}}
-use Rattle.gate_steps.specs.call_events.Waited.{OpAfterStepWaiting, OpUnderWayWaiting}
 
 -- before the step: the word is one of the table's, and the number may do the step
 module _ (number : ℕ) (c : Config) (begins : Option Op) (phase : Phase) (accesses : Accesses) (flags : List Bool) (hook : HookAnswer) where
@@ -94,24 +93,6 @@ went_with_so c within op start event action next hook asks waits {table} {left_t
     (went_asking op start now after step hook goes.0
     (λ p is. subst (λ (q : Phase). Stepped q hook now step after) (let other : phase ≡ p = cc in other) after_step)
     asks waits goes.1 goes.2 (subst IsWithin goes.0.config within) next refl)
-
--- of which the hooks may be left out
-pub unasked : (op : Op) (start : SeatedTask) (next : Next Phase) (now : SeatedTask) (asks : List Ask) (waits : ℕ) →
-    OpAfterStepWith asks waits op start next now → OpAfterStepWaiting waits op start next now
-unasked op start (Go q) now asks waits went = (went.0, went.2)
-unasked op start (Wait q) now asks waits went = (went.0, went.2)
-unasked op start (Done a) now asks waits went = (went.0, went.2)
-
-pub went_waiting_so : (c : Config) → IsWithin c → (waits : ℕ) (op : Op) (start : SeatedTask) (event : Event) (action : Option Action)
-    (next : Next Phase) (hook : HookAnswer)
-    {table left_table : TableId} {begins : Option Op} {phase : Phase} {items left : Knowledge} →
-    OpUnderWayWaiting waits op start (task_state table c begins (Some phase) items) →
-    Stepped phase hook (task_state table c begins (Some phase) items) (step_was event action next)
-    (task_state left_table c None (phase_after next) left) →
-    OpAfterStepWaiting waits op start next (task_state left_table c None (phase_after next) left)
-went_waiting_so c within waits op start event action next hook goes after_step =
-    unasked op start next _ _ waits
-    (went_with_so c within op start event action next hook _ waits (goes.0, refl, goes.1) after_step)
 
 -- a task's fields, said with another name of the config and of the phase
 pub agrees_at : (number : ℕ) {c d : Config} (begins : Option Op) (flags : List Bool) (items : DealtNumbers) (state : TaskState)

@@ -1,7 +1,7 @@
 -- What callers know of a task.
-use Rattle.std.specs.Prelude.{List, None, Option, Result, [], false, is_some, slice_index, slice_index_or, ℕ, ◌<◌, ◌∷◌, ◌≡◌, ◌≤◌}
+use Rattle.std.specs.Prelude.{List, None, Option, [], false, is_some, slice_index, slice_index_or, ℕ, ◌<◌, ◌∷◌, ◌≡◌, ◌≤◌}
 use Rattle.{access_model.specs.declared.errors.GateError.GateError, atomic_table.specs.Seated.TableId}
-use Rattle.gate_world.specs.{Beginnings.{beginning, refusal}, Views.{has_open, held_at, held_of, holds_level, opening_view}}
+use Rattle.gate_world.specs.{Beginnings.{refusal}, Views.{has_open, held_at, held_of, holds_level, opening_view}}
 use Rattle.gate_world.specs.declared.{accesses.Accesses.Accesses, config.Config.Config, entries.Entry.Entry, operations.Op.Op, views.View.View}
 use Rattle.gate_world.specs.declared.work.Phase.{Phase}
 use Rattle.gate_steps.specs.{Seating.DealtNumbers, declared.seating.Knowledge.Knowledge}
@@ -57,7 +57,3 @@ IsNothing a mounts = ((m : ℕ) → m < mounts → slice_index a.mounts m ≡ 0)
 -- why the operation can't begin, the first reason in the stated order
 abbrev pub refusal_at : Op → SeatedTask → Option GateError
 refusal_at op s = refusal s.config (is_some s.phase) (held_of (own_view s.items)) op
-
--- what its beginning answers: the first phase, or the refusal
-abbrev pub beginning_at : Op → SeatedTask → Result Phase GateError
-beginning_at op s = beginning s.config (own_number s.items) (is_some s.phase) (held_of (own_view s.items)) op

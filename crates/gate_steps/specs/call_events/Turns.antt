@@ -1,6 +1,6 @@
 -- What one step leaves of a task's fields, apart from the task.
 use Rattle.std.specs.Prelude.{Bool, List, None, Option, Some, ℕ}
-use Rattle.{access_model.specs.{Replies.map_next, declared.{actions.Action.Action, replies.Next.Next}}, cpu_words.specs.declared.events.Event.Event}
+use Rattle.{access_model.specs.{declared.{actions.Action.Action, replies.Next.Next}}, cpu_words.specs.declared.events.Event.Event}
 use Rattle.gate_transitions.specs.{Answers.progress_of, declared.{steps.Step.Step, task_states.TaskState.TaskState}}
 use Rattle.gate_world.specs.declared.{accesses.Accesses.Accesses, config.Config.Config, operations.Op.Op, work.Phase.Phase}
 use Rattle.gate_steps.specs.{Seating.DealtNumbers, call_events.GhostAgrees.GhostAgrees}
