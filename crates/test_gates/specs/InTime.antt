@@ -4,7 +4,7 @@ use Rattle.access_model.specs.{Laws.IsFrozenStill, declared.{actions.Holder.Hold
 use Rattle.gate_steps.specs.call_events.{Runs.{Called, Performs}, Spans.{AreInOrder, HasItsCauseDuring, IsTreeDuring, TakesEffect}}
 use Rattle.gate_world.specs.{Shown.shown, Worlds.World, declared.operations.Op.{Op, TheVariants.{Freeze as FreezeOp, Snapshot as SnapshotOp}}}
 use Rattle.gate_world.specs.{declared.views.Snapshot.Snapshot, traces.TraceStates.state_of_trace}
-use Rattle.vfs_gates.specs.{Ended.{ClosedState, Ended, IsLeftAfter}, FoundSo.WasSoDuring, Held.own_actions, Meetings.ComesAfterList}
+use Rattle.vfs_gates.specs.{Ended.{ClosedState, Ended, IsLeftAfter}, Found.WasSoDuring, Held.own_actions, Meetings.ComesAfterList}
 use Rattle.vfs_gates.specs.TaskStates.{SeatedTask, own_number, own_view, refusal_at}
 
 -- A call took effect between call and return: the actions that were added meanwhile have its own among them.

@@ -23,7 +23,7 @@ pub mod Pairs
 pub mod Settled
 pub mod Taken
 pub mod Handed
-pub mod FoundSo
+pub mod Found
 pub mod Blockers
 pub mod Dropped
 pub mod Meetings
@@ -34,4 +34,3 @@ pub use Rattle.gate_steps.specs.call_events.Asking
 pub use Rattle.gate_steps.specs.call_events.Grown
 pub mod Patience
 pub mod Undone
-pub mod FoundNobody

@@ -10,8 +10,8 @@ use Rattle.gate_steps.{proofs.call_events.FreezeAsks.granted_freeze, specs.call_
 use Rattle.gate_steps.specs.call_events.Asking.{Ask, PerformsAsking, WereAsked, asks_of, asks_with, call_at, call_of, next_call}
 use Rattle.gate_steps.specs.call_events.SeatedTasks.{own_number}
 use Rattle.gate_world.specs.declared.{operations.Op.TheVariants.Freeze as FreezeOp, work.Phase.TheVariants.Freezes}
-use Rattle.vfs_gates.{proofs.Returning.was_done, specs.FoundNobody.{AskedBothOrNone, FoundAt, FoundNobody, FrozeAtOnce, HasFoundSomebody}}
-use Rattle.vfs_gates.specs.{FoundNobody.WaitsInside, Patience.{IsImpatient, without_patience}}
+use Rattle.vfs_gates.{proofs.Returning.was_done, specs.Found.{AskedBothOrNone, FoundAt, FoundNobody, FrozeAtOnce, HasFoundSomebody}}
+use Rattle.vfs_gates.specs.{Found.WaitsInside, Patience.{IsImpatient, without_patience}}
 
 -- who waits for nobody never agrees to wait
 never_agrees : (own : HookAnswer) → IsImpatient own (Ok tt) → ⊥

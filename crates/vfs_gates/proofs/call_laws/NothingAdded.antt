@@ -21,7 +21,7 @@ use Rattle.mount_counts.{proofs.laws.Bits.read_only_clear, specs.{Roles.ro_bit, 
 use Rattle.mount_counts.specs.declared.remounts.RemountStep.{RemountStep}
 use Rattle.percpu_rwsem.specs.SyncWords.{unpack}
 use Rattle.vfs_gates.proofs.{Holding.adds, several_tasks.{Enclosed.read_only_found, FrozenUntilThawed.load_finds}}
-use Rattle.vfs_gates.specs.FoundSo.{IsSo, WasSoDuring}
+use Rattle.vfs_gates.specs.Found.{IsSo, WasSoDuring}
 
 -- What is kept of a trace: it holds at the beginning, and each step keeps it.
 module _ (At : List Traced → Phase → List Action → Type 0) (c : Config) (t : ℕ) (op : Op) where

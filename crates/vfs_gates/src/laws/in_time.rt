@@ -23,7 +23,7 @@ ghost use Rattle.gate_steps.specs.call_events.Grown.{StaySeen};
 ghost use Rattle.gate_steps.specs.call_events.Runs.{Called};
 ghost use Rattle.gate_steps.specs.call_events.Spans.{AreInOrder, HasItsCauseDuring, IsTreeDuring, TakesEffect};
 ghost use Rattle.vfs_gates.specs.Ended.{EndedWith, IsLeftAfter};
-ghost use Rattle.vfs_gates.specs.FoundSo.{WasSoDuring};
+ghost use Rattle.vfs_gates.specs.Found.{WasSoDuring};
 ghost use Rattle.vfs_gates.specs.Frozen.{MayFreeze, NeedsFreeze, NeverFreezes, NeverThaws, holders_of};
 ghost use Rattle.vfs_gates.specs.Handed.{ComesAfter};
 ghost use Rattle.vfs_gates.specs.Held.{own_actions};

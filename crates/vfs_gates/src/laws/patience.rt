@@ -4,7 +4,7 @@ ghost use Rattle.std.specs.Prelude.{Ok};
 ghost use Rattle.access_model.specs.declared.actions.Holder.{Holder};
 ghost use Rattle.gate_world.specs.declared.operations.Op.TheVariants.{Freeze};
 ghost use Rattle.gate_steps.specs.call_events.Asking.{PerformsAsking};
-ghost use Rattle.vfs_gates.specs.FoundNobody.{FrozeAtOnce};
+ghost use Rattle.vfs_gates.specs.Found.{FrozeAtOnce};
 ghost use Rattle.vfs_gates.specs.Patience.{without_patience};
 ghost use Rattle.vfs_gates.specs.TaskStates.{SeatedTask};
 
