@@ -1,5 +1,5 @@
 #!/usr/bin/env python3
-"""Measures `bench_gates measure` and bench/by_hand.rs by turns, in the same minutes, and prints
+"""Measures `bench_gates measure` and bench/by_hand by turns, in the same minutes, and prints
 medians and ratios.
 
     bench/by_turns.py [--turns N] [--only WORD] [--program FILE] [--instructions]
@@ -137,8 +137,8 @@ def main():
         parser.error("valgrind is not there, which counts the instructions")
     with tempfile.TemporaryDirectory() as folder:
         by_hand = f"{folder}/by_hand"
-        if subprocess.run(["rustc", "-O", "-o", by_hand, f"{ROOT}/bench/by_hand.rs"]).returncode:
-            sys.exit("by_turns: bench/by_hand.rs is not built")
+        if subprocess.run(["rustc", "-O", "-o", by_hand, f"{ROOT}/bench/by_hand/main.rs"]).returncode:
+            sys.exit("by_turns: bench/by_hand is not built")
         programs = ([asked.program, "measure"], [by_hand])
         if asked.instructions:
             count(programs, asked.only, folder)

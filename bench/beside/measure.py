@@ -58,7 +58,7 @@ def build(prefix, folder, gates_only):
     ]
     subprocess.run([*words, "-lurcu", "-lpthread"], check=True)
     subprocess.run(
-        ["rustc", "--edition", "2021", "-O", "-o", by_hand, f"{ROOT}/bench/by_hand.rs"], check=True
+        ["rustc", "--edition", "2021", "-O", "-o", by_hand, f"{ROOT}/bench/by_hand/main.rs"], check=True
     )
     sides = {"through C": [gates], "by hand, in Rust": [by_hand]}
     if os.access(WORKBENCH, os.X_OK):

@@ -1,20 +1,8 @@
-//! What `bench_gates measure` is compared with: the same by hand, over padded atomics with
-//! sequentially consistent steps, and with no proof. It takes the same three words, and prints
-//! nanoseconds likewise; `bench/by_turns.py` builds it and measures both by turns. A pair is a want
-//! and a drop of a mount, a start and an end of level 1, or a taking and a return of write access,
-//! which is both. Each thread is a task of its own, at a processor of its own. Freezes and thaws
-//! are one task's, among so many tasks and processors, and so are remounts of the superblock to
-//! read-only and back, snapshots of so many nodes, and a file's opens and closes. A round is what a
-//! writer does in a run (`mntgate run`): it takes write access, makes its file larger by one block,
-//! and gives the access back on another processor, while one more thread makes the mount read-only
-//! and writable again.
-//!
-//!     rustc -O -o /tmp/by_hand bench/by_hand.rs && /tmp/by_hand mount 4 1000000
+//! The gates by hand: the steps of each operation, over padded atomics with sequentially consistent
+//! steps, and with no proof.
 
 use std::sync::atomic::{AtomicU64, Ordering::SeqCst};
 use std::thread;
-use std::time::{Duration, Instant};
-use std::{env, process};
 
 /// Words from one word to the next, so that each has cache lines of its own.
 const APART: usize = 16;
@@ -41,8 +29,8 @@ const ROUNDS: u32 = 10_000;
 
 /// A node's word: the kind in bits 0 and 1, the dirty mark, the mark of a removed file, how many
 /// tasks have it open, and the size from bit 32 on.
-const FILE: u64 = 1;
-const DIRECTORY: u64 = 2;
+pub const FILE: u64 = 1;
+pub const DIRECTORY: u64 = 2;
 const KIND: u64 = 3;
 const DIRTY: u64 = 4;
 const GONE: u64 = 8;
@@ -53,7 +41,7 @@ const PARENTS: u64 = 63;
 const BLOCK: u64 = 1 << 32;
 
 #[derive(Debug)]
-enum Refusal {
+pub enum Refusal {
     Again,
     Busy,
     ReadOnly,
@@ -63,7 +51,7 @@ enum Refusal {
     Order,
 }
 
-struct Words(Vec<AtomicU64>);
+pub struct Words(Vec<AtomicU64>);
 
 impl Words {
     fn flags(&self, mount: usize) -> &AtomicU64 {
@@ -102,7 +90,7 @@ impl Words {
         &self.0[APART * 18]
     }
 
-    fn node(&self, node: usize) -> &AtomicU64 {
+    pub fn node(&self, node: usize) -> &AtomicU64 {
         &self.0[APART * (83 + node)]
     }
 
@@ -114,10 +102,10 @@ impl Words {
 }
 
 /// A task: its number, and what it holds.
-struct Task {
-    number: usize,
-    mounts: [u16; 8],
-    levels: [bool; 4],
+pub struct Task {
+    pub number: usize,
+    pub mounts: [u16; 8],
+    pub levels: [bool; 4],
 }
 
 #[inline(never)]
@@ -270,7 +258,7 @@ fn unlock(words: &Words) {
 }
 
 #[inline(never)]
-fn freeze(words: &Words, node: &AtomicU64, size: usize) -> bool {
+pub fn freeze(words: &Words, node: &AtomicU64, size: usize) -> bool {
     let stage = &words.0[APART * STAGE];
     lock(words, 0);
     if stage.load(SeqCst) != 0 || words.0[APART * SUPERBLOCK].load(SeqCst) != 0 {
@@ -292,7 +280,7 @@ fn freeze(words: &Words, node: &AtomicU64, size: usize) -> bool {
 }
 
 #[inline(never)]
-fn thaw(words: &Words) -> bool {
+pub fn thaw(words: &Words) -> bool {
     let stage = &words.0[APART * STAGE];
     lock(words, 0);
     if stage.load(SeqCst) != 4 || words.0[APART * SUPERBLOCK].load(SeqCst) != 0 {
@@ -308,7 +296,7 @@ fn thaw(words: &Words) -> bool {
 }
 
 #[inline(never)]
-fn callback(words: &Words, level: usize, size: usize) {
+pub fn callback(words: &Words, level: usize, size: usize) {
     let claim = |found: u64| (found & 7 >= EXIT && found & TAKEN == 0).then_some(found + TAKEN);
     if transition(words, level, claim).is_some() {
         await_sections(words, size);
@@ -317,13 +305,13 @@ fn callback(words: &Words, level: usize, size: usize) {
 }
 
 #[derive(Clone, Copy)]
-enum Pair {
+pub enum Pair {
     Mount,
     Level,
     WriteAccess,
 }
 
-fn take_and_give(words: &Words, number: usize, pair: Pair, pairs: u32) -> Result<(), Refusal> {
+pub fn take_and_give(words: &Words, number: usize, pair: Pair, pairs: u32) -> Result<(), Refusal> {
     let mut task = Task {
         number,
         mounts: [0; 8],
@@ -350,7 +338,7 @@ fn take_and_give(words: &Words, number: usize, pair: Pair, pairs: u32) -> Result
 
 /// Makes a file larger by one block, unless another was before it.
 #[inline(never)]
-fn grow(words: &Words, task: &Task, file: usize, capacity: u64) -> Result<(), Refusal> {
+pub fn grow(words: &Words, task: &Task, file: usize, capacity: u64) -> Result<(), Refusal> {
     if task.mounts.iter().all(|held| *held == 0) || !task.levels[1] {
         return Err(Refusal::Order);
     }
@@ -408,7 +396,7 @@ fn change_mount(
 
 /// Remounts the superblock read-only, or writable.
 #[inline(never)]
-fn remount_sb(
+pub fn remount_sb(
     words: &Words,
     node: &AtomicU64,
     read_only: bool,
@@ -457,15 +445,15 @@ fn remount_sb(
 }
 
 /// A tree as a snapshot loads it.
-struct Tree {
-    used: u64,
-    nodes: Vec<u64>,
-    kids: Vec<u64>,
+pub struct Tree {
+    pub used: u64,
+    pub nodes: Vec<u64>,
+    pub kids: Vec<u64>,
 }
 
 /// Takes a snapshot of the frozen file system.
 #[inline(never)]
-fn snapshot(words: &Words, tree: &mut Tree) -> bool {
+pub fn snapshot(words: &Words, tree: &mut Tree) -> bool {
     lock(words, 0);
     let is_frozen = words.0[APART * STAGE].load(SeqCst) == 4;
     if is_frozen {
@@ -483,7 +471,7 @@ fn snapshot(words: &Words, tree: &mut Tree) -> bool {
 
 /// Opens a file.
 #[inline(never)]
-fn open(words: &Words, files: &mut [bool; 64], file: usize) -> Result<(), Refusal> {
+pub fn open(words: &Words, files: &mut [bool; 64], file: usize) -> Result<(), Refusal> {
     if files[file] {
         return Err(Refusal::TooMany);
     }
@@ -501,7 +489,7 @@ fn open(words: &Words, files: &mut [bool; 64], file: usize) -> Result<(), Refusa
 
 /// Closes a file that is not removed.
 #[inline(never)]
-fn close(words: &Words, files: &mut [bool; 64], file: usize) -> Result<(), Refusal> {
+pub fn close(words: &Words, files: &mut [bool; 64], file: usize) -> Result<(), Refusal> {
     if !files[file] {
         return Err(Refusal::Order);
     }
@@ -523,7 +511,7 @@ fn may_change(task: &Task) -> bool {
 
 /// Creates a file in a directory, at the first node that is free.
 #[inline(never)]
-fn create(words: &Words, task: &Task, dir: usize, nodes: usize) -> Result<usize, Refusal> {
+pub fn create(words: &Words, task: &Task, dir: usize, nodes: usize) -> Result<usize, Refusal> {
     if !may_change(task) {
         return Err(Refusal::Order);
     }
@@ -544,7 +532,7 @@ fn create(words: &Words, task: &Task, dir: usize, nodes: usize) -> Result<usize,
 
 /// Removes a file that no task has open.
 #[inline(never)]
-fn remove(words: &Words, task: &Task, file: usize) -> Result<(), Refusal> {
+pub fn remove(words: &Words, task: &Task, file: usize) -> Result<(), Refusal> {
     if !may_change(task) {
         return Err(Refusal::Order);
     }
@@ -563,13 +551,16 @@ fn remove(words: &Words, task: &Task, file: usize) -> Result<(), Refusal> {
 
 /// Gives a file another directory.
 #[inline(never)]
-fn move_to(words: &Words, task: &Task, file: usize, dir: usize) -> Result<(), Refusal> {
+pub fn move_to(words: &Words, task: &Task, file: usize, dir: usize) -> Result<(), Refusal> {
     if !may_change(task) {
         return Err(Refusal::Order);
     }
     let node = words.node(file);
     let found = node.load(SeqCst);
-    if found & KIND != FILE || found & GONE != 0 || words.node(dir).load(SeqCst) & KIND != DIRECTORY {
+    if found & KIND != FILE
+        || found & GONE != 0
+        || words.node(dir).load(SeqCst) & KIND != DIRECTORY
+    {
         return Err(Refusal::NoEntry);
     }
     words.kids(dir).fetch_add(1, SeqCst);
@@ -585,7 +576,7 @@ fn move_to(words: &Words, task: &Task, file: usize, dir: usize) -> Result<(), Re
 
 /// Makes a file dirty, or clean.
 #[inline(never)]
-fn mark(words: &Words, task: &Task, file: usize, dirty: bool) -> Result<(), Refusal> {
+pub fn mark(words: &Words, task: &Task, file: usize, dirty: bool) -> Result<(), Refusal> {
     let may_mark = if dirty {
         task.levels[2] && task.mounts.iter().any(|held| *held != 0)
     } else {
@@ -647,7 +638,7 @@ fn remount(words: &Words, processors: usize) {
 }
 
 /// One run: a remounter, and all other tasks but the first write.
-fn run(tasks: usize) {
+pub fn run(tasks: usize) {
     let words = words();
     let capacity = (tasks as u64 - 2) * u64::from(ROUNDS);
     for file in 1..tasks - 1 {
@@ -664,167 +655,6 @@ fn run(tasks: usize) {
 }
 
 /// The words of the gates, all at 0.
-fn words() -> Words {
+pub fn words() -> Words {
     Words((0..APART * 916).map(|_| AtomicU64::new(0)).collect())
-}
-
-fn measure_pairs(pair: Pair, threads: usize, pairs: u32) -> Duration {
-    let words = &words();
-    let start = Instant::now();
-    thread::scope(|scope| {
-        for number in 0..threads {
-            scope.spawn(move || {
-                take_and_give(words, number, pair, pairs).expect("no call is refused")
-            });
-        }
-    });
-    start.elapsed()
-}
-
-fn measure_freezes(runs_callbacks: bool, size: usize, rounds: u32) -> Duration {
-    let (words, node) = (words(), AtomicU64::new(0));
-    let start = Instant::now();
-    for _ in 0..rounds {
-        assert!(freeze(&words, &node, size) && thaw(&words));
-        if runs_callbacks {
-            (1..=3).for_each(|level| callback(&words, level, size));
-        }
-    }
-    start.elapsed()
-}
-
-fn measure_remounts(size: usize, rounds: u32) -> Duration {
-    let (words, node) = (words(), AtomicU64::new(0));
-    let start = Instant::now();
-    for _ in 0..rounds {
-        remount_sb(&words, &node, true, size).expect("nobody writes");
-        remount_sb(&words, &node, false, size).expect("it is never refused");
-    }
-    start.elapsed()
-}
-
-fn measure_snapshots(nodes: usize, rounds: u32) -> Duration {
-    let (words, node) = (words(), AtomicU64::new(0));
-    let mut tree = Tree {
-        used: 0,
-        nodes: vec![0; nodes],
-        kids: vec![0; nodes],
-    };
-    assert!(freeze(&words, &node, 1));
-    let start = Instant::now();
-    for _ in 0..rounds {
-        assert!(snapshot(&words, &mut tree));
-    }
-    start.elapsed()
-}
-
-fn measure_file(rounds: u32) -> Duration {
-    let (words, mut files) = (words(), [false; 64]);
-    words.node(1).store(FILE, SeqCst);
-    let start = Instant::now();
-    for _ in 0..rounds {
-        open(&words, &mut files, 1).expect("it is there");
-        close(&words, &mut files, 1).expect("it is open");
-    }
-    start.elapsed()
-}
-
-/// The words of a tree, and a task that holds an access at mount 0 and is inside all levels.
-fn tree_and_task() -> (Words, Task) {
-    let words = words();
-    words.node(0).store(DIRECTORY, SeqCst);
-    let mut task = Task {
-        number: 0,
-        mounts: [0; 8],
-        levels: [false, true, true, true],
-    };
-    task.mounts[0] = 1;
-    (words, task)
-}
-
-fn measure_creates(rounds: u32) -> Duration {
-    let (words, task) = tree_and_task();
-    let start = Instant::now();
-    for _ in 0..rounds {
-        let file = create(&words, &task, 0, 2).expect("a node is free");
-        remove(&words, &task, file).expect("it is there");
-    }
-    start.elapsed()
-}
-
-fn measure_grows(rounds: u32) -> Duration {
-    let (words, task) = tree_and_task();
-    words.node(1).store(FILE, SeqCst);
-    let start = Instant::now();
-    for _ in 0..rounds {
-        grow(&words, &task, 1, rounds.into()).expect("there is room");
-    }
-    start.elapsed()
-}
-
-fn measure_moves(rounds: u32) -> Duration {
-    let (words, task) = tree_and_task();
-    words.node(1).store(DIRECTORY, SeqCst);
-    words.node(2).store(FILE, SeqCst);
-    let start = Instant::now();
-    for _ in 0..rounds {
-        move_to(&words, &task, 2, 1).expect("both are there");
-        move_to(&words, &task, 2, 0).expect("both are there");
-    }
-    start.elapsed()
-}
-
-fn measure_marks(rounds: u32) -> Duration {
-    let (words, task) = tree_and_task();
-    words.node(1).store(FILE, SeqCst);
-    let start = Instant::now();
-    for _ in 0..rounds {
-        mark(&words, &task, 1, true).expect("it is there");
-        mark(&words, &task, 1, false).expect("it is there");
-    }
-    start.elapsed()
-}
-
-fn measure_runs(tasks: usize, runs: u32) -> Duration {
-    let start = Instant::now();
-    for _ in 0..runs {
-        run(tasks);
-    }
-    start.elapsed()
-}
-
-/// How long what is asked for takes; None for words that say nothing.
-fn measure(asked: &[String]) -> Option<Duration> {
-    let [what, size, count] = asked else {
-        return None;
-    };
-    let (size, count) = (size.parse().ok()?, count.parse().ok()?);
-    match what.as_str() {
-        "mount" => Some(measure_pairs(Pair::Mount, size, count)),
-        "level" => Some(measure_pairs(Pair::Level, size, count)),
-        "write-access" => Some(measure_pairs(Pair::WriteAccess, size, count)),
-        "freeze" => Some(measure_freezes(false, size, count)),
-        "freeze-and-callbacks" => Some(measure_freezes(true, size, count)),
-        "remounts" => Some(measure_remounts(size, count)),
-        "snapshot" => Some(measure_snapshots(size, count)),
-        "file" => Some(measure_file(count)),
-        "create-and-remove" => Some(measure_creates(count)),
-        "grow" => Some(measure_grows(count)),
-        "moves" => Some(measure_moves(count)),
-        "fault-and-flush" => Some(measure_marks(count)),
-        "run" if size > 2 => Some(measure_runs(size, count)),
-        _ => None,
-    }
-}
-
-fn main() {
-    let asked: Vec<String> = env::args().skip(1).collect();
-    let Some(took) = measure(&asked) else {
-        eprintln!(
-            "usage: by_hand mount|level|write-access|freeze|freeze-and-callbacks|remounts|snapshot\
-             |file|run SIZE COUNT"
-        );
-        process::exit(2);
-    };
-    println!("{}", took.as_nanos());
 }
