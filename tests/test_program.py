@@ -194,33 +194,38 @@ def line_behind(count):
     return next(number + 1 for number, size in enumerate(sizes, 1) if size > count)
 
 
-def checks_of_writes():
+def checks_of_limits(words):
     """A write that fails behind each number of bytes: at the end, where the schedule is read as one
     piece, and behind the line that prints them, where it is read byte by byte, as all that was
-    printed is written before more is read. And writes of blocks that fail, end short or are
-    interrupted."""
-    for words in OVER:
-        for limit in range(len(TEXT)):
-            how, by_bytes = f"a write fails behind {limit} bytes", pieces_of(SCHEDULE, 1)
-            ends = 1, TEXT[:limit], f"line {len(LINES) + 1}: write failed\n"
-            yield check_of(Program.run_in_pieces, words, how, ends, pieces=[SCHEDULE], limit=limit)
-            ends = 1, TEXT[:limit], f"line {line_behind(limit)}: write failed\n"
-            yield check_of(
-                Program.run_in_pieces,
-                words,
-                f"byte by byte, {how}",
-                ends,
-                pieces=by_bytes,
-                limit=limit,
-            )
+    printed is written before more is read."""
+    for limit in range(len(TEXT)):
+        how, by_bytes = f"a write fails behind {limit} bytes", pieces_of(SCHEDULE, 1)
+        ends = 1, TEXT[:limit], f"line {len(LINES) + 1}: write failed\n"
+        yield check_of(Program.run_in_pieces, words, how, ends, pieces=[SCHEDULE], limit=limit)
+        ends = 1, TEXT[:limit], f"line {line_behind(limit)}: write failed\n"
         yield check_of(
             Program.run_in_pieces,
             words,
-            "all is written that may be",
-            (0, TEXT, ""),
-            pieces=[SCHEDULE],
-            limit=len(TEXT),
+            f"byte by byte, {how}",
+            ends,
+            pieces=by_bytes,
+            limit=limit,
         )
+    yield check_of(
+        Program.run_in_pieces,
+        words,
+        "all is written that may be",
+        (0, TEXT, ""),
+        pieces=[SCHEDULE],
+        limit=len(TEXT),
+    )
+
+
+def checks_of_writes():
+    """Writes that fail behind each number of bytes. And writes of blocks that fail, end short or
+    are interrupted."""
+    for words in OVER:
+        yield from checks_of_limits(words)
         for limit, line in WRITTEN_AT:
             ends = 1, MODELS_TEXT[:limit], f"line {line}: write failed\n"
             yield check_of(
@@ -303,7 +308,7 @@ PROGRESS = Wanted(
 
 def checks_of_persons():
     """What a person is told who types a schedule, or who watches: what is awaited, and what helps
-    after a fault. And an argument that is no text."""
+    after a fault."""
     awaited = ("mntgate: type a schedule, from 'config *", True)
     helps = [
         (line, False)
@@ -335,6 +340,10 @@ def checks_of_persons():
     yield check_of(
         Program.run_typed, words, "a long search is watched", ends, given=LONG_RACE, types=False
     )
+
+
+def checks_of_names():
+    """Names and arguments with control characters, or that are no text."""
     for words, text in (("replay", ""), ("outcomes", ""), ("check", "0 passed, 1 failed\n")):
         ends = 1, text, wanted_of([("\\x1b[2J: *", True)])
         yield check_of(Program.run, [words, "\x1b[2J"], "a name with control characters", ends)
@@ -534,6 +543,7 @@ def test(path, cases):
             checks_of_writes(),
             checks_of_full(),
             checks_of_persons(),
+            checks_of_names(),
             checks_of_forms(),
             checks_of_blessings(),
             checks_of_files(),

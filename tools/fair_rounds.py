@@ -590,87 +590,81 @@ class World:
         )
 
 
+# The calls that a task begins, some more often than others.
+KINDS = (
+    "want drop start end write dropwrite change remount freeze freeze thaw thaw callback snapshot"
+).split()
+
+
+class Draw:
+    """What is drawn for a call: at which mount, level and processor, and how."""
+
+    def __init__(self, dice, config):
+        self.cpu, self.mount = dice.randrange(config.cpus), dice.randrange(config.mounts)
+        self.level = dice.randint(1, 3)
+        self.word, self.holder = dice.choice([("kernel", 1), ("user", 2)])
+        self.waits, self.to = dice.random() < 0.8, "ro" if dice.random() < 0.5 else "rw"
+
+
 def begin_any(dice, world, task):
     """Begins a call that the task may begin."""
-    config, levels, mounts = world.config, world.levels[task], world.mounts[task]
-    cpu, mount, level = (
-        dice.randrange(config.cpus),
-        dice.randrange(config.mounts),
-        dice.randint(1, 3),
-    )
-    word, holder = dice.choice([("kernel", 1), ("user", 2)])
-    waits, read_only = dice.random() < 0.8, dice.random() < 0.5
+    draw, kind = Draw(dice, world.config), dice.choice(KINDS)
+    if not begin_access(world, task, kind, draw) and not world.levels[task]:
+        begin_outside(world, task, kind, draw)
 
-    def holds(there, it, by):
-        def effect():
-            there[it] += by
 
-        return effect
-
-    kind = dice.choice(
-        [
-            "want",
-            "drop",
-            "start",
-            "end",
-            "write",
-            "drop write",
-            "change",
-            "remount",
-            "freeze",
-            "freeze",
-            "thaw",
-            "thaw",
-            "callback",
-            "snapshot",
-        ]
-    )
+def begin_access(world, task, kind, draw):
+    """Begins a call that a task inside a level may begin too. Whether it was one."""
+    levels, mounts = world.levels[task], world.mounts[task]
+    cpu, mount, level = draw.cpu, draw.mount, draw.level
     if kind == "want":
-        world.begin(
-            task,
-            f"{'want' if waits else 'trywant'} {mount} {cpu}",
-            want(mount, cpu, waits),
-            holds(mounts, mount, 1),
-        )
+
+        def wants():
+            mounts[mount] += 1
+
+        line = f"{'want' if draw.waits else 'trywant'} {mount} {cpu}"
+        world.begin(task, line, want(mount, cpu, draw.waits), wants)
     elif kind == "drop" and mounts[mount]:
         mounts[mount] -= 1
         world.begin(task, f"drop {mount} {cpu}", drop(mount, cpu))
     elif kind == "start" and all(it < level for it in levels):
-        world.begin(
-            task,
-            f"{'start' if waits else 'trystart'} {level} {cpu}",
-            start(level, cpu, task, waits),
-            lambda: levels.add(level),
-        )
+        line = f"{'start' if draw.waits else 'trystart'} {level} {cpu}"
+        world.begin(task, line, start(level, cpu, task, draw.waits), lambda: levels.add(level))
     elif kind == "end" and level in levels:
         levels.remove(level)
         world.begin(task, f"end {level} {cpu}", end(level, cpu))
-    elif kind == "drop write" and mounts[mount] and 1 in levels:
+    elif kind == "dropwrite" and mounts[mount] and 1 in levels:
         mounts[mount] -= 1
         levels.remove(1)
         world.begin(task, f"dropwrite {mount} {cpu}", drop_write(mount, cpu))
     elif kind == "callback":
-        world.begin(task, f"callback {level}", callback(config, level))
-    elif levels:
-        return
-    elif kind == "write":
+        world.begin(task, f"callback {level}", callback(world.config, level))
+    else:
+        return False
+    return True
+
+
+def begin_outside(world, task, kind, draw):
+    """Begins a call that only a task outside all levels may begin."""
+    config, levels, mounts = world.config, world.levels[task], world.mounts[task]
+    mount, waits, read_only = draw.mount, draw.waits, draw.to == "ro"
+    if kind == "write":
 
         def writes():
             mounts[mount] += 1
             levels.add(1)
 
-        world.begin(task, f"wantwrite {mount} {cpu}", want_write(mount, cpu, task), writes)
+        line = f"wantwrite {mount} {draw.cpu}"
+        world.begin(task, line, want_write(mount, draw.cpu, task), writes)
     elif kind == "change":
-        line = f"{'change' if waits else 'trychange'} {mount} {'ro' if read_only else 'rw'}"
+        line = f"{'change' if waits else 'trychange'} {mount} {draw.to}"
         world.begin(task, line, change(config, task, mount, read_only, waits))
     elif kind == "remount":
-        world.begin(
-            task, f"remount {'ro' if read_only else 'rw'}", remount(config, task, read_only)
-        )
+        world.begin(task, f"remount {draw.to}", remount(config, task, read_only))
     elif kind == "freeze":
-        world.begin(task, f"freeze {word}", freeze(config, task, holder))
+        world.begin(task, f"freeze {draw.word}", freeze(config, task, draw.holder))
     elif kind == "thaw":
-        world.begin(task, f"thaw {word}", thaw(task, holder))
+        world.begin(task, f"thaw {draw.word}", thaw(task, draw.holder))
     elif kind == "snapshot":
         world.begin(task, "snapshot" if waits else "trysnapshot", snapshot(config, task, waits))
 
@@ -731,7 +725,8 @@ def differs(program, world):
     return None
 
 
-def main():
+def asked():
+    """Returns what the command line asks for."""
     parser = argparse.ArgumentParser(
         description=__doc__, formatter_class=argparse.RawDescriptionHelpFormatter
     )
@@ -748,41 +743,49 @@ def main():
     parser.add_argument(
         "--against", metavar="PROGRAM", help="replay each execution by this program too"
     )
-    args = parser.parse_args()
-    status = 0
+    return parser.parse_args()
+
+
+def measure(args, config):
+    """Prints the row of a configuration. Whether no state needed more rounds than its number."""
+    dice, holds = random.Random(f"{args.seed} {config}"), True
+    worst, nearest, largest = (0, 0), 0.0, 0
+    for _ in range(args.states):
+        world = reached(dice, config, RUNS if args.against else 0)
+        number = world.turns_to_give_up() if args.impatient else world.turns_left()
+        needed = rounds_needed(dice, world, args.impatient)
+        if needed > number:
+            print("more rounds than its number:", needed, number, *world.lines, sep="\n")
+            holds = False
+        if args.against and (what := differs(args.against, world)):
+            sys.exit(f"fair_rounds.py: {what}")
+        worst, largest = max(worst, (needed, number)), max(largest, number)
+        nearest = max(nearest, needed / number)
+    name = " ".join(str(it) for it in config)
+    print(
+        f"{name:24} {args.states:7} {worst[0]:6} {worst[1]:11} {nearest:8.2f} {largest:15}",
+        flush=True,
+    )
+    return holds
+
+
+def main():
+    args = asked()
     print(
         f"{'tasks cpus mounts nodes':24} {'states':>7} {'worst':>6} {'its number':>11}"
         f" {'nearest':>8} {'largest number':>15}"
     )
-    for config in [
-        Config(2, 1, 1, 2),
-        Config(3, 2, 1, 2),
-        Config(4, 2, 2, 3),
-        Config(6, 2, 1, 2),
-        Config(8, 4, 1, 2),
-    ]:
-        dice = random.Random(f"{args.seed} {config}")
-        worst, nearest, largest = (0, 0), 0.0, 0
-        for _ in range(args.states):
-            world = reached(dice, config, RUNS if args.against else 0)
-            number = world.turns_to_give_up() if args.impatient else world.turns_left()
-            needed = rounds_needed(dice, world, args.impatient)
-            if needed > number:
-                print("more rounds than its number:", needed, number, *world.lines, sep="\n")
-                status = 1
-            if args.against and (what := differs(args.against, world)):
-                sys.exit(f"fair_rounds.py: {what}")
-            worst, nearest, largest = (
-                max(worst, (needed, number)),
-                max(nearest, needed / number),
-                max(largest, number),
-            )
-        name = " ".join(str(it) for it in config)
-        print(
-            f"{name:24} {args.states:7} {worst[0]:6} {worst[1]:11} {nearest:8.2f} {largest:15}",
-            flush=True,
+    rows = [
+        measure(args, config)
+        for config in (
+            Config(2, 1, 1, 2),
+            Config(3, 2, 1, 2),
+            Config(4, 2, 2, 3),
+            Config(6, 2, 1, 2),
+            Config(8, 4, 1, 2),
         )
-    sys.exit(status)
+    ]
+    sys.exit(not all(rows))
 
 
 if __name__ == "__main__":

@@ -239,54 +239,55 @@ def pick_file_operation(chance):
     )
 
 
+def name_operations(chance, path, to, folder):
+    """Operations that make, remove and move names, one of each kind."""
+    return [
+        ("mkdir", folder, chance.choice([0o755, 0o777, 0o2775, 0o500])),
+        ("mkdir", folder, 0o755),
+        ("mkdir", folder, 0o755),
+        ("rmdir", folder),
+        ("list", folder),
+        ("rename", folder, pick_folder(chance)),
+        ("rename", path, to),
+        ("rename", path, folder),
+        ("rename_with", path, to, chance.choice([RENAME_NOREPLACE, RENAME_EXCHANGE])),
+        ("rename_with", folder, to, RENAME_EXCHANGE),
+        ("unlink", path),
+        ("link", path, to),
+        ("symlink", to, path),
+        ("readlink", path),
+        ("mkfifo", path + "fifo", 0o640),
+        ("open", chance.randrange(SLOTS), path + "fifo", os.O_RDWR | os.O_NONBLOCK, 0),
+        ("unlink", path + "fifo"),
+    ]
+
+
+def attribute_operations(chance, path, folder):
+    """Operations on what a name has: its mode, owner, times, length and attributes."""
+    name = chance.choice(["user.a", "user.b", "user." + "n" * 100])
+    value = b"v" * chance.choice([0, 1, 300])
+    owner, group = (chance.choice([-1, 0, 1000, NOBODY]) for _ in range(2))
+    return [
+        ("stat", path),
+        ("stat", folder),
+        ("chmod", path, chance.choice([0o600, 0o644, 0o755, 0o2755, 0o4711, 0])),
+        ("chmod", folder, chance.choice([0o755, 0o777, 0o2755, 0o1777])),
+        ("chown", path, owner, group),
+        ("times", path, chance.randrange(10**8)),
+        ("truncate", path, chance.choice([0, 1, 5000])),
+        ("setxattr", path, name, value, chance.choice([0, 0, os.XATTR_CREATE, os.XATTR_REPLACE])),
+        ("getxattr", path, name),
+        ("listxattr", path),
+        ("removexattr", path, name),
+        ("space",),
+    ]
+
+
 def pick_path_operation(chance):
     """An operation on a path."""
-    path, to = pick_path(chance), pick_path(chance)
-    folder, other = pick_folder(chance), pick_folder(chance)
-    name = chance.choice(["user.a", "user.b", "user." + "n" * 100])
+    path, to, folder = pick_path(chance), pick_path(chance), pick_folder(chance)
     return chance.choice(
-        [
-            ("mkdir", folder, chance.choice([0o755, 0o777, 0o2775, 0o500])),
-            ("mkdir", folder, 0o755),
-            ("mkdir", folder, 0o755),
-            ("rmdir", folder),
-            ("list", folder),
-            ("rename", folder, other),
-            ("rename", path, to),
-            ("rename", path, folder),
-            ("rename_with", path, to, chance.choice([RENAME_NOREPLACE, RENAME_EXCHANGE])),
-            ("rename_with", folder, to, RENAME_EXCHANGE),
-            ("unlink", path),
-            ("link", path, to),
-            ("symlink", to, path),
-            ("readlink", path),
-            ("stat", path),
-            ("stat", folder),
-            ("chmod", path, chance.choice([0o600, 0o644, 0o755, 0o2755, 0o4711, 0])),
-            ("chmod", folder, chance.choice([0o755, 0o777, 0o2755, 0o1777])),
-            (
-                "chown",
-                path,
-                chance.choice([-1, 0, 1000, NOBODY]),
-                chance.choice([-1, 0, 1000, NOBODY]),
-            ),
-            ("times", path, chance.randrange(10**8)),
-            ("truncate", path, chance.choice([0, 1, 5000])),
-            (
-                "setxattr",
-                path,
-                name,
-                b"v" * chance.choice([0, 1, 300]),
-                chance.choice([0, 0, os.XATTR_CREATE, os.XATTR_REPLACE]),
-            ),
-            ("getxattr", path, name),
-            ("listxattr", path),
-            ("removexattr", path, name),
-            ("mkfifo", path + "fifo", 0o640),
-            ("open", chance.randrange(SLOTS), path + "fifo", os.O_RDWR | os.O_NONBLOCK, 0),
-            ("unlink", path + "fifo"),
-            ("space",),
-        ]
+        name_operations(chance, path, to, folder) + attribute_operations(chance, path, folder)
     )
 
 

@@ -42,62 +42,68 @@ def kit_of():
     return re.search(r"`(rattle-kit-\S+ logic \S+)`", text("README.md"))[1]
 
 
-def evidence(log, epoch, built):
-    """Returns the text of PROOF.txt. Stops unless the log has a proof of each crate, by one kit,
-    and ends with no failure."""
+def proved_in(log):
+    """Returns the crates, and the verdict on each, by name. Stops unless the log has a proof of
+    each, by one kit."""
     verdicts = verdicts_in(log)
     crates = re.findall(r"^([a-z_]+)[^:#\n]*:", text("crates.txt"), re.M) + ["libmntgate_c.a"]
-    if missing := [
-        crate
-        for crate in crates
-        if not verdicts.get(crate, "").startswith(("logic=proved", "kept: "))
-    ]:
+    proofs = ("logic=proved", "kept: ")
+    if missing := [it for it in crates if not verdicts.get(it, "").startswith(proofs)]:
         stop(f"the log has no proof of {' '.join(missing)}")
+    kit = kit_of()
+    logics = {line.split("sum=")[1].split()[0] for line in verdicts.values() if "sum=" in line}
+    if logics != {kit.split()[-1]}:
+        stop(f"the log is of another logic than {kit}, which README.md names")
+    return crates, verdicts
+
+
+def ends_of(log):
+    """Returns the two lines with which `rt ci` ended. Stops if it had a failure."""
     ends = (
         re.findall(r"^rt: ok; .*", log, re.M)[-1:]
         + re.findall(r"^\d+ passed, 0 failed$", log, re.M)[-1:]
     )
     if len(ends) != 2:
         stop("the log doesn't end with 'N passed, 0 failed'")
-    kit = kit_of()
-    if {line.split("sum=")[1].split()[0] for line in verdicts.values() if "sum=" in line} != {
-        kit.split()[-1]
-    }:
-        stop(f"the log is of another logic than {kit}, which README.md names")
-    commit = said("git", "-C", ROOT, "rev-parse", "HEAD")
+    return ends
+
+
+def whose(log, lines):
+    """Returns whether the log is of what was built here, by these lines."""
+    if set(lines) <= set(log.splitlines()):
+        return "The output of .ci/run names this commit and these sums."
+    return (
+        "The output of .ci/run names another commit or other sums: that it is of these is the word"
+        " of whoever made the release."
+    )
+
+
+def evidence(log, epoch, built):
+    """Returns the text of PROOF.txt. Stops unless the log has a proof of each crate, by one kit,
+    and ends with no failure."""
+    crates, verdicts = proved_in(log)
+    ends, width = ends_of(log), max(map(len, crates))
+    commit = f"commit {said('git', '-C', ROOT, 'rev-parse', 'HEAD')}"
     sums = [
         f"{hashlib.sha256(read(path)).hexdigest()}  {os.path.relpath(path, ROOT)}" for path in built
     ]
-    fits = {f"commit {commit}", *sums} <= set(log.splitlines())
-    width = max(map(len, crates))
     lines = [
-        f"commit {commit}",
+        commit,
         time.strftime("date   %Y-%m-%dT%H:%M:%SZ", time.gmtime(epoch)),
-        f"kit    {kit}",
+        f"kit    {kit_of()}",
         "",
         "What .ci/run said at its end:",
         *ends,
         "",
-        (
-            'Its verdict on each crate. The words behind it are explained in docs/testing.md, "What'
-            ' a verdict says".'
-        ),
+        "Its verdict on each crate. The words behind it are explained in docs/testing.md, "
+        '"What a verdict says".',
         *(f"{crate:{width}} {verdicts[crate]}" for crate in crates),
         "",
-        (
-            "SHA-256 of what it built. The release has them stripped. The program's --version has"
-            " this commit and kit, and nothing else in it is changed."
-        ),
+        "SHA-256 of what it built. The release has them stripped. The program's --version has this "
+        "commit and kit, and nothing else in it is changed.",
         "The library is linked with the kit's lines of C:",
         *sums,
-        (
-            "The output of .ci/run names this commit and these sums."
-            if fits
-            else (
-                "The output of .ci/run names another commit or other sums: that it is of these is"
-                " the word of whoever made the release."
-            )
-        ),
+        whose(log, [commit, *sums]),
         "",
         "Made with:",
         *tools(),
