@@ -1,11 +1,19 @@
 -- Operations that are begun and done as far as they go at once.
-use Rattle.vfs_gates.proofs.Prelude.{Accesses, DealtNumbers, Err, GateError, Go, HookAnswer, HookCall, Next, None, Ok, Op, OpUnderWay, Option, Phase}
+use Rattle.vfs_gates.proofs.Prelude.{Accesses, DealtNumbers, Err, GateError, Go, HookAnswer, HookCall, List, Next, None, Ok, Op, OpUnderWay, Option, Phase}
 use Rattle.vfs_gates.proofs.Prelude.{Reply, Result, SeatedTask, Some, [], ap, refl, refusal_at, subst, sym, ◌≡◌}
-use Rattle.gate_steps.proofs.call_events.{Running.{admitted_some, refused_as, refused_none}, Turning.unasked}
-use Rattle.gate_steps.specs.call_events.{Answers.unless_refused, Asking.OpUnderWayWith, Led.{Led, LedAsking, TaskSeat, seated_at}, Progress.Progress}
+use Rattle.gate_steps.proofs.call_events.{Running.{admitted_some, refused_as, refused_none}}
+use Rattle.gate_steps.specs.call_events.{Answers.unless_refused, Asking.{Ask, OpAfterStepWith, OpUnderWayWith}, Led.{Led, LedAsking, TaskSeat, seated_at}, Progress.Progress}
 use Rattle.gate_steps.specs.call_events.{Progress.TheVariants.{Done, Going, Idle, Waiting}, Runs.ProgressMatches, Waited.OpAfterStepWaiting}
 use Rattle.gate_steps.specs.declared.call_events.words.GateWords.{GateWords}
+use Rattle.access_model.specs.declared.replies.Next.TheVariants.{Done as Ends, Wait as Waits}
 use Rattle.vfs_gates.specs.AtOnce.{BeginsAtOnce}
+
+-- a step of which what its hooks were asked may be left out
+unasked : (op : Op) (start : SeatedTask) (next : Next Phase) (now : SeatedTask) (asks : List Ask) (waits : ℕ) →
+    OpAfterStepWith asks waits op start next now → OpAfterStepWaiting waits op start next now
+unasked op start (Go q) now asks waits went = (went.0, went.2)
+unasked op start (Waits q) now asks waits went = (went.0, went.2)
+unasked op start (Ends a) now asks waits went = (went.0, went.2)
 
 -- an operation went where the steps of a line have led
 module _ {gates : GateWords} {begins : Option Op} {accesses accesses_left : Accesses} {first : Phase} {next : Next Phase} {seat left : TaskSeat}
