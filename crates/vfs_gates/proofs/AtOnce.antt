@@ -1,6 +1,6 @@
 -- Operations that are begun and done as far as they go at once.
 use Rattle.vfs_gates.proofs.Prelude.{Accesses, DealtNumbers, Err, GateError, Go, HookAnswer, HookCall, List, Next, None, Ok, Op, OpUnderWay, Option, Phase}
-use Rattle.vfs_gates.proofs.Prelude.{Reply, Result, SeatedTask, Some, [], ap, refl, refusal_at, subst, sym, ◌≡◌}
+use Rattle.vfs_gates.proofs.Prelude.{Reply, Result, SeatedTask, Some, [], ap, refl, refusal_at, subst, sym, ℕ, ◌≡◌}
 use Rattle.gate_steps.proofs.call_events.{Running.{admitted_some, refused_as, refused_none}}
 use Rattle.gate_steps.specs.call_events.{Answers.unless_refused, Asking.{Ask, OpAfterStepWith, OpUnderWayWith}, Led.{Led, LedAsking, TaskSeat, seated_at}, Progress.Progress}
 use Rattle.gate_steps.specs.call_events.{Progress.TheVariants.{Done, Going, Idle, Waiting}, Runs.ProgressMatches, Waited.OpAfterStepWaiting}
